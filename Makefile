@@ -47,7 +47,7 @@ build/lib/libaig.a: $(SOURCES) $(LIBRARY_SOURCES)
 	@tools/unproved_library.py build/lib
 
 test: build/aig build/aig_proof_tests build/lib/libaig.a
-	@echo "Running all tests on build/aig: about five minutes."
+	@echo "Running all tests on build/aig. CONTRIBUTING.md says how long that takes."
 	@tests/all.py --crates build/aig
 
 prove:

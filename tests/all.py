@@ -25,7 +25,7 @@ PACKAGE = "python/tests/run_package.py"
 # this compares with the C++ program of the benchmarks on broken files
 COMPARED = ("benchmarks/measure.py", "compare", "--count", "40")
 # these read the sources and pages alone
-READERS = ("tools/definitions.py", "tools/contracts.py", "tools/edges.py", "tests/calling.py")
+READERS = ("tools/definitions.py", "tools/contracts.py", "tools/edges.py", "tools/pages.py")
 CRATES = ("aig_tests", "aig_command_tests", "aig_bench_tests")
 COUNTS = re.compile(r"(\d+) passed[,;] (\d+) failed")
 SHOWN = re.compile(r"(?m)^.*(?: passed[,;] |left out|to believe|as the sources| compared, ).*\n")

@@ -90,7 +90,7 @@ def look(program, tally, way, root, functions="zsh/site-functions"):
     for name in DOCUMENTS:
         tally.check(f"{way}: {name}", contents(f"{documents}/{name}") == contents(f"{REPOSITORY}/{name}"), documents)
     for link in re.findall(r"\]\(([^):]+)\)", contents(f"{documents}/README.md").decode()):
-        tally.check(f"{way}: what README links to", os.path.exists(f"{documents}/{link}"), link)
+        tally.check(f"{way}: what README links to", os.path.exists(f"{documents}/{link.partition('#')[0]}"), link)
     modes = {oct(os.stat(it).st_mode & 0o7777) for it in (root, f"{root}/bin/aig", documents)}
     tally.compare(f"{way}: who may read it", modes, {"0o755"})
     take(runs.Program(f"{root}/bin/aig", True), f"{documents}/examples", tally)

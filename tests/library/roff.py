@@ -37,7 +37,8 @@ def code_block(text):
 
 
 class Markdown:
-    """Turns Markdown into the source of a page. `pages` has the text for a link to another document, by its target."""
+    """Turns Markdown into the source of a page. `pages` has the text for a link to another document, by its target; a
+    link to a section of one has it in parentheses."""
 
     def __init__(self, pages):
         self.pages = pages
@@ -54,7 +55,11 @@ class Markdown:
             return f"\\fB{prose(part[2:-2].replace('`', ''))}\\fP"
         link = re.fullmatch(r"\[([^]]*)\]\(([^)]*)\)", part)
         if link:
-            return self.pages.get(link[2], prose(link[1] + " in the documentation" * link[2].endswith(".md")))
+            document, _, part = link[2].partition("#")
+            if document not in self.pages:
+                return prose(link[1] + " in the documentation" * (document.endswith(".md") and not part))
+            said = self.pages[document]
+            return f"{prose(link[1])} ({said})" if part and link[1] != document else said
         return re.sub(r"(?<!\w)\*([^*\s][^*]*?)\*(?!\w)", r"\\fI\1\\fP", prose(part))
 
     def page(self, text):

@@ -1,4 +1,5 @@
-"""The table of causes in docs/BEHAVIOUR.md: each of them is brought about, and the program says what the table says."""
+"""The table of causes in docs/BEHAVIOUR.md: each of them is brought about, and the program says what the table says.
+So are the messages that say their cause themselves."""
 
 import gzip
 import os
@@ -19,81 +20,88 @@ BENCH = ["bench", "--circuit-out", "out", "two_gates", "rows", "script"]
 
 # A word of the cause in a row of the table, the words of a command that meets it, and what --explain says of it.
 CASES = (
-    ("is missing, or", ["info", "missing"], "No such file"),
-    ("is missing, or", ["info", "examples"], "it is a folder"),
     ("is empty", ["info", "nothing"], "the file is empty"),
     ("byte-order mark", ["info", "bom"], "byte-order mark"),
-    ("gzip", ["info", "counter.aag.gz"], "zcat"),
+    ("is compressed", ["info", "counter.aag.gz"], "zcat"),
     ("Verilog", ["info", "verilog"], "write_aiger of yosys or ABC"),
     ("Verilog", ["info", "blif"], "write_aiger of yosys or ABC"),
-    ("begins with `aig2`", ["info", "aig2"], "without -c"),
+    ("or is of ABC", ["info", "aig2"], "without -c"),
     ("is a witness or a stimulus", ["check", "examples/wraps.wit", WRAPS], "aig check CIRCUIT WITNESS"),
     ("is a witness or a stimulus", ["sim", "rows", "two_gates"], "aig sim CIRCUIT STIM"),
-    ("end with CR LF, and A", ["info", "crlf"], "tr -d '\\r'"),
+    ("has CR LF, or is", ["info", "crlf"], "tr -d '\\r'"),
     ("cut off", ["info", "cut"], "cut off"),
-    ("ends with `c` and no newline", ["info", "unended"], "echo >> FILE"),
-    ("Records follow `c`", ["info", "records"], "write_xaiger"),
-    ("over 4,194,303", ["info", "large"], "at most 4,194,303"),
-    ("do not fit together", ["info", "counts"], "M = I + L + A"),
-    ("is greater than 2M + 1", ["info", "range"], "2M + 1 = 3"),
-    ("has an odd literal, or 0", ["info", "odd"], "an even literal greater than 0"),
-    ("define variable V", ["info", "twice"], "two definitions"),
-    ("a reset other than", ["info", "reset"], "wanted: 0, 1, or its own literal 2"),
-    ("no input, latch or gate defines it", ["info", "undefined"], "no input, latch or gate defines it"),
-    ("loop without a latch", ["info", "cycle"], "a latch"),
+    ("or is of ABC", ["info", "unended"], "echo >> FILE"),
+    ("or is of ABC", ["info", "records"], "write_xaiger"),
+    ("is too large", ["info", "large"], "at most 4,194,303"),
     ("end with CR LF, or the file is not a stimulus", ["sim", "two_gates", "crlf.stim"], "tr -d '\\r'"),
     ("end with CR LF, or the file is not a stimulus", ["sim", "two_gates", "two_gates"], "the file is a circuit"),
     ("`--witness` is missing", ["wave", WRAPS, "examples/wraps.wit"], "aig wave --witness CIRCUIT WITNESS"),
-    ("one character per input", ["sim", "two_gates", "short"], "one for each input of the circuit"),
-    ("does not end with a newline", ["sim", "two_gates", "unfinished"], "echo >> FILE"),
-    ("output of a solver", ["check", WRAPS, "sat.wit"], "verdict"),
-    ("output of a solver", ["check", WRAPS, "unsat.wit"], "0 and 2 say that no run was found"),
-    ("output of a solver", ["check", WRAPS, "row.wit"], "a run of ABC"),
-    ("output of a solver", ["check", WRAPS, "values.wit"], "values by name"),
-    ("comments or several witnesses", ["check", WRAPS, "crlf.wit"], "tr -d '\\r'"),
-    ("comments or several witnesses", ["check", WRAPS, "comment.wit"], "no comments"),
-    ("comments or several witnesses", ["check", WRAPS, "several.wit"], "several witnesses"),
+    ("from a solver or ABC", ["check", WRAPS, "sat.wit"], "verdict"),
+    ("from a solver or ABC", ["check", WRAPS, "unsat.wit"], "0 and 2 say that no run was found"),
+    ("from a solver or ABC", ["check", WRAPS, "row.wit"], "a run of ABC"),
+    ("from a solver or ABC", ["check", WRAPS, "values.wit"], "values by name"),
+    ("comments or several", ["check", WRAPS, "crlf.wit"], "tr -d '\\r'"),
+    ("comments or several", ["check", WRAPS, "comment.wit"], "no comments"),
+    ("comments or several", ["check", WRAPS, "several.wit"], "several witnesses"),
     ("for another circuit", ["check", COUNTER, "examples/wraps.wit"], "aig info CIRCUIT"),
-    ("does not have this bad state property", ["check", WRAPS, "other.wit"], "b7"),
-    ("more than 65,536 frames", ["check", "bad_input", "many.wit"], "at most 65,536 frames"),
-    ("No frame of the stimulus reaches", ["witness", WRAPS, "nothing"], "aig sim CIRCUIT STIM"),
-    ("No property of the section", ["select", "--to", "aag", "--property", "other", "two_gates"], "that --property gives"),
-    ("these two positions", ["select", "--to", "aag", "--property", "p", "twice_named"], "at these two positions"),
-    ("does not have one line per property", ["select", "--to", "aag", "--names", "zero.drat", "two_gates"],
-     "one line for each property"),
-    ("does not have this property", ["select", "--to", "aag", "--property", "0", "two_gates"], "aig info --names CIRCUIT"),
-    ("K is 0", ["unroll", "--frames", "0", "--to", "aag", "two_gates"], "K is 0"),
-    ("has justice properties", ["unroll", "--frames", "2", "--to", "aag", "live"], "justice properties: 1"),
-    ("K is over 65,536", ["unroll", "--frames", "65537", "--to", "aag", "two_gates"], "K is 65537"),
-    ("K is over 65,536", ["unroll", "--frames", "65536", "--to", "aag", "inputs"], "M = 4194304"),
-    ("P is not the position", ["cnf", "--frames", "2", "--property", "7", WRAPS], "P is 7"),
-    ("P is not the position", ["cnf", "--frames", "2", COUNTER], "AIGER 1.0"),
-    ("is asked for 0 frames", ["cnf", "--frames", "0", WRAPS], "K is 0"),
-    ("over a limit of `unroll`", ["cnf", "--frames", "65537", WRAPS], "K is 65537"),
+    ("has no such property", ["check", WRAPS, "other.wit"], "b7"),
+    ("is too large", ["check", "bad_input", "many.wit"], "at most 65,536 frames"),
+    ("has no such property", ["select", "--to", "aag", "--property", "0", "two_gates"], "aig info --names CIRCUIT"),
+    ("is too large", ["unroll", "--frames", "65537", "--to", "aag", "two_gates"], "K is 65537"),
+    ("is too large", ["unroll", "--frames", "65536", "--to", "aag", "inputs"], "M = 4194304"),
+    ("has no such property", ["cnf", "--frames", "2", "--property", "7", WRAPS], "P is 7"),
+    ("properties are its outputs", ["cnf", "--frames", "2", COUNTER], "AIGER 1.0"),
+    ("is too large", ["cnf", "--frames", "65537", WRAPS], "K is 65537"),
+    ("has no such property", [*STRENGTHEN, "examples/ring.cert.aag", "--property", "7", RING], "P is 7"),
+    ("is too large", [*STRENGTHEN, RING, "wide"], "at most 4,194,303"),
     ("is no proof in DRAT", ["refute", "--frames", "1", "bad_input", "rows"], "no step of a proof"),
     ("does not follow by unit propagation", ["refute", "--frames", "1", "bad_input", "zero.drat"], "does not follow"),
-    ("ends before it refutes", ["refute", "--frames", "1", "bad_input", "nothing"], "the proof ends before it refutes"),
-    ("begins with `MAPPING`", [*STRENGTHEN, "mapping", RING], "a form that aig does not read"),
-    ("begins with `= `", [*STRENGTHEN, "unnamed", RING], "the symbol of i0 is `= 12`"),
-    ("has no bad state property P", [*STRENGTHEN, "examples/ring.cert.aag", "--property", "7", RING], "P is 7"),
-    ("circuit and the certificate together", [*STRENGTHEN, RING, "wide"], "at most 4,194,303"),
-    ("certificate is wrong", ["refute", "--certificate", "wrong", RING, "remark.drat"], "aig witness --certificate --model"),
-    ("more than 65,536 rows", ["bench", "two_gates", "many.stim", "script"], "at most 65,536 rows"),
-    ("too large for so many rows", ["bench", "many", "empty.stim", "script"], "at most 67,108,864"),
-    ("too large for so many rows", ["reduce", "wide", "rows.wit"], "at most 67,108,864"),
+    ("or the certificate is wrong", ["refute", "--frames", "1", "bad_input", "nothing"],
+     "the proof ends before it refutes"),
+    ("or the certificate is wrong", ["refute", "--certificate", "wrong", RING, "remark.drat"],
+     "aig witness --certificate --model"),
+    ("is too large", ["bench", "two_gates", "many.stim", "script"], "at most 65,536 rows"),
+    ("is too large", ["bench", "many", "empty.stim", "script"], "at most 67,108,864"),
+    ("is too large", ["reduce", "wide", "rows.wit"], "at most 67,108,864"),
     ("or literal has this name", ["why", "--of", "cuont", COUNTER, f"{EXAMPLES}/counter.stim"], "do you mean `count`?"),
-    ("does not have this frame", ["why", "--of", "o0", "--frame", "8", COUNTER, f"{EXAMPLES}/counter.stim"], "the last frame is 7"),
+    ("does not have this frame", ["why", "--of", "o0", "--frame", "8", COUNTER, f"{EXAMPLES}/counter.stim"],
+     "the last frame is 7"),
     ("was killed", BENCH, "rename it or remove it"),
     ("is also the standard output", ["bench", "--circuit-out", "/dev/full", "two_gates", "rows", "script"],
      "may be full"),
     ("is also the standard output", ["bench", "--circuit-out", "nowhere/out", "two_gates", "rows", "script"],
      "No such file"),
-    ("is a link to a file", ["bench", "--circuit-out", "dangling", "two_gates", "rows", "script"],
+    ("link to a file that is gone", ["bench", "--circuit-out", "dangling", "two_gates", "rows", "script"],
      "a link to a file that does not exist"),
-    ("files are the same", ["bench", "--circuit-out", "one", "--stimulus-out", "./one", "two_gates", "rows", "script"],
+    ("Two files are the same",
+     ["bench", "--circuit-out", "one", "--stimulus-out", "./one", "two_gates", "rows", "script"],
      "two arguments name this file"),
-    ("files are the same", ["unroll", "--frames", "2", "--to", "aag", "--map", "two_gates", "two_gates"],
+    ("Two files are the same", ["unroll", "--frames", "2", "--to", "aag", "--map", "two_gates", "two_gates"],
      "two arguments name this file"),
+)
+
+# A message that needs no row, the words of a command that meets it, and what --explain says of it.
+PLAIN = (
+    ("circuit: input or output", ["info", "missing"], "No such file"),
+    ("circuit: input or output", ["info", "examples"], "it is a folder"),
+    ("stimulus: length of line N", ["sim", "two_gates", "short"], "one for each input of the circuit"),
+    ("stimulus: unfinished", ["sim", "two_gates", "unfinished"], "echo >> FILE"),
+    ("witness: no run", ["witness", WRAPS, "nothing"], "aig sim CIRCUIT STIM"),
+    ("certificate: comment", [*STRENGTHEN, "mapping", RING], "a form that aig does not read"),
+    ("certificate: symbol iP", [*STRENGTHEN, "unnamed", RING], "the symbol of i0 is `= 12`"),
+    ("circuit: counts", ["info", "counts"], "M = I + L + A"),
+    ("circuit: range", ["info", "range"], "2M + 1 = 3"),
+    ("circuit: definition", ["info", "odd"], "an even literal greater than 0"),
+    ("circuit: redefined V", ["info", "twice"], "two definitions"),
+    ("circuit: reset V", ["info", "reset"], "wanted: 0, 1, or its own literal 2"),
+    ("circuit: undefined V", ["info", "undefined"], "no input, latch or gate defines it"),
+    ("circuit: cycle V", ["info", "cycle"], "a latch"),
+    ("property: name", ["select", "--to", "aag", "--property", "other", "two_gates"], "that --property gives"),
+    ("property: twice P P", ["select", "--to", "aag", "--property", "p", "twice_named"], "at these two positions"),
+    ("names: lines", ["select", "--to", "aag", "--names", "zero.drat", "two_gates"], "one line for each property"),
+    ("unroll: no frames", ["unroll", "--frames", "0", "--to", "aag", "two_gates"], "K is 0"),
+    ("unroll: liveness", ["unroll", "--frames", "2", "--to", "aag", "live"], "justice properties: 1"),
+    ("cnf: no frames", ["cnf", "--frames", "0", WRAPS], "K is 0"),
 )
 
 
@@ -105,8 +113,10 @@ def diagnostics(program, tally, _):
     met = set()
     for word, words, explained in CASES:
         is_met(tally, rows, met, word, program.run(*words).err)
-        said = program.run("--explain", *words).err.decode()
-        tally.check(f"diagnostics: {words}, explained", explained in said.split("\n", 1)[1], said)
+        is_explained(program, tally, words, explained)
+    for message, words, explained in PLAIN:
+        is_said(tally, message, words, program.run(*words).err)
+        is_explained(program, tally, words, explained)
     is_met(tally, rows, met, "pipe was closed", closed_pipe(program))
     with open("/dev/full", "wb") as full:
         is_met(tally, rows, met, "disk is full", program.run("info", "two_gates", stdout=full).err)
@@ -120,13 +130,24 @@ def diagnostics(program, tally, _):
 
 
 def is_met(tally, rows, met, word, said):
-    """The row whose cause has this word says what the program said; A, N, P and V stand for numbers."""
+    """The row whose cause has this word says what the program said."""
     found = [row for row in rows if word in row[1]]
     tally.compare(f"diagnostics: rows on {word!r}", len(found), 1)
     for message, cause, _ in found:
-        form = "aig: " + re.sub(r"(?<=[ i])[ANPV]\b", lambda _: "[0-9]+", message.strip("`"))
-        tally.check(f"diagnostics: {cause}", re.fullmatch(f"{form}\n".encode(), said), said)
+        is_said(tally, message.strip("`"), cause, said)
         met.add(cause)
+
+
+def is_said(tally, message, cause, said):
+    """The program said this message, in which A, N, P and V stand for numbers, and PART for a part."""
+    form = "aig: " + re.sub(r"(?<=[ i])[ANPV]\b", lambda _: "[0-9]+", message).replace("PART", "[a-z]+")
+    tally.check(f"diagnostics: {cause}", re.fullmatch(f"{form}\n".encode(), said), said)
+
+
+def is_explained(program, tally, words, explained):
+    """The lines that --explain adds have these words."""
+    said = program.run("--explain", *words).err.decode()
+    tally.check(f"diagnostics: {words}, explained", explained in said.split("\n", 1)[1], said)
 
 
 def write_files():
