@@ -36,7 +36,7 @@ _aig() {
         ["witness --frames"]="number"
         ["witness --certificate"]="file"
         ["witness --property"]="number"
-        ["why --of"]="a signal, a vector, an entry such as o0, a literal"
+        ["why --of"]="number"
         ["why --frame"]="number"
         ["why --depth"]="number"
         ["cnf --frames"]="number"

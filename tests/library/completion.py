@@ -21,14 +21,14 @@ def filled(name, tables):
 
 def value_of(option, said):
     """What the value of an option is: the words that it may be, `number`, `file`, or nothing where it has none. The
-    help lists words after a colon, and the name of a number has one letter."""
+    help lists words after a colon. The name of a number has one letter; nothing completes a NAME either."""
     name = re.search(r"<(\w+)>", option)
     words = re.match(r"[^:(]*: (.* or .*)", said)
     if not name:
         return None
     if words:
         return re.sub(r" \(.*?\)", "", words[1]).replace(" or ", " ")
-    return "number" if len(name[1]) == 1 else "file"
+    return "number" if len(name[1]) == 1 or name[1] == "NAME" else "file"
 
 
 def long_name(option):

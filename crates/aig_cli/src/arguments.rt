@@ -248,7 +248,7 @@ pub const STIMULUS_OUT: Argument = Argument {
 /// What `why` explains. Only a witness has a property to explain by default.
 pub const OF: Argument = Argument {
     name: "of",
-    help: "What to explain: a signal, a vector, an entry such as\no0, or a literal (default: the witness's property)",
+    help: "Signal, vector, entry or literal to explain, such as\ncount or o0 (default: the witness's property)",
     kind: Kind::Named("NAME"),
     need: Need::Without("witness", &[]),
 };
