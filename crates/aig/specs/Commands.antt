@@ -1,5 +1,5 @@
 -- How each command of the program ends, where the bytes of its files are known.
-use Rattle.std.specs.Prelude.{ℕ, List, Option, Some, Result, IfSome, OnOk, option_map}
+use Rattle.std.specs.Prelude.{ℕ, List, Option, Some, Result, IfSome, OnOk, option_copied}
 use Rattle.aig_cnf.specs.Query.{induction}
 use Rattle.aig_sim.specs.declared.stimulus.fault.StimFault.TheVariants as stimuli
 use Rattle.aig_run.specs.Command.{OfCircuit, OfFile}
@@ -87,6 +87,6 @@ EndsAsMeant left (commands.Why name span circuit stimulus) result =
     Ends end_of (OfFile file (WritesWhy text name.now span)) result))
 EndsAsMeant left (commands.WhyWitness name span circuit witness) result =
     IfSome (left circuit) (λ file. IfSome (left witness) (λ text.
-    Ends end_of (OfFile file (WritesWhyWitness text (option_map (λ name. name.now) name) span)) result))
+    Ends end_of (OfFile file (WritesWhyWitness text (option_copied name) span)) result))
 EndsAsMeant left (commands.Reduce circuit witness) result =
     IfSome (left circuit) (λ file. IfSome (left witness) (λ text. Ends end_of_verdict (OfFile file (Reduces text)) result))

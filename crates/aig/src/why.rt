@@ -1,5 +1,5 @@
 //! The command `why`, over a stimulus or of a witness.
-ghost use Rattle.std.specs.Prelude.{◌≡◌, IfSome, option_map};
+ghost use Rattle.std.specs.Prelude.{◌≡◌, IfSome, option_copied};
 ghost use Rattle.aig_run.specs.Command.{OfFile};
 ghost use Rattle.aig_why.specs.Why.{WritesWhy, WritesWhyWitness};
 ghost use Rattle.aig.specs.Ends.{Ends, end_of};
@@ -37,7 +37,7 @@ pub fn why_witness<R: AllocGlobal + Print, F: Read + Drop>(
     witness: F,
 ) -> Result<(), Exit>
     ensures ends { IfSome (F.remaining circuit) (λ file. IfSome (F.remaining witness) (λ text.
-        Ends end_of (OfFile file (WritesWhyWitness text (option_map (λ text. text.now) name.entry) span)) result)) }
+        Ends end_of (OfFile file (WritesWhyWitness text (option_copied name.entry) span)) result)) }
 {
     let circuit = read_whole(rt.alloc(), circuit, Part::Circuit)?;
     let witness = read_whole(rt.alloc(), witness, Part::Witness)?;
@@ -49,7 +49,7 @@ pub fn why_witness<R: AllocGlobal + Print, F: Read + Drop>(
 
 /// Returns the bytes of a name if there is one.
 fn bytes_of(name: Option<&str>) -> Option<&[u8]>
-    ensures { option_map (λ bytes. bytes.now) result ≡ option_map (λ text. text.now) name.entry }
+    ensures { option_copied result ≡ option_copied name.entry }
 {
     match name {
         Some(name) => Some(name.as_bytes()),

@@ -1,4 +1,4 @@
-use Rattle.std.proofs.Common.{ℕ, List, Option, IfSome, subst, option_map}
+use Rattle.std.proofs.Common.{ℕ, List, Option, IfSome, subst}
 use Rattle.aig_why.specs.Why.{WritesWhy}
 use Rattle.aig_run.specs.Command.{OfFile}
 use Rattle.aig_terminal.specs.declared.part.Part.TheVariants as parts
