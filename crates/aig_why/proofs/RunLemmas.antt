@@ -1,4 +1,4 @@
--- What is answered for a run, from what its parts answer.
+-- What the command returns for a run, from what its parts return.
 use Rattle.std.proofs.Common.{◌≡◌, ◌≢◌, ℕ, ◌+◌, ◌-◌, ◌*◌, ◌<◌, ◌≤◌, List, [], ◌∷◌, ◌++◌, length, map, replicate, All, Contains, Option, None, Some, Err, refl, sym, ap, ◌∙◌, subst, arith}
 use Rattle.std.proofs.lemmas.List.{length-map}
 use Rattle.std.specs.List.{AllZip}
@@ -86,7 +86,7 @@ module _ (raw other : Raw) (r : HasOtherResets raw other) where
         (length-map raw.latches (λ (x : Latch). x.lit) ∙ sym (latches_length raw other r));
   }
 
--- what is answered for the run over a stimulus
+-- what it returns for the run over a stimulus
 module _ (raw : Raw) (stimulus name : List ℕ) (span : Span) (rows : List (List Tern)) (spelled : SpellsRows (length raw.inputs) stimulus rows) where
   abbrev pub ByResets : Run
   ByResets = record { start = start_of raw; rows = rows }
@@ -106,7 +106,7 @@ module _ (raw : Raw) (text : List ℕ) (name : Option (List ℕ)) (span : Span) 
   refuses_witness (run_faults.Witness fault) h = absurd h
   refuses_witness fault h = (w, spelled, admitted, (h, refl))
 
--- no fault of the circuit's file is answered for a circuit
+-- it returns no fault of a circuit file where there is a circuit
 pub why_no_circuit : (raw : Raw) (stimulus name : List ℕ) (span : Span) → MeansNoFault (WritesWhy stimulus name span) raw
 why_no_circuit raw stimulus name span fault bytes (rows, spelled, (h, none)) = h
 
@@ -114,7 +114,7 @@ pub witness_no_circuit : (raw : Raw) (text : List ℕ) (name : Option (List ℕ)
     → MeansNoFault (WritesWhyWitness text name span) raw
 witness_no_circuit raw text name span fault bytes (w, spelled, admitted, (h, none)) = h
 
--- what is answered for a run on a bench
+-- the cells of a run on a bench
 module _ (raw : Raw) (pair : CircuitAndRows) (n : Naming) (of : IsNamingOf raw pair n) where
   pub cells_with : (pair.circuit.max_var + 1) * length pair.rows ≤ cell_limit → (raw.max_var + 1) * length pair.rows ≤ cell_limit
   cells_with h = subst (λ (m : ℕ). (m + 1) * length pair.rows ≤ cell_limit) of.resets.size h

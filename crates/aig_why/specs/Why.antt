@@ -97,12 +97,12 @@ pub record ExplainsRun (raw : Raw) (run : Run) (property : ℕ) (name : Option (
   pub frame : IsFrame span.frame (length run.rows) t
   pub explanation : IsExplanation raw run shown literals t (least_frame span.depth t) text
 
--- what is answered and written for a run, where the property is asked for if no name is given
+-- what the command returns and writes for a run; without a name it explains the property
 abbrev pub WritesRun : Raw → Run → ℕ → Option (List ℕ) → Span → Result (Unit {0}) RunFault → List ℕ → Type 0
 WritesRun raw run property name span (Ok done) written = ExplainsRun raw run property name span written
 WritesRun raw run property name span (Err fault) written = RefusesRun raw run property name span fault × (written ≡ [])
 
--- what `aig why --of NAME` answers and writes for a stimulus of a circuit
+-- what `aig why --of NAME` returns and writes for a stimulus of a circuit
 abbrev pub WritesWhy : List ℕ → List ℕ → Span → Raw → Result (Unit {0}) RunFault → List ℕ → Type 0
 WritesWhy stimulus name span raw (Err (run_faults.Stimulus fault)) written =
     RefusesStimulus (length raw.inputs) stimulus fault × (written ≡ [])
@@ -110,7 +110,7 @@ WritesWhy stimulus name span raw answer written =
     (rows : List (List Tern)) × SpellsRows (length raw.inputs) stimulus rows
     × WritesRun raw (record { start = start_of raw; rows = rows }) 0 (Some name) span answer written
 
--- what `aig why --witness` answers and writes for a witness of a circuit
+-- what `aig why --witness` returns and writes for a witness of a circuit
 abbrev pub WritesWhyWitness : List ℕ → Option (List ℕ) → Span → Raw → Result (Unit {0}) RunFault → List ℕ → Type 0
 WritesWhyWitness text name span raw (Err (run_faults.Witness fault)) written = HasWitnessFault raw text fault × (written ≡ [])
 WritesWhyWitness text name span raw answer written =

@@ -186,7 +186,7 @@ fn read_and_explain_witness<W: Write>(
 
 /// The command `why --of NAME`: writes why the literals that a name means are what they are at a frame of the run over a
 /// stimulus, from the start by the resets, in lines of which each is right by itself. It flushes the writer before it
-/// answers.
+/// returns.
 pub fn why<W: Write>(
     alloc: Global,
     circuit: &[u8],
@@ -203,7 +203,7 @@ pub fn why<W: Write>(
     flushed(done, out, RunFault::Output)
 }
 
-/// The command `why --witness`: the same of the run of a witness, from its own start, whatever its verdict. Without a
+/// The command `why --witness`: the same for the run of a witness, from its own start, whatever its verdict. Without a
 /// name it explains the witness's property.
 pub fn why_witness<W: Write>(
     alloc: Global,
