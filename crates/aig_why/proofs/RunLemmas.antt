@@ -1,7 +1,6 @@
 -- What the command returns for a run, from what its parts return.
-use Rattle.std.proofs.Common.{◌≡◌, ◌≢◌, ℕ, ◌+◌, ◌-◌, ◌*◌, ◌<◌, ◌≤◌, List, [], ◌∷◌, ◌++◌, length, map, replicate, All, Contains, Option, None, Some, Err, refl, sym, ap, ◌∙◌, subst, arith}
+use Rattle.std.proofs.Common.{◌≡◌, ◌≢◌, ℕ, ◌+◌, ◌*◌, ◌<◌, ◌≤◌, List, [], ◌∷◌, ◌++◌, length, map, replicate, All, Contains, Option, None, Some, Err, refl, sym, ap, ◌∙◌, subst, arith}
 use Rattle.std.proofs.lemmas.List.{length-map}
-use Rattle.std.specs.List.{AllZip}
 use Rattle.std.specs.Prelude.{IfSome}
 use Rattle.aig_base.specs.Sections.{IsDefined, definitions}
 use Rattle.aig_base.specs.Value.{start_of}
@@ -16,16 +15,16 @@ use Rattle.aig_parts.specs.declared.raw.Raw.{Raw}
 use Rattle.aig_parts.specs.declared.symbols.Kind.TheVariants as kinds
 use Rattle.aig_parts.specs.declared.ternary.Tern.{Tern}
 use Rattle.aig_reduce.proofs.Resets.{latches_length}
-use Rattle.aig_reduce.specs.Resets.{HasOtherResets, IsSameLatch}
+use Rattle.aig_reduce.specs.Resets.{HasOtherResets}
 use Rattle.aig_run.proofs.Files.{MeansNoFault}
 use Rattle.aig_run.specs.declared.run_fault.RunFault.{RunFault}
 use Rattle.aig_run.specs.declared.run_fault.RunFault.TheVariants as run_faults
 use Rattle.aig_signals.specs.Names.{literals_of}
-use Rattle.aig_signals.specs.Signals.{section_signals}
 use Rattle.aig_signals.specs.declared.text.Naming.{Naming}
 use Rattle.aig_sim.specs.StimulusText.{SpellsRows}
 use Rattle.aig_sim.specs.WitnessText.{Witness, SpellsWitness, IsAdmitted}
-use Rattle.aig_why.specs.Why.{ExplainsRun, IsFrame, least_frame, RefusesRun, Run, run_of, WritesWhy, WritesWhyWitness}
+use Rattle.aig_why.proofs.TextLemmas.{latch_literals}
+use Rattle.aig_why.specs.Why.{IsFrame, least_frame, RefusesRun, Run, run_of, WritesWhy, WritesWhyWitness}
 use Rattle.aig_why.specs.declared.command.Span.{Span}
 use Rattle.aig_why.specs.declared.question.Question.{Question}
 use Rattle.aig_why.specs.state.Naming.{IsNamingOf, NamesNothing}
@@ -53,16 +52,10 @@ pub run_is : (pair : CircuitAndRows) (start : List Tern) (rows : List (List Tern
 run_is pair start rows s r = λ i. record { start = s i; rows = r i }
 
 -- a circuit with other resets defines the same variables
-literals_same : (xs ys : List Latch) → AllZip IsSameLatch xs ys → map (λ x. x.lit) ys ≡ map (λ x. x.lit) xs
-literals_same [] [] h = refl
-literals_same [] (y ∷ ys) h = absurd h
-literals_same (x ∷ xs) [] h = absurd h
-literals_same (x ∷ xs) (y ∷ ys) h = λ i. h.0.0 i ∷ literals_same xs ys h.1 i
-
 module _ (raw other : Raw) (r : HasOtherResets raw other) where
   definitions_same : definitions other ≡ definitions raw
   definitions_same =
-      λ i. r.inputs i ++ literals_same raw.latches other.latches r.latches i ++ map (λ (g : Gate). g.lhs) (r.gates i)
+      λ i. r.inputs i ++ latch_literals raw.latches other.latches r.latches i ++ map (λ (g : Gate). g.lhs) (r.gates i)
 
   pub range_with : (literals : List ℕ) → All (λ l. variable l ≤ raw.max_var) literals → All (λ l. variable l ≤ other.max_var) literals
   range_with literals h = subst (λ (n : ℕ). All (λ l. variable l ≤ n) literals) (sym r.size) h

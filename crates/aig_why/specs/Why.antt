@@ -1,5 +1,5 @@
 -- What `aig why` writes (our own choice).
-use Rattle.std.specs.Prelude.{◌≡◌, ◌≢◌, ℕ, ◌+◌, ◌-◌, ◌*◌, ◌<◌, ◌≤◌, List, [], ◌∷◌, ◌++◌, length, All, Contains, Option, None, Some, Result, Ok, Err, slice_get}
+use Rattle.std.specs.Prelude.{◌≡◌, ◌≢◌, ℕ, ◌+◌, ◌-◌, ◌*◌, ◌<◌, ◌≤◌, List, [], ◌∷◌, ◌++◌, length, All, Option, None, Some, Result, Ok, Err, slice_get}
 use Rattle.aig_base.specs.Sections.{IsLatchLiteral}
 use Rattle.aig_base.specs.Value.{start_of}
 use Rattle.aig_parts.specs.Limits.{cell_limit}

@@ -1,7 +1,6 @@
-use Rattle.std.proofs.Common.{Err, List, refl, sym, ◌∙◌, ap, length, subst}
+use Rattle.std.proofs.Common.{Err, sym, ap, subst}
 use Rattle.std.specs.Prelude.{option_copied}
 use Rattle.std.proofs.lemmas.Result.{IfErr-weaker, IfOk-weaker}
-use Rattle.aig_reduce.proofs.Resets.{latches_length}
 use Rattle.aig_run.proofs.Files.{reported_as}
 use Rattle.aig_run.specs.declared.run_fault.RunFault.{RunFault}
 use Rattle.aig_run.specs.declared.run_fault.RunFault.TheVariants as run_faults

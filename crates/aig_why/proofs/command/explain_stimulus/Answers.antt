@@ -1,4 +1,4 @@
-use Rattle.std.proofs.Common.{[], Err, List, Option, Some, refl, sym, ◌∙◌, ap, length, subst}
+use Rattle.std.proofs.Common.{[], Err, List, Some, refl, sym, ◌∙◌, ap, length, subst}
 use Rattle.std.proofs.lemmas.Result.{IfErr-weaker, IfOk-weaker}
 use Rattle.aig_parts.specs.declared.ternary.Tern.{Tern}
 use Rattle.aig_reduce.proofs.Resets.{start_length}
@@ -6,7 +6,6 @@ use Rattle.aig_run.proofs.Files.{reported_as}
 use Rattle.aig_run.specs.declared.run_fault.RunFault.{RunFault}
 use Rattle.aig_run.specs.declared.run_fault.RunFault.TheVariants as run_faults
 use Rattle.aig_why.specs.Why.{ExplainsRun, RefusesRun, WritesWhy}
-use Rattle.aig_why.specs.declared.question.Question.{Question}
 use Rattle.aig_why.specs.state.Asked.{IsAskedAs}
 use Rattle.aig_why.proofs.RunLemmas.{refuses_why}
 use Rattle.aig_why.proofs.command.explain_stimulus.Goals as goal

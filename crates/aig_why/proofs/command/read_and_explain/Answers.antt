@@ -1,4 +1,4 @@
-use Rattle.std.proofs.Common.{[], List, ℕ, Ok, Err, ap, subst, sym}
+use Rattle.std.proofs.Common.{[], List, ℕ, Err, subst}
 use Rattle.aig_bytes.specs.Bytes.{Writes}
 use Rattle.aig_bytes.specs.Flow.{flow}
 use Rattle.aig_run.proofs.Files.{answered, ends_of_file, file_refused}

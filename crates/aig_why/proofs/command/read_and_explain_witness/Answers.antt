@@ -1,4 +1,4 @@
-use Rattle.std.proofs.Common.{[], List, ℕ, Ok, Err, ap, subst, sym}
+use Rattle.std.proofs.Common.{[], List, ℕ, Err, subst}
 use Rattle.std.specs.Prelude.{option_copied}
 use Rattle.aig_bytes.specs.Bytes.{Writes}
 use Rattle.aig_bytes.specs.Flow.{flow}
