@@ -462,9 +462,12 @@ def main():
         work += [(crate, known, edits)] if edits else []
     with concurrent.futures.ThreadPoolExecutor(words.jobs) as pool:
         tries = {it[0].name: pool.submit(told, *it) for it in in_turn(work, words.behind)}
-    if words.record and not words.only:
-        record({name: now[name] for name, it in tries.items() if all(it.result())})
-    kinds = collections.Counter(kind for it in tries.values() for kind in it.result())
+        kinds = collections.Counter()
+        for name, it in tries.items():
+            kinds.update(it.result())
+            # at once, so that a run that is stopped keeps what it found
+            if words.record and not words.only and all(it.result()):
+                record({name: now[name]})
     print("refused: " + ", ".join(f"{kinds[kind]} {kind}" for kind in KINDS[:-1]))
     passed, failed = sum(kinds[kind] for kind in KINDS), failed + kinds[None]
     print(f"{passed} passed, {failed} failed" + f"; {before} refused before over the same files" * (before > 0))
