@@ -7,13 +7,14 @@ use Rattle.std.proofs.lemmas.List.{take_rest}
 use Rattle.std.proofs.lemmas.List.Sums.{get_or-le-sum_by}
 use Rattle.std.proofs.lemmas.Bool.{ne_eqb}
 use Rattle.aig_parts.specs.declared.gate.Gate.{Gate}
+use Rattle.aig_parts.specs.declared.latch.Latch.{Latch}
 use Rattle.aig_parts.specs.declared.raw.Raw.{Raw}
 use Rattle.aig_base.specs.Circuit.{IsCircuit}
 use Rattle.aig_parts.specs.Formed.{IsFormed}
 use Rattle.aig_base.specs.Sections.{definitions, uses}
 use Rattle.aig_base.specs.Sound.{IsInRange}
 use Rattle.aig_base.proofs.lists.Joined.{All-left, All-right, All-unmap}
-use Rattle.aig_format.specs.Header.{space, line_end, field, tail, all_zero}
+use Rattle.aig_format.specs.Header.{space, line_end, field, tail, all_zero, counts_of}
 use Rattle.aig_format.specs.Spelling.{reset_text, lines}
 
 pub reset_written : (r : ℕ) → (r ≡ 0 → ⊥) → reset_text false r ≡ space ∷ field r line_end
@@ -44,6 +45,11 @@ tail_step [] e = cc
 tail_step (n ∷ counts) e =
     ap (λ (b : Bool). cond b (line_end ∷ []) (space ∷ (decimal n ++ tail 0 counts))) (all_zero_is (n ∷ counts) ∙ e)
     ∙ ap (λ (ms : List ℕ). space ∷ (decimal n ++ tail 0 ms)) (sym (take_rest (n ∷ counts) 1))
+
+-- other latches, as many, are counted as they were
+pub same_counts : (raw : Raw) (latches : List Latch) → length latches ≡ length raw.latches
+    → counts_of raw ≡ counts_of (record raw { latches = latches })
+same_counts raw latches e = ap (λ (n : ℕ). record (counts_of raw) { latches = n }) (sym e)
 
 pub small_sizes : (raw : Raw) → IsFormed raw → All (λ p. length p < 2 ^ 32) raw.justice
 small_sizes raw formed k d lt = omega (arith, get_or-le-sum_by length raw.justice k d lt, formed.counts.justice_literals)

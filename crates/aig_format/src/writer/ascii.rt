@@ -58,12 +58,19 @@ fn put_gates<W: Write>(out: &mut W, block: &mut Block, gates: &[Gate]) -> Result
 }
 
 #[tactic(auto, unfolding(crate::specs::Spelling::ascii))]
-fn put_ascii<W: Write>(out: &mut W, block: &mut Block, circuit: &Circuit) -> Result<(), Io>
-    ensures { Gathers W.written W.failures out.old out.new block.old block.new (short_ascii circuit.now) result }
+fn put_ascii<W: Write>(
+    out: &mut W,
+    block: &mut Block,
+    circuit: &Circuit,
+    latches: &[Latch],
+) -> Result<(), Io>
+    requires { length latches.now ≡ length circuit.now.latches }
+    ensures { Gathers W.written W.failures out.old out.new block.old block.new
+        (short_ascii (record circuit.now { latches = latches.now })) result }
 {
     put_header(out, block, Format::Ascii, &counts_of(circuit))?;
     put_literals(out, block, circuit.inputs())?;
-    put_latches(out, block, circuit.latches())?;
+    put_latches(out, block, latches)?;
     put_properties(out, block, circuit)?;
     put_gates(out, block, circuit.gates())?;
     put_names(out, block, circuit)
@@ -75,8 +82,22 @@ pub fn write_ascii<W: Write>(circuit: &Circuit, out: &mut W) -> Result<(), Fault
     ensures written { Writes W.written W.failures out.old out.new (short_ascii circuit.now) result }
     ensures io { IfErr result (λ fault. fault ≡ Fault.Io) }
 {
+    write_ascii_with(circuit, circuit.latches(), out)
+}
+
+/// Writes a circuit as `write_ascii` does, with these latches in place of its own.
+pub fn write_ascii_with<W: Write>(
+    circuit: &Circuit,
+    latches: &[Latch],
+    out: &mut W,
+) -> Result<(), Fault>
+    requires { length latches.now ≡ length circuit.now.latches }
+    ensures written { Writes W.written W.failures out.old out.new
+        (short_ascii (record circuit.now { latches = latches.now })) result }
+    ensures io { IfErr result (λ fault. fault ≡ Fault.Io) }
+{
     let mut block = Block::new();
-    put_ascii(out, &mut block, circuit)?;
+    put_ascii(out, &mut block, circuit, latches)?;
     write_all(out, block.as_slice())?;
     Ok(())
 }

@@ -1,7 +1,7 @@
 use Rattle.aig_bytes.proofs.WriteLemmas.{writes_same}
 use Rattle.aig_bytes.proofs.GatherLemmas.{written_part}
 use Rattle.aig_format.proofs.GatherLemmas.{whole_failed, whole_written}
-use Rattle.aig_format.proofs.writer.ascii.write_ascii.Goals as goal
+use Rattle.aig_format.proofs.writer.ascii.write_ascii_with.Goals as goal
 
 pub returns-in_err-put_ascii-clause-written : goal.returns-in_err-put_ascii-clause-written
 returns-in_err-put_ascii-clause-written g c =
