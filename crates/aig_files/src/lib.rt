@@ -10,14 +10,16 @@ mod output_file;
 mod reserved;
 mod run_files;
 mod source;
+mod unwritten;
 
 pub use aig_terminal::Part;
 pub use exit::Exit;
 pub use files::{open, output, read_whole};
 pub use kept::Kept;
 pub use known::Known;
-pub use new_file::{NewFile, OUTPUT, are_one, is_free, name_beside};
+pub use new_file::{NewFile, are_one, is_free, name_beside};
 pub use output_file::{OutputFile, find, open_pipe};
 pub use reserved::{Reserved, reserve};
 pub use run_files::{Judged, RunFiles};
 pub use source::Source;
+pub use unwritten::{OUTPUT, Unwritten};

@@ -1,7 +1,6 @@
 //! Files that take their names only once they are complete.
 
-use crate::exit::Exit;
-use aig_run::RunFault;
+use crate::unwritten::Unwritten;
 use std::alloc::{AllocError, Global};
 use std::fs::{self, Files, Metadata, OpenFile, OpenOptions, Permissions};
 use std::io::ErrorKind;
@@ -27,9 +26,6 @@ const PRIVATE: u32 = 0o600;
 
 /// The permissions that programs usually ask for. The system takes away those that the umask names.
 const USUAL: u32 = 0o666;
-
-/// How the program ends if it cannot write an output file.
-pub const OUTPUT: Exit = Exit::Run(RunFault::Output);
 
 /// A new file that is to take the name of another file in the same folder.
 pub struct NewFile<F: Drop> {
@@ -89,28 +85,28 @@ impl<F: Drop> NewFile<F> {
     }
 
     /// Fails if the name was free when the run began, and now another file has it.
-    pub fn check_name<R: Files>(&self, rt: &R) -> Result<(), Exit> {
+    pub fn check_name<R: Files>(&self, rt: &R) -> Result<(), Unwritten> {
         if self.old.is_some() || is_free(rt, self.name.as_str()) {
             Ok(())
         } else {
-            Err(OUTPUT)
+            Err(Unwritten::System(ErrorKind::AlreadyExists))
         }
     }
 
     /// Renames the file over the one that existed. A file that was created meanwhile stays.
-    pub fn take_name<R: Files>(&mut self, rt: &R) -> Result<(), Exit> {
+    pub fn take_name<R: Files>(&mut self, rt: &R) -> Result<(), Unwritten> {
         self.check_name(rt)?;
         match fs::rename(rt, self.new_name.as_str(), self.name.as_str()) {
             Ok(()) => {
                 self.open = None;
                 Ok(())
             }
-            Err(_) => Err(OUTPUT),
+            Err(error) => Err(Unwritten::of(&error)),
         }
     }
 
     /// Removes the file, unless it is not created or has taken its name.
-    pub fn remove<R: Files>(&mut self, rt: &R) -> Result<(), Exit> {
+    pub fn remove<R: Files>(&mut self, rt: &R) -> Result<(), Unwritten> {
         if self.open.is_none() {
             return Ok(());
         }
@@ -118,14 +114,14 @@ impl<F: Drop> NewFile<F> {
         self.open = None;
         match removed {
             Ok(()) => Ok(()),
-            Err(_) => Err(OUTPUT),
+            Err(error) => Err(Unwritten::of(&error)),
         }
     }
 }
 
 impl<F: OpenFile + AsFd + Drop> NewFile<F> {
     /// Creates the file, with the owner of the file that it replaces. Nobody else may read it yet.
-    pub fn create<R: Files<File = F>>(&mut self, rt: &R) -> Result<(), Exit> {
+    pub fn create<R: Files<File = F>>(&mut self, rt: &R) -> Result<(), Unwritten> {
         let mode = self.final_mode(rt)?;
         let file = create_new(rt, self.new_name.as_str(), PRIVATE)?;
         self.open = Some(Open { file, mode });
@@ -133,14 +129,14 @@ impl<F: OpenFile + AsFd + Drop> NewFile<F> {
     }
 
     /// Returns the permissions that the file gets at the end.
-    fn final_mode<R: Files<File = F>>(&self, rt: &R) -> Result<u32, Exit> {
+    fn final_mode<R: Files<File = F>>(&self, rt: &R) -> Result<u32, Unwritten> {
         match &self.old {
             Some(old) => Ok(old.mode() & PERMISSIONS),
             None => usual_mode(rt, self.new_name.as_str()),
         }
     }
 
-    fn keep_owner(&mut self) -> Result<(), Exit> {
+    fn keep_owner(&mut self) -> Result<(), Unwritten> {
         let Some(old) = &self.old else {
             return Ok(());
         };
@@ -151,7 +147,7 @@ impl<F: OpenFile + AsFd + Drop> NewFile<F> {
     }
 
     /// Gives the file its permissions once its text is written, and syncs it to disk.
-    pub fn complete(&mut self) -> Result<(), Exit> {
+    pub fn complete(&mut self) -> Result<(), Unwritten> {
         match &self.open {
             Some(open) => open.complete(),
             None => Ok(()),
@@ -168,12 +164,13 @@ struct Open<F: Drop> {
 
 impl<F: OpenFile + AsFd + Drop> Open<F> {
     /// Gives the file the owner and the group of another. If the group cannot be kept, it gets no permissions.
-    fn keep_owner(&mut self, old: &Metadata) -> Result<(), Exit> {
-        let Ok(new) = self.file.metadata() else {
-            return Err(OUTPUT);
+    fn keep_owner(&mut self, old: &Metadata) -> Result<(), Unwritten> {
+        let new = match self.file.metadata() {
+            Ok(new) => new,
+            Err(error) => return Err(Unwritten::of(&error)),
         };
         if new.uid() != old.uid() && fchown(&self.file, Some(old.uid()), None).is_err() {
-            return Err(OUTPUT);
+            return Err(Unwritten::System(ErrorKind::PermissionDenied));
         }
         if new.gid() != old.gid() && fchown(&self.file, None, Some(old.gid())).is_err() {
             self.mode = without_group(self.mode);
@@ -181,26 +178,27 @@ impl<F: OpenFile + AsFd + Drop> Open<F> {
         Ok(())
     }
 
-    fn complete(&self) -> Result<(), Exit> {
+    fn complete(&self) -> Result<(), Unwritten> {
         self.set_mode()?;
         match self.file.sync_all() {
             Ok(()) => Ok(()),
-            Err(_) => Err(OUTPUT),
+            Err(error) => Err(Unwritten::of(&error)),
         }
     }
 
     /// Sets the permissions, unless the file has them. Some file systems have one mode for all files, and do not allow
     /// a program to set another.
-    fn set_mode(&self) -> Result<(), Exit> {
-        let Ok(metadata) = self.file.metadata() else {
-            return Err(OUTPUT);
+    fn set_mode(&self) -> Result<(), Unwritten> {
+        let metadata = match self.file.metadata() {
+            Ok(metadata) => metadata,
+            Err(error) => return Err(Unwritten::of(&error)),
         };
         if metadata.mode() & PERMISSIONS == self.mode {
             return Ok(());
         }
         match self.file.set_permissions(Permissions::from_mode(self.mode)) {
             Ok(()) => Ok(()),
-            Err(_) => Err(OUTPUT),
+            Err(error) => Err(Unwritten::of(&error)),
         }
     }
 }
@@ -214,19 +212,19 @@ fn without_group(mode: u32) -> u32 {
 /// Returns the permissions that a new file of this name usually gets, by the umask or by a rule of its folder. An empty
 /// file shows them. It is removed, and the text goes to another file: whoever opens the empty one meanwhile can read on
 /// there, and never sees the text.
-fn usual_mode<R: Files>(rt: &R, name: &str) -> Result<u32, Exit> {
+fn usual_mode<R: Files>(rt: &R, name: &str) -> Result<u32, Unwritten> {
     let file = create_new(rt, name, USUAL)?;
     let metadata = file.metadata();
     // If this fails, so does the next creation of a file of this name.
     let _ = fs::remove_file(rt, name);
     match metadata {
         Ok(metadata) => Ok(metadata.mode() & PERMISSIONS),
-        Err(_) => Err(OUTPUT),
+        Err(error) => Err(Unwritten::of(&error)),
     }
 }
 
 /// Creates a file that does not exist, for writing.
-fn create_new<R: Files>(rt: &R, name: &str, mode: u32) -> Result<R::File, Exit> {
+fn create_new<R: Files>(rt: &R, name: &str, mode: u32) -> Result<R::File, Unwritten> {
     let opened = OpenOptions::new()
         .write(true)
         .create_new(true)
@@ -234,7 +232,8 @@ fn create_new<R: Files>(rt: &R, name: &str, mode: u32) -> Result<R::File, Exit> 
         .open(rt, name);
     match opened {
         Ok(file) => Ok(file),
-        Err(_) => Err(OUTPUT),
+        Err(error) if error.kind() == ErrorKind::AlreadyExists => Err(Unwritten::NewExists),
+        Err(error) => Err(Unwritten::of(&error)),
     }
 }
 

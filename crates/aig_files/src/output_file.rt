@@ -1,8 +1,7 @@
 //! The files, devices and pipes that the options name for a text.
 
-use crate::exit::Exit;
-use crate::new_file::{NewFile, OUTPUT, are_one, is_free};
-use aig_run::RunFault;
+use crate::new_file::{NewFile, are_one, is_free};
+use crate::unwritten::Unwritten;
 use std::fs::{self, Files, Metadata, OpenFile, OpenOptions};
 use std::io::ErrorKind;
 use std::os::fd::AsFd;
@@ -50,7 +49,7 @@ impl<F: Drop> OutputFile<'_, F> {
     }
 
     /// Fails if the name of a file was free when the run began, and now another file has it.
-    pub fn check_name<R: Files>(&self, rt: &R) -> Result<(), Exit> {
+    pub fn check_name<R: Files>(&self, rt: &R) -> Result<(), Unwritten> {
         match self {
             OutputFile::File(new) => new.check_name(rt),
             _ => Ok(()),
@@ -58,7 +57,7 @@ impl<F: Drop> OutputFile<'_, F> {
     }
 
     /// Gives a file its name.
-    pub fn take_name<R: Files>(&mut self, rt: &R) -> Result<(), Exit> {
+    pub fn take_name<R: Files>(&mut self, rt: &R) -> Result<(), Unwritten> {
         match self {
             OutputFile::File(new) => new.take_name(rt),
             _ => Ok(()),
@@ -66,7 +65,7 @@ impl<F: Drop> OutputFile<'_, F> {
     }
 
     /// Removes a new file that has not taken its name.
-    pub fn remove<R: Files>(&mut self, rt: &R) -> Result<(), Exit> {
+    pub fn remove<R: Files>(&mut self, rt: &R) -> Result<(), Unwritten> {
         match self {
             OutputFile::File(new) => new.remove(rt),
             _ => Ok(()),
@@ -76,7 +75,7 @@ impl<F: Drop> OutputFile<'_, F> {
 
 impl<F: OpenFile + AsFd + Drop> OutputFile<'_, F> {
     /// Creates the new file for a file.
-    pub fn create<R: Files<File = F>>(&mut self, rt: &R) -> Result<(), Exit> {
+    pub fn create<R: Files<File = F>>(&mut self, rt: &R) -> Result<(), Unwritten> {
         match self {
             OutputFile::File(new) => new.create(rt),
             _ => Ok(()),
@@ -84,7 +83,7 @@ impl<F: OpenFile + AsFd + Drop> OutputFile<'_, F> {
     }
 
     /// Finds out whether the new file for a file can be created, and leaves none.
-    pub fn try_out<R: Files<File = F>>(&mut self, rt: &R) -> Result<(), Exit> {
+    pub fn try_out<R: Files<File = F>>(&mut self, rt: &R) -> Result<(), Unwritten> {
         let created = self.create(rt);
         let removed = self.remove(rt);
         created.and(removed)
@@ -95,7 +94,7 @@ impl<F: OpenFile + AsFd + Drop> OutputFile<'_, F> {
 pub fn find<'a, R: Files + AllocGlobal>(
     rt: &R,
     name: Option<&'a str>,
-) -> Result<OutputFile<'a, R::File>, Exit> {
+) -> Result<OutputFile<'a, R::File>, Unwritten> {
     match name {
         Some(name) => find_named(rt, name),
         None => Ok(OutputFile::NotGiven),
@@ -105,12 +104,12 @@ pub fn find<'a, R: Files + AllocGlobal>(
 fn find_named<'a, R: Files + AllocGlobal>(
     rt: &R,
     name: &'a str,
-) -> Result<OutputFile<'a, R::File>, Exit> {
+) -> Result<OutputFile<'a, R::File>, Unwritten> {
     match fs::metadata(rt, name) {
         Ok(metadata) if metadata.file_type().is_fifo() => Ok(OutputFile::Pipe(name)),
         Ok(_) => find_existing(rt, name),
         Err(error) if error.kind() == ErrorKind::NotFound => find_free(rt, name),
-        Err(_) => Err(OUTPUT),
+        Err(error) => Err(Unwritten::of(&error)),
     }
 }
 
@@ -118,9 +117,9 @@ fn find_named<'a, R: Files + AllocGlobal>(
 fn find_free<'a, R: Files + AllocGlobal>(
     rt: &R,
     name: &str,
-) -> Result<OutputFile<'a, R::File>, Exit> {
+) -> Result<OutputFile<'a, R::File>, Unwritten> {
     if name.is_empty() || name.ends_with('/') || !is_free(rt, name) {
-        return Err(OUTPUT);
+        return Err(Unwritten::System(ErrorKind::NotFound));
     }
     beside(rt, name, None)
 }
@@ -129,14 +128,15 @@ fn find_free<'a, R: Files + AllocGlobal>(
 fn find_existing<'a, R: Files + AllocGlobal>(
     rt: &R,
     name: &str,
-) -> Result<OutputFile<'a, R::File>, Exit> {
-    let Ok(file) = OpenOptions::new().write(true).open(rt, name) else {
-        return Err(OUTPUT);
+) -> Result<OutputFile<'a, R::File>, Unwritten> {
+    let file = match OpenOptions::new().write(true).open(rt, name) {
+        Ok(file) => file,
+        Err(error) => return Err(Unwritten::of(&error)),
     };
     match file.metadata() {
         Ok(metadata) if metadata.is_file() => find_file(rt, name, metadata),
         Ok(_) => Ok(OutputFile::Device(file)),
-        Err(_) => Err(OUTPUT),
+        Err(error) => Err(Unwritten::of(&error)),
     }
 }
 
@@ -145,14 +145,14 @@ fn find_file<'a, R: Files + AllocGlobal>(
     rt: &R,
     name: &str,
     old: Metadata,
-) -> Result<OutputFile<'a, R::File>, Exit> {
+) -> Result<OutputFile<'a, R::File>, Unwritten> {
     if may_be_standard(rt, &old) {
-        return Err(OUTPUT);
+        return Err(Unwritten::Standard);
     }
     match fs::symlink_metadata(rt, name) {
         Ok(metadata) if metadata.is_symlink() => find_target(rt, name, old),
         Ok(_) => beside(rt, name, Some(old)),
-        Err(_) => Err(OUTPUT),
+        Err(error) => Err(Unwritten::of(&error)),
     }
 }
 
@@ -161,11 +161,10 @@ fn find_target<'a, R: Files + AllocGlobal>(
     rt: &R,
     name: &str,
     old: Metadata,
-) -> Result<OutputFile<'a, R::File>, Exit> {
+) -> Result<OutputFile<'a, R::File>, Unwritten> {
     match fs::canonicalize(rt, name) {
         Ok(path) => beside(rt, path.as_path().as_str(), Some(old)),
-        Err(error) if error.kind() == ErrorKind::OutOfMemory => Err(Exit::Run(RunFault::Memory)),
-        Err(_) => Err(OUTPUT),
+        Err(error) => Err(Unwritten::of(&error)),
     }
 }
 
@@ -174,23 +173,24 @@ fn beside<'a, R: Files + AllocGlobal>(
     rt: &R,
     name: &str,
     old: Option<Metadata>,
-) -> Result<OutputFile<'a, R::File>, Exit> {
+) -> Result<OutputFile<'a, R::File>, Unwritten> {
     match NewFile::of(rt.alloc(), name, old) {
         Ok(new) => Ok(OutputFile::File(new)),
-        Err(_) => Err(Exit::Run(RunFault::Memory)),
+        Err(_) => Err(Unwritten::Memory),
     }
 }
 
 /// Opens a pipe for its text.
-pub fn open_pipe<R: Files>(rt: &R, name: &str) -> Result<R::File, Exit> {
-    let Ok(pipe) = OpenOptions::new().write(true).open(rt, name) else {
-        return Err(OUTPUT);
+pub fn open_pipe<R: Files>(rt: &R, name: &str) -> Result<R::File, Unwritten> {
+    let pipe = match OpenOptions::new().write(true).open(rt, name) {
+        Ok(pipe) => pipe,
+        Err(error) => return Err(Unwritten::of(&error)),
     };
     match pipe.metadata() {
         Ok(metadata) if metadata.file_type().is_fifo() => Ok(pipe),
         // Another file has the name meanwhile.
-        Ok(_) => Err(OUTPUT),
-        Err(_) => Err(OUTPUT),
+        Ok(_) => Err(Unwritten::System(ErrorKind::NotFound)),
+        Err(error) => Err(Unwritten::of(&error)),
     }
 }
 

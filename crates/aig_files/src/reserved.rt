@@ -1,7 +1,7 @@
 //! The descriptors of the standard streams.
 
 use crate::exit::Exit;
-use crate::new_file::OUTPUT;
+use crate::unwritten::OUTPUT;
 use std::fs::{self, Files};
 
 /// Three open files, which no text is written to or read from. The system gives a new file the lowest descriptor that

@@ -9,4 +9,4 @@ mod number;
 pub use fault::{NamesFault, PropertyFault};
 pub use lookup::position_of;
 pub use naming::named;
-pub use number::number_of;
+pub use number::{decimal_of, number_of};

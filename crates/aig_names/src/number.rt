@@ -10,7 +10,7 @@ use itoa::Buffer;
 use std::str;
 
 /// The number whose decimal digits these are. It has no leading zeros and no sign: it is spelled again.
-fn decimal_of(word: &[u8]) -> Option<u32>
+pub fn decimal_of(word: &[u8]) -> Option<u32>
     ensures some { IfSome result (λ n. word.now ≡ decimal n) }
     ensures only { (n : ℕ) → n < 2 ^ 32 → word.now ≡ decimal n → result ≡ Some n }
 {

@@ -42,20 +42,24 @@ pub no_other_resets : (raw : Raw) → HasOtherResets raw raw
 no_other_resets raw = record {
   inputs = refl;
   latches = same_latches raw.latches;
+  outputs = refl;
   bad = refl;
   constraints = refl;
   gates = refl;
   size = refl;
+  symbols = refl;
 }
 
 pub other_resets_back : (raw other : Raw) → HasOtherResets raw other → HasOtherResets other raw
 other_resets_back raw other h = record {
   inputs = sym h.inputs;
   latches = latches_back raw.latches other.latches h.latches;
+  outputs = sym h.outputs;
   bad = sym h.bad;
   constraints = sym h.constraints;
   gates = sym h.gates;
   size = sym h.size;
+  symbols = sym h.symbols;
 }
 
 pub other_reset_more : (raw other : Raw) (lit : ℕ) (w : Tern) → HasOtherResets raw other
@@ -63,10 +67,12 @@ pub other_reset_more : (raw other : Raw) (lit : ℕ) (w : Tern) → HasOtherRese
 other_reset_more raw other lit w h = record {
   inputs = h.inputs;
   latches = latches_restarted lit w raw.latches other.latches h.latches;
+  outputs = h.outputs;
   bad = h.bad;
   constraints = h.constraints;
   gates = h.gates;
   size = h.size;
+  symbols = h.symbols;
 }
 
 module _ (raw other : Raw) (h : HasOtherResets raw other) (start : List Tern) (rows : List (List Tern)) where

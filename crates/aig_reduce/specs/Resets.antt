@@ -8,11 +8,13 @@ use Rattle.aig_parts.specs.declared.raw.Raw.{Raw}
 abbrev pub IsSameLatch : Latch → Latch → Type 0
 IsSameLatch x y = (y.lit ≡ x.lit) × (y.next ≡ x.next)
 
--- the second circuit differs by the resets of its latches, as far as values and verdicts go
+-- the second circuit differs by the resets of its latches, as far as values, verdicts and names go
 pub record HasOtherResets (raw other : Raw) : Type 0 where
   pub inputs : other.inputs ≡ raw.inputs
   pub latches : AllZip IsSameLatch raw.latches other.latches
+  pub outputs : other.outputs ≡ raw.outputs
   pub bad : other.bad ≡ raw.bad
   pub constraints : other.constraints ≡ raw.constraints
   pub gates : other.gates ≡ raw.gates
   pub size : other.max_var ≡ raw.max_var
+  pub symbols : other.symbols ≡ raw.symbols

@@ -13,7 +13,7 @@ use Rattle.aig_sat.specs.declared.proof.fault.ProofFault.TheVariants as proofs
 use Rattle.aig_certificate.specs.declared.fault.StrengthenFault.TheVariants as strengthenings
 use Rattle.aig_names.specs.declared.fault.NamesFault.TheVariants as names
 use Rattle.aig_run.specs.declared.run_fault.RunFault.{RunFault}
-use Rattle.aig_run.specs.declared.run_fault.RunFault.TheVariants.{Circuit, Stimulus, Witness, Bench, Script, Output, Memory}
+use Rattle.aig_run.specs.declared.run_fault.RunFault.TheVariants.{Circuit, Stimulus, Witness, Bench, Script, Shell, Output, Memory}
 use Rattle.aig_run.specs.declared.run_fault.RunFault.TheVariants.{Unroll, Cnf, Select, Reach, Proof, StepProof, Model, Certificate, Strengthen, Names}
 
 -- 3 where memory ran out, or a read or a write failed; 1 for any other refusal
@@ -25,6 +25,7 @@ status_of (Stimulus stimuli.Io) = 3
 status_of (Witness witnesses.Memory) = 3
 status_of (Bench benches.Memory) = 3
 status_of (Script _) = 3
+status_of Shell = 3
 status_of Output = 3
 status_of Memory = 3
 status_of (Unroll unrollings.Memory) = 3

@@ -62,6 +62,9 @@ pub enum RunFault {
     /// The value that is to be explained.
     #[error("why: {0}")]
     Why(WhyFault),
+    /// A line of a session was not read, or its answer not written.
+    #[error("shell: input or output")]
+    Shell,
 }
 
 impl RunFault {
@@ -74,7 +77,7 @@ impl RunFault {
             RunFault::Stimulus(StimFault::Memory | StimFault::Io) => 3,
             RunFault::Witness(WitnessFault::Memory) => 3,
             RunFault::Bench(BenchFault::Memory) => 3,
-            RunFault::Script(_) | RunFault::Output | RunFault::Memory => 3,
+            RunFault::Script(_) | RunFault::Shell | RunFault::Output | RunFault::Memory => 3,
             RunFault::Unroll(UnrollFault::Memory) => 3,
             RunFault::Cnf(CnfFault::Memory) => 3,
             RunFault::Select(SelectFault::Memory) => 3,

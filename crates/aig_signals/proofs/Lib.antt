@@ -1,5 +1,6 @@
 pub mod BitLemmas
 pub mod Defined
+pub mod EntryLemmas
 pub mod Lookups
 pub mod Meaning
 pub mod NameLemmas
@@ -7,4 +8,5 @@ pub mod NamingLemmas
 pub mod RunLemmas
 pub mod SeenLemmas
 pub mod SignalLemmas
+pub mod TableLemmas
 pub mod ValueLemmas

@@ -68,6 +68,16 @@ named_in signals name = find (λ signal. bytes_eq signal.name name) signals
 abbrev pub signal_named : Raw → List ℕ → Option Signal
 signal_named raw name = named_in (signals_of raw) name
 
+-- the earliest position of a section to which a rule gives a name
+abbrev pub place_by : Raw → List ℕ → Kind → Rule → Option ℕ
+place_by raw name kind rule = least (has_name raw name rule kind) (length (literals_of raw kind))
+
+-- the earliest entry of a section that has a name: by its first name, by a further word, or by letter and position
+unfoldable pub entry_in : Raw → List ℕ → Kind → Option ℕ
+entry_in raw name kind =
+    or_else (place_by raw name kind rule.FirstName)
+    (or_else (place_by raw name kind rule.FurtherWord) (place_by raw name kind rule.Position))
+
 -- what a name is that of: first names come first, then vectors, further words, words X[n] to X[m], and letters with
 -- positions
 unfoldable pub literals_called : Raw → List ℕ → Option (List ℕ)

@@ -56,3 +56,10 @@ value_text bits =
     else (if list_all is_unknown bits then 120 ∷ []
     else (if list_all is_known bits then decimal (length bits) ++ (codes "'h" ++ hexadecimal bits)
     else decimal (length bits) ++ (codes "'b" ++ binary bits)))
+
+-- the value as a table shows it, without the width
+unfoldable pub table_text : List (Option Tern) → List ℕ
+table_text bits =
+    if length bits == 1 then binary bits
+    else (if list_all is_unknown bits then 120 ∷ []
+    else (if list_all is_known bits then hexadecimal bits else binary bits))

@@ -12,11 +12,11 @@ mod signal;
 mod text;
 mod value;
 
-pub use lookup::look_up;
+pub use lookup::{entry_named, look_up};
 pub use names::{push_first_name, push_readable};
 pub use naming::SectionNaming;
 pub use run::{Run, runs_of};
-pub use section::{count_of, literal_at};
+pub use section::{SECTIONS, count_of, literal_at};
 pub use signal::{Signal, signals_of};
 pub use text::{Naming, Origin, push_asked_head, push_latches_head, push_origin};
-pub use value::push_value;
+pub use value::{push_table_value, push_value};

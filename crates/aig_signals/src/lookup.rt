@@ -268,3 +268,26 @@ pub fn look_up(
         None => Ok(None),
     }
 }
+
+/// The position of the earliest entry of a section that has a name: by its first name, by a further word, or by its
+/// letter and position, in this order. Linear in the section and its names.
+pub fn entry_named(
+    alloc: Global,
+    circuit: &Circuit,
+    kind: Kind,
+    name: &[u8],
+) -> Result<Option<u32>, Memory>
+    ensures named { IfOk result (λ found. found ≡ spec.entry_in circuit.now name.now kind) }
+    ensures within { IfOk result (λ found. IfSome found (λ p. p < length (literals_of circuit.now kind))) }
+{
+    let mut buffer = Vec::new(alloc);
+    let first = position_in(&mut buffer, circuit, name, Rule::FirstName, kind)?;
+    if let Some(position) = first {
+        return Ok(Some(position));
+    }
+    let further = position_in(&mut buffer, circuit, name, Rule::FurtherWord, kind)?;
+    if let Some(position) = further {
+        return Ok(Some(position));
+    }
+    position_in(&mut buffer, circuit, name, Rule::Position, kind)
+}

@@ -2,7 +2,7 @@
 ghost use Rattle.std.specs.Prelude.{◌≡◌, ◌++◌, ◌∷◌, ◌+◌, ◌<◌, ◌^◌, [], length, decimal, OnOk};
 ghost use Rattle.std.specs.List.{list_all};
 ghost use Rattle.aig_signals.specs.Value as spec;
-ghost use Rattle.aig_signals.specs.Value.{bit_letter, bit_at, bit_number, four_bits, hexadecimal_digit, hexadecimal, binary, value_text};
+ghost use Rattle.aig_signals.specs.Value.{bit_letter, bit_at, bit_number, four_bits, hexadecimal_digit, hexadecimal, binary, value_text, table_text};
 
 use aig_base::{Memory, Tern};
 use itoa::Buffer;
@@ -122,5 +122,23 @@ pub fn push_value(text: &mut Vec<u8>, bits: &[Option<Tern>]) -> Result<(), Memor
         return push_hexadecimal(text, bits);
     }
     push_base(text, bits.len(), b'b')?;
+    push_binary(text, bits)
+}
+
+/// Adds the value of a signal as a table shows it, whose bits are given from bit 0 up: digits of base 16, or the letters
+/// of the bits where some of them are x, or `x` where all are. Of one bit it is `0`, `1` or `x`.
+pub fn push_table_value(text: &mut Vec<u8>, bits: &[Option<Tern>]) -> Result<(), Memory>
+    ensures { OnOk result (text.new.items ≡ text.old.items ++ table_text bits.now) }
+{
+    if bits.len() == 1 {
+        return push_binary(text, bits);
+    }
+    if are_unknown(bits) {
+        text.push(b'x')?;
+        return Ok(());
+    }
+    if are_known(bits) {
+        return push_hexadecimal(text, bits);
+    }
     push_binary(text, bits)
 }

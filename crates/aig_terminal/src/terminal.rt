@@ -9,9 +9,11 @@ use std::io::{self, ErrorKind, Write};
 use std::marker::Model;
 use std::time::Clock;
 
-/// Which of the streams that a run writes to are terminals.
+/// Which of the standard streams are terminals.
 #[derive(Clone, Copy)]
 pub struct Terminals {
+    /// Standard input.
+    pub input: bool,
     /// Standard output.
     pub output: bool,
     /// Standard error.
@@ -23,6 +25,7 @@ pub struct Terminals {
 #[derive(Drop)]
 pub struct Terminal<'a, R> {
     rt: &'a R,
+    is_input: bool,
     is_output: bool,
     progress: Progress<'a, R>,
 }
@@ -40,6 +43,7 @@ impl<'a, R: Clock + Eprint> Terminal<'a, R> {
     {
         Terminal {
             rt,
+            is_input: terminals.input,
             is_output: terminals.output,
             progress: Progress::begin(rt, is_asked_for || terminals.error),
         }
@@ -50,6 +54,11 @@ impl<'a, R: Clock + Eprint> Terminal<'a, R> {
         ensures { result.now ≡ self.now }
     {
         self.rt
+    }
+
+    /// Whether standard input is a terminal, where a person types.
+    pub fn has_person(&self) -> bool {
+        self.is_input
     }
 
     /// Returns the line that says how far the run is.

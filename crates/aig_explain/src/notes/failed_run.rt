@@ -101,6 +101,7 @@ fn explain_fault<R: Files + AllocGlobal + Print + Eprint>(
         RunFault::Names(fault) => explain_names(rt, files, fault),
         RunFault::Property(fault) => explain_property(rt, files.circuit, fault),
         RunFault::Why(fault) => explain_why(rt, files, fault),
+        RunFault::Shell => {}
         RunFault::Output => of_output(rt, files),
         RunFault::Memory => note(rt, MORE_MEMORY),
     }

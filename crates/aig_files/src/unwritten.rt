@@ -1,0 +1,47 @@
+//! Why a file is not written.
+
+use crate::exit::Exit;
+use aig_run::RunFault;
+use std::io::{Error, ErrorKind};
+
+/// How the program ends if it cannot write an output file.
+pub const OUTPUT: Exit = Exit::Run(RunFault::Output);
+
+/// Why a file is not written.
+#[derive(Clone, Copy, PartialEq, Eq, Debug, Drop)]
+pub enum Unwritten {
+    /// No memory was found.
+    Memory,
+    /// The system refuses a call.
+    System(ErrorKind),
+    /// A file has the name that the new file is to have at first.
+    NewExists,
+    /// It is standard output or standard error, or may be one of them.
+    Standard,
+    /// Two names are those of one file.
+    Twice,
+}
+
+impl Unwritten {
+    /// For an error of the system.
+    pub fn of(error: &Error) -> Unwritten {
+        match error.kind() {
+            ErrorKind::OutOfMemory => Unwritten::Memory,
+            kind => Unwritten::System(kind),
+        }
+    }
+
+    /// How the program ends where that is a fault of its own.
+    pub fn exit(self) -> Exit {
+        match self {
+            Unwritten::Memory => Exit::Run(RunFault::Memory),
+            _ => OUTPUT,
+        }
+    }
+}
+
+impl From<Unwritten> for Exit {
+    fn from(why: Unwritten) -> Exit {
+        why.exit()
+    }
+}
