@@ -15,7 +15,8 @@ use Rattle.aig_signals.specs.declared.text.Origin.{Origin}
 use Rattle.aig_signals.specs.state.Naming.{AreNeighbours}
 use Rattle.aig_signals.proofs.NamingLemmas.{section_neighbours, signal_between}
 use Rattle.aig_why.specs.Lines.{AreFrameTexts, AreLineTexts, AreNamed, IsOriginText}
-use Rattle.aig_why.specs.state.Naming.{HasSameSignals, IsNamingOf}
+use Rattle.aig_why.specs.Named.{IsNamingOf}
+use Rattle.aig_why.specs.state.Naming.{HasSameSignals}
 
 -- one frame more, below the others
 pub frame_more : (raw : Raw) (p : CircuitAndRows) (f below : ℕ) (lines : List LineState) (frames : List (List LineState))

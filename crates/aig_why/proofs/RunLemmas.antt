@@ -27,7 +27,7 @@ use Rattle.aig_why.proofs.TextLemmas.{latch_literals}
 use Rattle.aig_why.specs.Why.{IsFrame, least_frame, RefusesRun, Run, run_of, WritesWhy, WritesWhyWitness}
 use Rattle.aig_why.specs.declared.command.Span.{Span}
 use Rattle.aig_why.specs.declared.question.Question.{Question}
-use Rattle.aig_why.specs.state.Naming.{IsNamingOf, NamesNothing}
+use Rattle.aig_why.specs.Named.{IsNamingOf, NamesNothing}
 
 -- frames
 pub frame_below : (asked : Option ℕ) (count t : ℕ) → IsFrame asked count t → t < count

@@ -18,7 +18,8 @@ use Rattle.aig_signals.specs.declared.signal.Signal.{Signal}
 use Rattle.aig_signals.specs.Naming.{SectionNamed, signal_word}
 use Rattle.aig_signals.specs.Text.{asked_head, latches_head, line, named_words, names_none, origin_head}
 use Rattle.aig_why.specs.Lines.{AreBits, AreLineTexts, AreNamed, IsAskedText, IsLineText, IsOriginText, Names, ShowsLine, latches_alone}
-use Rattle.aig_why.specs.state.Naming.{Adds, HasSameSignals, IsNamingOf, NamesNothing, NamesValues}
+use Rattle.aig_why.specs.Named.{IsNamingOf, NamesNothing}
+use Rattle.aig_why.specs.state.Naming.{Adds, HasSameSignals, NamesValues}
 use Rattle.aig_why.proofs.NamingLemmas.{named_none}
 
 -- a line that ends names nothing from then on

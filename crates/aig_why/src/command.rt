@@ -9,7 +9,7 @@ ghost use Rattle.aig_base.specs.Sections.{IsDefined};
 ghost use Rattle.aig_run.specs.Command.{CommandEnds, OfFile};
 ghost use Rattle.aig_why.specs.Why.{ExplainsRun, IsFrame, least_frame, RefusesRun, run_of, WritesWhy, WritesWhyWitness};
 ghost use Rattle.aig_why.specs.state.Asked.{IsAskedAs};
-ghost use Rattle.aig_why.specs.state.Naming.{IsNamingOf, NamesNothing};
+ghost use Rattle.aig_why.specs.Named.{IsNamingOf, NamesNothing};
 
 use crate::lines::text_of;
 use crate::question::Question;

@@ -8,3 +8,6 @@ mod question;
 mod run;
 
 pub use command::{Span, why, why_witness};
+pub use lines::text_of;
+pub use question::Question;
+pub use run::{Frames, Run};

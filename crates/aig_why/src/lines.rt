@@ -10,7 +10,8 @@ ghost use Rattle.aig_causes.specs.Explanation.{HasCome, IsNamed, IsOf, LineState
 ghost use Rattle.aig_signals.specs.declared.signal.Signal.{Signal};
 ghost use Rattle.aig_why.specs.Lines.{AreBits, AreFrameTexts, AreLastTexts, AreLineTexts, AreNamed, IsAskedText, IsOriginText, IsResetValue};
 ghost use Rattle.aig_why.specs.Why.{IsExplanation, run_of};
-ghost use Rattle.aig_why.specs.state.Naming.{Adds, HasSameSignals, IsNamingOf, NamesNothing, NamesValues, StartsBy};
+ghost use Rattle.aig_why.specs.Named.{IsNamingOf, NamesNothing};
+ghost use Rattle.aig_why.specs.state.Naming.{Adds, HasSameSignals, NamesValues, StartsBy};
 
 use crate::question::Question;
 use crate::run::{Frames, Run};
@@ -453,7 +454,7 @@ fn push_last<G: Grid>(
 }
 
 /// The lines that explain literals of a run at a frame, down to another one at most.
-pub(crate) fn text_of<G: Grid>(
+pub fn text_of<G: Grid>(
     alloc: Global,
     run: &Run<G>,
     naming: &mut Naming,

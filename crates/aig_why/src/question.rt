@@ -12,14 +12,18 @@ use std::alloc::Global;
 
 /// Literals that are asked for, from bit 0 up, and what they are called.
 #[derive(Drop)]
-pub(crate) struct Question {
-    pub(crate) name: Bytes,
-    pub(crate) literals: List<Lit>,
+pub struct Question {
+    pub name: Bytes,
+    pub literals: List<Lit>,
 }
 
 impl Question {
     /// The literals that a name means; none where it means none.
-    fn of_name(alloc: Global, circuit: &Circuit, name: &[u8]) -> Result<Option<Question>, Memory>
+    pub fn of_name(
+        alloc: Global,
+        circuit: &Circuit,
+        name: &[u8],
+    ) -> Result<Option<Question>, Memory>
         ensures name { IfOk result (λ found. IfSome found (λ q. q.name ≡ name.now)) }
         ensures means { IfOk result (λ found. IfSome found (λ q. Means circuit.now name.now q.literals)) }
         ensures unknown { IfOk result (λ found. IfNone found (Unknown circuit.now name.now)) }
@@ -36,7 +40,7 @@ impl Question {
     }
 
     /// A bad state property, by its first name.
-    fn of_property(alloc: Global, circuit: &Circuit, property: u32) -> Result<Question, Memory>
+    pub fn of_property(alloc: Global, circuit: &Circuit, property: u32) -> Result<Question, Memory>
         requires { property < length circuit.now.bad }
         ensures question { IfOk result (λ q. IsQuestion circuit.now property None q.name q.literals) }
         ensures range { IfOk result (λ q. All (λ l. variable l ≤ circuit.now.max_var) q.literals) }

@@ -13,21 +13,21 @@ use std::alloc::Global;
 
 /// A run on a bench, and the latches of its circuit with their own resets.
 #[derive(Drop)]
-pub(crate) struct Run<G: Grid> {
-    pub(crate) bench: Bench<G>,
-    pub(crate) latches: Vec<Latch>,
+pub struct Run<G: Grid> {
+    pub bench: Bench<G>,
+    pub latches: Vec<Latch>,
 }
 
 /// The frame that is explained, and the one at which the lines end at the latest.
 #[derive(Clone, Copy)]
-pub(crate) struct Frames {
-    pub(crate) first: u32,
-    pub(crate) last: u32,
+pub struct Frames {
+    pub first: u32,
+    pub last: u32,
 }
 
 impl<G: Grid> Run<G> {
     /// The run of a circuit from a start over some rows.
-    pub(crate) fn new(
+    pub fn new(
         alloc: Global,
         circuit: Circuit,
         start: &[Tern],

@@ -1,31 +1,17 @@
 -- A naming between two lines, and text that becomes longer.
-use Rattle.std.specs.Prelude.{◌≡◌, ℕ, List, ◌++◌, length, map, replicate, None, Some, slice_get}
+use Rattle.std.specs.Prelude.{◌≡◌, ℕ, List, ◌++◌, map, Some, slice_get}
 use Rattle.aig_parts.specs.declared.latch.Latch.{Latch}
 use Rattle.aig_parts.specs.declared.raw.Raw.{Raw}
-use Rattle.aig_parts.specs.declared.symbols.Kind.TheVariants as kinds
 use Rattle.aig_parts.specs.declared.ternary.Tern.{Tern}
 use Rattle.aig_bench.specs.BenchState.{CircuitAndRows, HasValue}
 use Rattle.aig_causes.specs.Causes.{Moment, Sources}
-use Rattle.aig_reduce.specs.Resets.{HasOtherResets}
 use Rattle.aig_signals.specs.declared.text.Naming.{Naming}
-use Rattle.aig_signals.specs.Signals.{section_signals}
 use Rattle.aig_why.specs.Lines.{AreNamed, IsResetValue}
-
--- no input and no latch of the circuit is named
-pub record NamesNothing (raw : Raw) (n : Naming) : Type 0 where
-  pub inputs : n.inputs.values ≡ replicate (length raw.inputs) None
-  pub latches : n.latches.values ≡ replicate (length raw.latches) None
 
 -- these inputs and latches are named, with their values at m
 pub record NamesValues (raw : Raw) (m : Moment) (sources : Sources) (n : Naming) : Type 0 where
   pub inputs : AreNamed raw m raw.inputs sources.inputs n.inputs.values
   pub latches : AreNamed raw m (map (λ x. x.lit) raw.latches) sources.latches n.latches.values
-
--- the naming has the signals of a circuit that the bench runs, but for the resets of its latches
-pub record IsNamingOf (raw : Raw) (pair : CircuitAndRows) (n : Naming) : Type 0 where
-  pub resets : HasOtherResets raw pair.circuit
-  pub inputs : n.inputs.signals ≡ section_signals raw kinds.Input
-  pub latches : n.latches.signals ≡ section_signals raw kinds.Latch
 
 pub record HasSameSignals (old new : Naming) : Type 0 where
   pub inputs : new.inputs.signals ≡ old.inputs.signals

@@ -5,7 +5,7 @@ use Rattle.aig_run.proofs.Files.{reported_as}
 use Rattle.aig_run.specs.declared.run_fault.RunFault.{RunFault}
 use Rattle.aig_run.specs.declared.run_fault.RunFault.TheVariants as run_faults
 use Rattle.aig_why.specs.Why.{ExplainsRun, RefusesRun, Run}
-use Rattle.aig_why.specs.state.Naming.{IsNamingOf}
+use Rattle.aig_why.specs.Named.{IsNamingOf}
 use Rattle.aig_why.proofs.RunLemmas.{asked_with, bench_refused, run_is}
 use Rattle.aig_why.proofs.command.explain.Goals as goal
 

@@ -4,7 +4,8 @@ use Rattle.aig_causes.specs.Causes.{moment}
 use Rattle.aig_causes.specs.Explanation.{HasCome, IsOf, LineState}
 use Rattle.aig_signals.specs.state.Naming.{AreNeighbours}
 use Rattle.aig_why.specs.Lines.{AreLineTexts}
-use Rattle.aig_why.specs.state.Naming.{Adds, HasSameSignals, IsNamingOf, NamesNothing}
+use Rattle.aig_why.specs.Named.{IsNamingOf, NamesNothing}
+use Rattle.aig_why.specs.state.Naming.{Adds, HasSameSignals}
 use Rattle.aig_why.proofs.lines.push_frame.Given as goal
 
 abbrev pub invariant-loop-number : goal.invariant-loop-number

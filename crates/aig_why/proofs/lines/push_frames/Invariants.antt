@@ -3,7 +3,8 @@ use Rattle.aig_parts.specs.declared.raw.Raw.{Raw}
 use Rattle.aig_causes.specs.Causes.{moment}
 use Rattle.aig_causes.specs.Explanation.{HasCome, IsOf, LineState}
 use Rattle.aig_why.specs.Lines.{AreFrameTexts}
-use Rattle.aig_why.specs.state.Naming.{Adds, HasSameSignals, IsNamingOf, NamesNothing}
+use Rattle.aig_why.specs.Named.{IsNamingOf, NamesNothing}
+use Rattle.aig_why.specs.state.Naming.{Adds, HasSameSignals}
 use Rattle.aig_why.proofs.lines.push_frames.Given as goal
 
 abbrev pub invariant-loop-text : goal.invariant-loop-text
