@@ -1,0 +1,4 @@
+pub mod FoldLemmas
+pub mod QuoteLemmas
+pub mod TableLemmas
+pub mod ValueLemmas

@@ -1,0 +1,6 @@
+pub mod Folded
+pub mod Shown
+pub mod Table
+pub mod Value
+pub mod Words
+pub mod state
