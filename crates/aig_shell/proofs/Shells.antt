@@ -1,0 +1,326 @@
+-- How a session over files ends.
+use Rattle.std.proofs.Common.{◌≡◌, ◌⊎◌, inl, inr, ℕ, ◌+◌, ◌*◌, ◌≤◌, ◌<◌, Bool, false, List, [], ◌++◌, length, Option, Some, Result, Ok, Err, refl, sym, ap, subst, ◌∙◌, arith}
+use Rattle.std.specs.Prelude.{None, IfOk, IfErr, OnOk, OnErr}
+use Rattle.std.proofs.lemmas.List.{append-nil}
+use Rattle.aig_bytes.specs.Bytes.{before, after, IsAtEnd, IsBeginning}
+use Rattle.aig_bytes.specs.Flow.{Flow, flow}
+use Rattle.aig_bytes.proofs.WriteLemmas.{after-nil}
+use Rattle.aig_parts.specs.Limits.{cell_limit}
+use Rattle.aig_parts.specs.declared.raw.Raw.{Raw}
+use Rattle.aig_parts.specs.declared.ternary.Tern.{Tern}
+use Rattle.aig_bench.specs.declared.bench.fault.BenchFault.{BenchFault}
+use Rattle.aig_bench.specs.declared.bench.fault.BenchFault.TheVariants as benches
+use Rattle.aig_run.specs.Command.{Got, IsFileOf}
+use Rattle.aig_run.specs.Flushed.{IsFlushed, flushes, fails}
+use Rattle.aig_run.specs.declared.run_fault.RunFault.{RunFault}
+use Rattle.aig_run.specs.declared.run_fault.RunFault.TheVariants as run_faults
+use Rattle.aig_shell.specs.declared.conversation.Conversation.{Conversation}
+use Rattle.aig_shell.specs.declared.session.Session.{Session}
+use Rattle.aig_shell.specs.declared.talk.Line.{Line}
+use Rattle.aig_shell.specs.declared.talk.Talker.{Talker}
+use Rattle.aig_shell.specs.Conversation.{Begun, Passes, Ended, BreaksDown, Begins, BeginsSession, EndsShell, HoldsSession, IsAt, OpensSession, RefusesFiles, RefusesRows, RefusesText}
+use Rattle.aig_shell.specs.Files.{KeptText}
+use Rattle.aig_shell.specs.Session.{BeginsAt, IsIn, IsSession, first_state}
+use Rattle.aig_shell.specs.State.{SessionState}
+use Rattle.aig_shell.specs.Talking.{Moment, HoldsLine, Done, Part, EndsInput}
+
+-- what passes, as values
+abbrev pub passes_of : {Y X Z : Type 0} → Flow Y → Flow X → (Z → Option (List (List KeptText))) → Z → Z → Passes Y X Z
+passes_of reader out kept files files_after =
+    record { reader = reader; out = out; kept = kept; files = files; files_after = files_after }
+
+module _ {Y X Z : Type 0} (left : Y → Option (List ℕ)) (read_failures : Y → ℕ) (written : X → Option (List ℕ)) (failures : X → ℕ)
+    (kept : Z → Option (List (List KeptText))) (reader reader' : Y) (files files' : Z) (old mid new : X)
+    (same : written new ≡ written mid) (person : Bool) (s : SessionState) where
+  -- a flush after all
+  ended_on : failures new ≡ failures mid
+      → Ended (passes_of (flow left read_failures reader reader') (flow written failures old mid) kept files files') person s
+      → Ended (passes_of (flow left read_failures reader reader') (flow written failures old new) kept files files') person s
+  ended_on count e = record {
+    input = e.input;
+    text = e.text;
+    texts = e.texts;
+    quits = e.quits;
+    talk = e.talk;
+    read = e.read;
+    whole = e.whole;
+    got = record { got = same ∙ e.got.got; count = count ∙ e.got.count };
+    kept = e.kept;
+  }
+
+  -- it fails
+  ended_breaks : failures new ≡ failures mid + 1
+      → Ended (passes_of (flow left read_failures reader reader') (flow written failures old mid) kept files files') person s
+      → BreaksDown (passes_of (flow left read_failures reader reader') (flow written failures old new) kept files files') person s
+  ended_breaks count e = record {
+    input = e.input;
+    text = e.text;
+    texts = e.texts;
+    quits = e.quits;
+    talk = e.talk;
+    rest = [];
+    read = e.read ∙ ap (λ (i : List ℕ). before i (left reader')) (sym (append-nil e.input));
+    done = e.text;
+    beginning = ([], sym (append-nil e.text));
+    got = same ∙ e.got.got;
+    failed = inr (let c : failures mid ≡ failures old = e.got.count in omega (arith, count, c));
+    kept = e.kept;
+  }
+
+  broken_on : failures new ≡ failures mid
+      → BreaksDown (passes_of (flow left read_failures reader reader') (flow written failures old mid) kept files files') person s
+      → BreaksDown (passes_of (flow left read_failures reader reader') (flow written failures old new) kept files files') person s
+  broken_on count b = record {
+    input = b.input;
+    text = b.text;
+    texts = b.texts;
+    quits = b.quits;
+    talk = b.talk;
+    rest = b.rest;
+    read = b.read;
+    done = b.done;
+    beginning = b.beginning;
+    got = same ∙ b.got;
+    failed = elim b.failed [
+      | inl (more, unfailed) ↦ inl (more, count ∙ unfailed)
+      | inr more ↦ inr (omega (arith, count, more))
+    ];
+    kept = b.kept;
+  }
+
+  broken_breaks : failures new ≡ failures mid + 1
+      → BreaksDown (passes_of (flow left read_failures reader reader') (flow written failures old mid) kept files files') person s
+      → BreaksDown (passes_of (flow left read_failures reader reader') (flow written failures old new) kept files files') person s
+  broken_breaks count b = record {
+    input = b.input;
+    text = b.text;
+    texts = b.texts;
+    quits = b.quits;
+    talk = b.talk;
+    rest = b.rest;
+    read = b.read;
+    done = b.done;
+    beginning = b.beginning;
+    got = same ∙ b.got;
+    failed = elim b.failed [
+      | inl (more, unfailed) ↦ inr (omega (arith, count, unfailed))
+      | inr more ↦ inr (omega (arith, count, more))
+    ];
+    kept = b.kept;
+  }
+
+module _ {Y X Z : Type 0} (left : Y → Option (List ℕ)) (read_failures : Y → ℕ) (written : X → Option (List ℕ)) (failures : X → ℕ)
+    (kept : Z → Option (List (List KeptText))) (reader reader' : Y) (files files' : Z) (old mid new : X)
+    (person : Bool) (file : List ℕ) (begun : Begun) where
+  -- the flush after a session
+  pub shell_flushed : (done result : Result (Unit {0}) RunFault)
+      → EndsShell (passes_of (flow left read_failures reader reader') (flow written failures old mid) kept files files') person file begun done
+      → IsFlushed (flow written failures mid new) run_faults.Shell done result
+      → EndsShell (passes_of (flow left read_failures reader reader') (flow written failures old new) kept files files') person file begun result
+  shell_flushed (Ok x) result (raw, is, (start, rows, pair, begins, at, e)) (flushes same count) =
+      (raw, is, (start, rows, pair, begins, at, ended_on left read_failures written failures kept reader reader' files files' old mid new same person _ count e))
+  shell_flushed (Ok x) result (raw, is, (start, rows, pair, begins, at, e)) (fails same count) =
+      inr (refl, inl (raw, is, (start, rows, pair, begins, at, ended_breaks left read_failures written failures kept reader reader' files files' old mid new same person _ count e)))
+  shell_flushed (Err fault) result (inl (refused, (reads, got, keeps))) (flushes same count) =
+      inl (refused, (reads, record { got = same ∙ got.got; count = count ∙ got.count }, keeps))
+  shell_flushed (Err fault) result (inl (refused, (reads, got, keeps))) (fails same count) =
+      inr (
+        refl,
+        inr (record {
+          reader = reads;
+          got = same ∙ got.got ∙ after-nil (written old);
+          failed = let c : failures mid ≡ failures old = got.count in omega (arith, count, c);
+          kept = keeps;
+        }),
+      )
+  shell_flushed (Err fault) result (inr (is_shell, inl (raw, is, (start, rows, pair, begins, at, b)))) (flushes same count) =
+      inr (is_shell, inl (raw, is, (start, rows, pair, begins, at, broken_on left read_failures written failures kept reader reader' files files' old mid new same person _ count b)))
+  shell_flushed (Err fault) result (inr (is_shell, inl (raw, is, (start, rows, pair, begins, at, b)))) (fails same count) =
+      inr (refl, inl (raw, is, (start, rows, pair, begins, at, broken_breaks left read_failures written failures kept reader reader' files files' old mid new same person _ count b)))
+  shell_flushed (Err fault) result (inr (is_shell, inr o)) (flushes same count) =
+      inr (
+        is_shell,
+        inr (record {
+          reader = o.reader;
+          got = same ∙ o.got;
+          failed = let more : failures old < failures mid = o.failed in omega (arith, count, more);
+          kept = o.kept;
+        }),
+      )
+  shell_flushed (Err fault) result (inr (is_shell, inr o)) (fails same count) =
+      inr (
+        refl,
+        inr (record {
+          reader = o.reader;
+          got = same ∙ o.got;
+          failed = let more : failures old < failures mid = o.failed in omega (arith, count, more);
+          kept = o.kept;
+        }),
+      )
+
+  -- no call fails fewer times than before
+  more_failures : (done : Result (Unit {0}) RunFault)
+      → EndsShell (passes_of (flow left read_failures reader reader') (flow written failures old mid) kept files files') person file begun done
+      → failures old ≤ failures mid
+  more_failures (Ok x) (raw, is, (start, rows, pair, begins, at, e)) =
+      let c : failures mid ≡ failures old = e.got.count in omega (arith, c)
+  more_failures (Err fault) (inl (refused, (reads, got, keeps))) =
+      let c : failures mid ≡ failures old = got.count in omega (arith, c)
+  more_failures (Err fault) (inr (is_shell, inl (raw, is, (start, rows, pair, begins, at, b)))) =
+      elim b.failed [
+        | inl (more, unfailed) ↦ (let c : failures mid ≡ failures old = unfailed in omega (arith, c))
+        | inr more ↦ (let c : failures old < failures mid = more in omega (arith, c))
+      ]
+  more_failures (Err fault) (inr (is_shell, inr o)) =
+      let more : failures old < failures mid = o.failed in omega (arith, more)
+
+  pub shell_unfailed : (done result : Result (Unit {0}) RunFault)
+      → EndsShell (passes_of (flow left read_failures reader reader') (flow written failures old mid) kept files files') person file begun done
+      → IsFlushed (flow written failures mid new) run_faults.Shell done result → failures new ≡ failures old
+      → failures new ≡ failures mid
+  shell_unfailed done result e (flushes same count) all = count
+  shell_unfailed done result e (fails same count) all =
+      let more = more_failures done e in omega (arith, count, more, all)
+
+module _ {Y X Z : Type 0} (left : Y → Option (List ℕ)) (read_failures : Y → ℕ) (written : X → Option (List ℕ)) (failures : X → ℕ)
+    (kept : Z → Option (List (List KeptText))) (reader reader' : Y) (files files' : Z) (out out' : X) (person : Bool) (s : SessionState) where
+  abbrev pub start_of_all : Moment
+  start_of_all = record { bytes = written out; failures = failures out; kept = kept files }
+
+  abbrev pub end_of_all : Moment
+  end_of_all = record { bytes = written out'; failures = failures out'; kept = kept files' }
+
+  pub ended_done : (input : List ℕ) (quits : Bool) → Done start_of_all end_of_all person s input quits
+      → left reader ≡ before input (left reader') → (quits ≡ false → IsAtEnd (left reader'))
+      → Ended (passes_of (flow left read_failures reader reader') (flow written failures out out') kept files files') person s
+  ended_done input quits d read whole = record {
+    input = input;
+    text = d.text;
+    texts = d.calls;
+    quits = quits;
+    talk = d.talk;
+    read = read;
+    whole = whole;
+    got = record { got = d.got; count = d.count };
+    kept = d.kept;
+  }
+
+  pub breaks_part : (input : List ℕ) → Part start_of_all end_of_all person s input
+      → left reader ≡ before input (left reader')
+      → ((read_failures reader < read_failures reader') × (failures out' ≡ failures out)) ⊎ (failures out < failures out')
+      → BreaksDown (passes_of (flow left read_failures reader reader') (flow written failures out out') kept files files') person s
+  breaks_part input p read failed = record {
+    input = p.part;
+    text = p.text;
+    texts = p.calls;
+    quits = p.quits;
+    talk = p.talk;
+    rest = p.rest;
+    read = read ∙ ap (λ (i : List ℕ). before i (left reader')) p.input_is;
+    done = p.done;
+    beginning = p.beginning;
+    got = p.got;
+    failed = failed;
+    kept = p.kept;
+  }
+
+-- ---- the session of files
+
+-- a fault of a bench is that of its rows
+pub rows_refused : {T : Type 0} (r : Result T BenchFault) (raw : Raw) (rows : List (List Tern)) (fault : BenchFault) → r ≡ Err fault
+    → (r ≡ Err benches.Width → ⊥) → (r ≡ Err benches.Limit → cell_limit < (raw.max_var + 1) * length rows)
+    → RefusesRows raw rows (run_faults.Bench fault)
+rows_refused r raw rows benches.Width is never limit = absurd (never is)
+rows_refused r raw rows benches.Limit is never limit = limit is
+rows_refused r raw rows benches.Memory is never limit = tt
+
+pub begins_session : (raw : Raw) (start given_start : List Tern) (rows : List (List Tern)) (r : Result Session RunFault)
+    → given_start ≡ start → IfOk r IsSession → IfOk r (λ s. BeginsAt raw given_start rows s.run.bench.pair)
+    → IfOk r (λ s. IsIn s (first_state raw s.run.bench.pair)) → IfOk r (BeginsSession raw start rows)
+begins_session raw start given_start rows (Err e) same a b c = tt
+begins_session raw start given_start rows (Ok s) same a b c =
+    (a, subst (λ (v : List Tern). BeginsAt raw v rows s.run.bench.pair) same b, c)
+
+pub opens : (file : List ℕ) (begun kind : Begun) (raw : Raw) (start : List Tern) (rows : List (List Tern)) (r : Result Session RunFault)
+    → begun ≡ kind → IsFileOf file raw → Begins raw kind start rows → IfOk r (BeginsSession raw start rows)
+    → IfOk r (OpensSession file begun)
+opens file begun kind raw start rows (Err e) same is begins h = tt
+opens file begun kind raw start rows (Ok s) same is begins h =
+    subst (λ (g : Begun). OpensSession file g s) (sym same) (raw, is, (start, rows, begins, h))
+
+pub refuses : (file : List ℕ) (begun kind : Begun) (raw : Raw) (start : List Tern) (rows : List (List Tern)) (r : Result Session RunFault)
+    → begun ≡ kind → IsFileOf file raw → Begins raw kind start rows → IfErr r (RefusesRows raw rows) → IfErr r (RefusesFiles file begun)
+refuses file begun kind raw start rows (Ok s) same is begins h = tt
+refuses file begun kind raw start rows (Err e) same is begins h =
+    subst (λ (g : Begun). RefusesFiles file g e) (sym same) (inr (raw, is, inr (start, rows, begins, h)))
+
+pub refuses_text : (file : List ℕ) (begun kind : Begun) (raw : Raw) (fault : RunFault) → begun ≡ kind → IsFileOf file raw
+    → RefusesText raw kind fault → RefusesFiles file begun fault
+refuses_text file begun kind raw fault same is h =
+    subst (λ (g : Begun). RefusesFiles file g fault) (sym same) (inr (raw, is, inl h))
+
+-- ---- the session of lines
+
+module _ {Y X Z : Type 0} (passes : Passes Y X Z) (person : Bool) (file : List ℕ) (begun : Begun) where
+  pub holds_session : (Ends : Passes Y X Z → Bool → SessionState → Type 0) (session : Session) (c : Conversation) (t : Talker)
+      → OpensSession file begun session → c.session ≡ session → c.has_warned ≡ false → t.conversation ≡ c → t.has_prompt ≡ person
+      → HoldsLine [] t.line → ((s : SessionState) → IsAt t.conversation s → HoldsLine [] t.line → Ends passes t.has_prompt s)
+      → (raw : Raw) × IsFileOf file raw × HoldsSession passes person raw begun Ends
+  holds_session Ends session c t (raw, is, (start, rows, begins, (sound, at, inside))) same calm talks prompts line ends =
+      let state = first_state raw session.run.bench.pair in
+      let of_session : IsAt c state
+      = record {
+        session = subst IsSession (sym same) sound;
+        state = subst (λ (s : Session). IsIn s state) (sym same) inside;
+        warned = sym calm;
+      } in (
+        raw,
+        is,
+        (
+          start,
+          rows,
+          session.run.bench.pair,
+          begins,
+          at,
+          subst (λ (b : Bool). Ends passes b state) prompts (ends state (subst (λ (d : Conversation). IsAt d state) (sym talks) of_session) line),
+        ),
+      )
+
+module _ {Y X Z : Type 0} (left : Y → Option (List ℕ)) (read_failures : Y → ℕ) (written : X → Option (List ℕ)) (failures : X → ℕ)
+    (kept : Z → Option (List (List KeptText))) (reader : Y) (files : Z) (out : X) (person : Bool) (file : List ℕ) (begun : Begun) where
+  -- nothing passes before a refusal
+  pub shell_refused : (fault : RunFault) → RefusesFiles file begun fault
+      → EndsShell (passes_of (flow left read_failures reader reader) (flow written failures out out) kept files files) person file begun (Err fault)
+  shell_refused fault h = inl (h, (refl, record { got = sym (after-nil (written out)); count = refl }, refl))
+
+-- ---- the end of the input
+
+module _ {Y X Z : Type 0} (left : Y → Option (List ℕ)) (read_failures : Y → ℕ) (written : X → Option (List ℕ)) (failures : X → ℕ)
+    (kept : Z → Option (List (List KeptText))) (reader reader' : Y) (files files' : Z) (out out' : X) (person : Bool)
+    (c : Conversation) (line : Line) where
+  -- so far the input gives this
+  abbrev pub Gives : (SessionState → List ℕ → Type 0) → Type 0
+  Gives P =
+      (s : SessionState) → IsAt c s → HoldsLine [] line
+      → (input : List ℕ) × (left reader ≡ before input (left reader')) × P s input
+
+  pub ends_ok : {E : Type 0} (result : Result (Unit {0}) E)
+      → Gives (λ s input. EndsInput (record { bytes = written out; failures = failures out; kept = kept files })
+      (record { bytes = written out'; failures = failures out'; kept = kept files' }) person s input result)
+      → IsAtEnd (left reader')
+      → OnOk result ((s : SessionState) → IsAt c s → HoldsLine [] line
+      → Ended (passes_of (flow left read_failures reader reader') (flow written failures out out') kept files files') person s)
+  ends_ok (Err e) g end = tt
+  ends_ok (Ok x) g end = λ s at h.
+      let (input, read, (quits, d)) = g s at h in
+      ended_done left read_failures written failures kept reader reader' files files' out out' person s input quits d read (λ q. end)
+
+  pub ends_broken : {A E : Type 0} (result : Result A E)
+      → Gives (λ s input. EndsInput (record { bytes = written out; failures = failures out; kept = kept files })
+      (record { bytes = written out'; failures = failures out'; kept = kept files' }) person s input result)
+      → OnErr result ((s : SessionState) → IsAt c s → HoldsLine [] line
+      → BreaksDown (passes_of (flow left read_failures reader reader') (flow written failures out out') kept files files') person s)
+  ends_broken (Ok x) g = tt
+  ends_broken (Err e) g = λ s at h.
+      let (input, read, (p, more)) = g s at h in
+      breaks_part left read_failures written failures kept reader reader' files files' out out' person s input p read (inr more)

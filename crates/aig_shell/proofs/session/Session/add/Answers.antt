@@ -1,0 +1,17 @@
+use Rattle.std.proofs.Common.{length, ap, refl, ◌∙◌}
+use Rattle.std.specs.Prelude.{option_map}
+use Rattle.aig_bench.specs.BenchState.{BenchState}
+use Rattle.aig_shell.proofs.Impossible.{no_add, no_room}
+use Rattle.aig_shell.proofs.Sessions.{session_kept}
+use Rattle.aig_shell.proofs.session.Session.add.Goals as goal
+
+pub returns-then-not-fits-clause-edits : goal.returns-then-not-fits-clause-edits
+returns-then-not-fits-clause-edits c = (
+  λ other. no_add c.args.self.now.run.bench.pair (option_map (λ w. w.now) c.args.count) c.in_ok-count.count c.in_ok-count.ensures.ok c.in_ok-count.ensures.some
+      (no_room c.args.self.now.run.bench.pair.circuit _ (length c.args.self.now.run.bench.pair.rows) c.frames.result c.in_ok-count.count c.fits.result c.circuit.ensures
+      (c.frames.ensures ∙ ap (λ (b : BenchState). length b.pair.rows) c.bench.ensures) c.if-not-fits.true c.fits.ensures),
+  refl,
+)
+
+pub returns-clause-session : goal.returns-clause-session
+returns-clause-session c = session_kept _ _ _ c.requires.session (record { latches = refl; signals = refl; first = refl; kept = refl }) c.in_ok-add_frames.ensures.done

@@ -1,0 +1,42 @@
+use Rattle.std.proofs.Common.{Err, List, All, refl, sym, subst, ◌∙◌}
+use Rattle.std.specs.List.{AllZip}
+use Rattle.aig_parts.specs.declared.latch.Latch.{Latch}
+use Rattle.aig_base.specs.Sound.{IsReset}
+use Rattle.aig_reduce.specs.Resets.{IsSameLatch}
+use Rattle.aig_shell.proofs.Kept.{alike_signals}
+use Rattle.aig_run.proofs.Files.{reported_as}
+use Rattle.aig_run.specs.declared.run_fault.RunFault.TheVariants as run_faults
+use Rattle.aig_shell.specs.Conversation.{RefusesRows}
+use Rattle.aig_shell.proofs.Shells.{rows_refused}
+use Rattle.aig_shell.proofs.session.Session.new.Goals as goal
+
+pub returns-clause-session : goal.returns-clause-session
+returns-clause-session c =
+    let circuit = c.in_ok-run.run'.bench.pair.circuit in
+    record {
+      signals = c.in_ok-signals.ensures ∙ sym (alike_signals c.args.circuit circuit c.in_ok-run.ensures.resets);
+      latches = subst (λ (own : List Latch). AllZip IsSameLatch own circuit.latches) (sym c.in_ok-run.ensures.latches)
+          c.in_ok-run.ensures.resets.latches;
+      resets = subst (All IsReset) (sym c.in_ok-run.ensures.latches) c.facts.ensures.sound.resets;
+    }
+
+pub returns-in_err-signals-clause-refused : goal.returns-in_err-signals-clause-refused
+returns-in_err-signals-clause-refused c =
+    reported_as c.from_residual.result run_faults.Memory (RefusesRows c.args.circuit c.args.rows.rows) c.from_residual.ensures.1 tt
+
+pub returns-in_err-run-clause-refused : goal.returns-in_err-run-clause-refused
+returns-in_err-run-clause-refused c =
+    let fault = c.in_err-run.field-0.0 in
+    reported_as c.from_residual-in_err-run.result (run_faults.Bench fault) (RefusesRows c.args.circuit c.args.rows.rows)
+    c.from_residual-in_err-run.ensures.1
+    (rows_refused (Err fault) c.args.circuit c.args.rows.rows fault refl c.in_err-run.ensures.width c.in_err-run.ensures.limit)
+
+pub returns-in_err-first-clause-refused : goal.returns-in_err-first-clause-refused
+returns-in_err-first-clause-refused c =
+    reported_as c.from_residual-in_err-first.result run_faults.Memory (RefusesRows c.args.circuit c.args.rows.rows)
+    c.from_residual-in_err-first.ensures.1 tt
+
+pub returns-in_err-kept-clause-refused : goal.returns-in_err-kept-clause-refused
+returns-in_err-kept-clause-refused c =
+    reported_as c.from_residual-in_err-kept.result run_faults.Memory (RefusesRows c.args.circuit c.args.rows.rows)
+    c.from_residual-in_err-kept.ensures.1 tt

@@ -1,0 +1,170 @@
+-- What a line does to a session, what is answered, and what is written to files (our own choice).
+use Rattle.std.specs.Prelude.{◌≡◌, ◌≢◌, ◌⊎◌, ◌+◌, ◌-◌, ◌*◌, ℕ, if◌then◌else◌, Bool, true, false, IsTrue, List, [], ◌∷◌, ◌++◌, length, map, codes, decimal, Option, None, Some, slice_get}
+use Rattle.std.specs.Str.{bytes_eq}
+use Rattle.aig_parts.specs.declared.raw.Raw.{Raw}
+use Rattle.aig_parts.specs.declared.symbols.Kind.TheVariants.{Bad}
+use Rattle.aig_base.specs.Value.{start_of}
+use Rattle.aig_bench.specs.BenchState.{CircuitAndRows}
+use Rattle.aig_dump_header.specs.Names.{words}
+use Rattle.aig_signals.specs.Lookup.{Means, alone}
+use Rattle.aig_signals.specs.Names.{first_name, position_name}
+use Rattle.aig_why.specs.Why.{run_of}
+use Rattle.aig_sim.specs.Reached.{IsFirstReached}
+use Rattle.aig_prompt.specs.Table.{TableRow, IsTable}
+use Rattle.aig_prompt.specs.Words.{spaced_byte}
+use Rattle.aig_shell.specs.Edits.{AreFrames, Does}
+use Rattle.aig_shell.specs.Explained.{Explains, IsFrameOrLast}
+use Rattle.aig_shell.specs.Files.{KeptText, saved, IsWitnessed, IsWave}
+use Rattle.aig_shell.specs.Request as request
+use Rattle.aig_shell.specs.Request.{Request, show, why_first, why, set, start, add, gate, rewire, append, out, check, diff, save, witness, wave, list_names, help, quit, request_words, IsRequest, IsNoRequest}
+use Rattle.aig_shell.specs.Standing.{IsStanding, standing_text}
+use Rattle.aig_shell.specs.State.{SessionState, circuit_of}
+use Rattle.aig_shell.specs.Tables.{IsShown}
+use Rattle.aig_shell.specs.declared.check.Standing.{Standing}
+
+-- ---- frames that are shown where none are named
+
+-- the last 64 of so many
+abbrev pub ShowsFrames : Option (List ℕ) → ℕ → ℕ → ℕ → Type 0
+ShowsFrames None count first last = (last + 1 ≡ count) × (first ≡ count - 64)
+ShowsFrames (Some word) count first last = AreFrames word count first last
+
+-- ---- answers
+
+-- the properties from k on, each with what is said of it
+unfoldable pub AreStandings : Raw → CircuitAndRows → ℕ → List ℕ → List Standing → Type 0
+AreStandings raw p k [] [] = Unit {0}
+AreStandings raw p k (l ∷ literals) (standing ∷ more) = IsStanding raw p k l standing × AreStandings raw p (k + 1) literals more
+AreStandings raw p k _ _ = ⊥
+
+-- `b0` and the first name, where the property has one
+abbrev pub property_name : Raw → ℕ → List ℕ
+property_name raw k =
+    if bytes_eq (first_name raw Bad k) (position_name Bad k) then position_name Bad k
+    else position_name Bad k ++ 32 ∷ first_name raw Bad k
+
+unfoldable pub standings_text : Raw → ℕ → List Standing → List ℕ
+standings_text raw k [] = []
+standings_text raw k (standing ∷ more) =
+    property_name raw k ++ (codes ": " ++ (standing_text standing ++ 10 ∷ standings_text raw (k + 1) more))
+
+-- a line for each property, and then why the run is none of the circuit
+abbrev pub IsChecked : SessionState → List ℕ → Type 0
+IsChecked s text =
+    (standings : List Standing) × (reasons : List ℕ) × AreStandings (circuit_of s) s.pair 0 s.pair.circuit.bad standings
+    × (text ≡ standings_text s.pair.circuit 0 standings ++ reasons)
+
+-- ---- what a line does
+
+-- nothing, but that a `quit` before it does not count
+abbrev pub calm : SessionState → SessionState
+calm s = record s { has_warned = false }
+
+-- an edit of the run, and one of the circuit
+abbrev pub EditsRun : SessionState → Request → SessionState → Type 0
+EditsRun s r after = (q : CircuitAndRows) × Does s.pair r q × (after ≡ record s { pair = q; has_warned = false })
+
+abbrev pub EditsCircuit : SessionState → Request → SessionState → Type 0
+EditsCircuit s r after =
+    (q : CircuitAndRows) × Does s.pair r q × (after ≡ record s { pair = q; has_edited_circuit = true; has_warned = false })
+
+-- the run starts as the resets of the file say
+abbrev pub StartsByReset : SessionState → Type 0
+StartsByReset s = start_of s.pair.circuit ≡ start_of (circuit_of s)
+
+-- the circuit is written, and with its rows the run, if it starts by the resets
+abbrev pub IsAfterSave : SessionState → Option (List ℕ) → SessionState → Type 0
+IsAfterSave s None after = after ≡ record s { has_edited_circuit = false; has_warned = false }
+IsAfterSave s (Some stimulus) after =
+    (StartsByReset s → after ≡ record s { kept = run_of s.pair; has_edited_circuit = false; has_warned = false })
+    × ((StartsByReset s → ⊥) → after ≡ record s { has_edited_circuit = false; has_warned = false })
+
+-- What a request answers, which files it writes at once, and what it leaves. Only tested are the words of `gate`, `names` and
+-- `help`, the notes above a table, and the table of `diff`.
+abbrev pub Answers : SessionState → Request → List ℕ → List KeptText → SessionState → Type 0
+Answers s (show names frames) text texts after =
+    (first : ℕ) × (last : ℕ) × (rows : List TableRow) × (note : List ℕ) × (table : List ℕ)
+    × ShowsFrames frames (length s.pair.rows) first last × IsShown s.pair first (last + 1 - first) names rows
+    × IsTable first (last + 1 - first) rows table × (text ≡ note ++ table) × (texts ≡ []) × (after ≡ calm s)
+Answers s why_first text texts after =
+    (t : ℕ) × (k : ℕ) × (l : ℕ) × IsFirstReached (circuit_of s) (start_of s.pair.circuit) s.pair.rows None t k
+    × (slice_get s.pair.circuit.bad k ≡ Some l)
+    × Explains (circuit_of s) (run_of s.pair) (first_name s.pair.circuit Bad k) (alone l) t text × (texts ≡ []) × (after ≡ calm s)
+Answers s (why name frame) text texts after =
+    (t : ℕ) × (literals : List ℕ) × IsFrameOrLast frame (length s.pair.rows) t × Means s.pair.circuit name literals
+    × Explains (circuit_of s) (run_of s.pair) name literals t text × (texts ≡ []) × (after ≡ calm s)
+Answers s (set frames name value) text texts after = EditsRun s (set frames name value) after × (text ≡ []) × (texts ≡ [])
+Answers s (start name value) text texts after = EditsRun s (start name value) after × (text ≡ []) × (texts ≡ [])
+Answers s (add count) text texts after = EditsRun s (add count) after × (text ≡ []) × (texts ≡ [])
+Answers s (request.drop count) text texts after = EditsRun s (request.drop count) after × (text ≡ []) × (texts ≡ [])
+Answers s (gate name) text texts after =
+    (literal : ℕ) × Means s.pair.circuit name (alone literal) × (texts ≡ []) × (after ≡ calm s)
+Answers s (rewire name side0 side1) text texts after = EditsCircuit s (rewire name side0 side1) after × (texts ≡ [])
+Answers s (append side0 side1) text texts after =
+    EditsCircuit s (append side0 side1) after × (text ≡ decimal (2 * (s.pair.circuit.max_var + 1)) ++ 10 ∷ []) × (texts ≡ [])
+Answers s (out name literal) text texts after = EditsCircuit s (out name literal) after × (text ≡ []) × (texts ≡ [])
+Answers s check text texts after = IsChecked s text × (texts ≡ []) × (after ≡ calm s)
+Answers s (diff frames) text texts after = (texts ≡ []) × (after ≡ calm s)
+Answers s (save circuit stimulus) text texts after = (texts ≡ saved s circuit stimulus) × IsAfterSave s stimulus after
+Answers s (witness file name) text texts after =
+    IsWitnessed s file name texts × (after ≡ record s { kept = run_of s.pair; has_warned = false })
+Answers s (wave file) text texts after = IsWave s file texts × (after ≡ calm s)
+Answers s (list_names part) text texts after = (texts ≡ []) × (after ≡ calm s)
+Answers s (help command) text texts after = (texts ≡ []) × (after ≡ calm s)
+Answers s quit text texts after = ⊥
+
+-- an answer that begins with `no: `; what follows is only tested
+abbrev pub IsRefusal : List ℕ → Type 0
+IsRefusal text = (what : List ℕ) × (text ≡ codes "no: " ++ what)
+
+-- a request has no answer in this state; a file may always be refused
+abbrev pub HasNoAnswer : SessionState → Request → Type 0
+HasNoAnswer s (save circuit stimulus) = Unit {0}
+HasNoAnswer s (witness file name) = Unit {0}
+HasNoAnswer s (wave file) = Unit {0}
+HasNoAnswer s (help command) = Unit {0}
+HasNoAnswer s (list_names part) = Unit {0}
+HasNoAnswer s (diff frames) = Unit {0}
+HasNoAnswer s r = (text : List ℕ) (texts : List KeptText) (after : SessionState) → Answers s r text texts after → ⊥
+
+-- something would be lost at the end
+abbrev pub IsUnsaved : SessionState → Type 0
+IsUnsaved s = IsTrue s.has_edited_circuit ⊎ (run_of s.pair ≢ s.kept)
+
+-- whether a `quit` ends the session: where nothing would be lost, or after another that said so
+abbrev pub EndsAt : SessionState → Bool → List ℕ → SessionState → Type 0
+EndsAt s true text after = (IsTrue s.has_warned ⊎ (IsUnsaved s → ⊥)) × (text ≡ []) × (after ≡ calm s)
+EndsAt s false text after =
+    IsUnsaved s × (s.has_warned ≡ false) × ((what : List ℕ) × (text ≡ codes "unsaved: " ++ what))
+    × (after ≡ record s { has_warned = true })
+
+-- what the words of a line do; whether it ends the session
+abbrev pub AnswersRequest : SessionState → Request → List ℕ → List KeptText → Bool → SessionState → Type 0
+AnswersRequest s quit text texts ends after = EndsAt s ends text after × (texts ≡ [])
+AnswersRequest s r text texts ends after =
+    (ends ≡ false) × (Answers s r text texts after ⊎ (HasNoAnswer s r × IsRefusal text × (texts ≡ []) × (after ≡ calm s)))
+
+-- the words of a line; a tab and a CR are as a space
+abbrev pub line_words : List ℕ → List (List ℕ)
+line_words line = words (map spaced_byte line)
+
+-- no words, or a comment
+abbrev pub IsSilent : List (List ℕ) → Type 0
+IsSilent ws = (ws ≡ []) ⊎ ((rest : List ℕ) × (more : List (List ℕ)) × (ws ≡ (35 ∷ rest) ∷ more))
+
+-- memory was wanting: the line did nothing
+abbrev pub LacksMemory : SessionState → List ℕ → List KeptText → Bool → SessionState → Type 0
+LacksMemory s text texts ends after =
+    (text ≡ codes "no: out of memory\n") × (texts ≡ []) × (ends ≡ false) × ((after ≡ s) ⊎ (after ≡ calm s))
+
+-- what the words of a line answer and write to files, whether the line ends the session, and what it leaves
+abbrev pub WordsAnswer : SessionState → List (List ℕ) → List ℕ → List KeptText → Bool → SessionState → Type 0
+WordsAnswer s ws text texts ends after =
+    (IsSilent ws × (text ≡ []) × (texts ≡ []) × (ends ≡ false) × (after ≡ s))
+    ⊎ ((r : Request) × IsRequest r × (ws ≡ request_words r) × AnswersRequest s r text texts ends after)
+    ⊎ (IsNoRequest ws × IsRefusal text × (texts ≡ []) × (ends ≡ false) × (after ≡ calm s))
+    ⊎ LacksMemory s text texts ends after
+
+-- what a line answers and writes to files, whether it ends the session, and what it leaves
+abbrev pub LineAnswer : SessionState → List ℕ → List ℕ → List KeptText → Bool → SessionState → Type 0
+LineAnswer s line text texts ends after = WordsAnswer s (line_words line) text texts ends after

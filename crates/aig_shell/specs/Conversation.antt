@@ -1,0 +1,260 @@
+-- A whole session: lines that are answered one by one, up to one that ends it or to the end of the input (our own choice).
+use Rattle.std.specs.Prelude.{◌≡◌, ◌≢◌, ◌⊎◌, ◌+◌, ◌*◌, ◌<◌, ℕ, if◌then◌else◌, Bool, true, false, List, [], ◌∷◌, ◌++◌, length, All, codes, Option, Result, Ok, Err}
+use Rattle.aig_bytes.specs.Bytes.{before, after, IsAtEnd, IsBeginning}
+use Rattle.aig_bytes.specs.Flow.{Flow}
+use Rattle.aig_parts.specs.Limits.{cell_limit}
+use Rattle.aig_parts.specs.declared.fault.Fault.{Fault}
+use Rattle.aig_parts.specs.declared.raw.Raw.{Raw}
+use Rattle.aig_parts.specs.declared.ternary.Tern.{Tern}
+use Rattle.aig_base.specs.Value.{start_of}
+use Rattle.aig_bench.specs.BenchState.{CircuitAndRows}
+use Rattle.aig_bench.specs.declared.bench.fault.BenchFault.TheVariants as benches
+use Rattle.aig_run.specs.Command.{IsFileOf, RefusesCircuit, RefusesStimulus, Got}
+use Rattle.aig_run.specs.declared.run_fault.RunFault.{RunFault}
+use Rattle.aig_run.specs.declared.run_fault.RunFault.TheVariants as run_faults
+use Rattle.aig_sim.specs.StimulusText.{SpellsRows}
+use Rattle.aig_sim.specs.WitnessText.{Witness, SpellsWitness, IsAdmitted, HasWitnessFault}
+use Rattle.aig_shell.specs.declared.conversation.Conversation.{Conversation}
+use Rattle.aig_shell.specs.declared.conversation.Next.{Next}
+use Rattle.aig_shell.specs.declared.conversation.Next.TheVariants as next
+use Rattle.aig_shell.specs.declared.session.Session.{Session}
+use Rattle.aig_shell.specs.declared.shell.Given.{Given}
+use Rattle.aig_shell.specs.declared.shell.Given.TheVariants as given
+use Rattle.aig_shell.specs.declared.refusal.Refusal.{Refusal}
+use Rattle.aig_shell.specs.declared.refusal.Refusal.TheVariants as refusals
+use Rattle.aig_shell.specs.Answers.{AnswersRequest, EndsAt, IsRefusal, LineAnswer, WordsAnswer, IsUnsaved, calm}
+use Rattle.aig_shell.specs.Ends.{with_texts}
+use Rattle.aig_shell.specs.Files.{KeptText}
+use Rattle.aig_shell.specs.Request.{Request}
+use Rattle.aig_shell.specs.Session.{BeginsAt, IsIn, IsSession, first_state}
+use Rattle.aig_shell.specs.State.{SessionState}
+
+-- no LF stands in the bytes
+abbrev pub IsPiece : List ℕ → Type 0
+IsPiece bytes = All (λ b. b ≢ 10) bytes
+
+-- what a person sees before a line, and what stands before the first prompt
+abbrev pub prompt : Bool → List ℕ
+prompt true = codes "aig> "
+prompt false = []
+
+-- the texts of one call, where there are some
+abbrev pub call_of : List KeptText → List (List KeptText)
+call_of [] = []
+call_of (text ∷ texts) = (text ∷ texts) ∷ []
+
+-- From a state on: whole lines, each with the LF that ends it; what is answered to them; the texts that files get, call by call;
+-- and the state that is left. None of the lines ends the session.
+pub data Answered (person : Bool) (s : SessionState) : List ℕ → List ℕ → List (List KeptText) → SessionState → Type 0 where
+  none : Answered person s [] [] [] s
+  one_more : (mid after : SessionState) (input text line answer : List ℕ) (calls : List (List KeptText)) (texts : List KeptText)
+      → Answered person s input text calls mid → IsPiece line → LineAnswer mid line answer texts false after
+      → Answered person s (input ++ (line ++ 10 ∷ [])) (text ++ (answer ++ prompt person)) (calls ++ call_of texts) after
+
+-- The same for a whole input, and whether a line ends the session: then no more is answered. The last line may lack its LF.
+pub data Converses (person : Bool) (s : SessionState) : List ℕ → List ℕ → List (List KeptText) → Bool → SessionState → Type 0 where
+  at_end : (after : SessionState) (input text : List ℕ) (calls : List (List KeptText))
+      → Answered person s input text calls after → Converses person s input text calls false after
+  ended : (mid after : SessionState) (input text line answer more : List ℕ) (calls : List (List KeptText)) (texts : List KeptText)
+      → Answered person s input text calls mid → IsPiece line → LineAnswer mid line answer texts true after
+      → Converses person s (input ++ (line ++ 10 ∷ more)) (text ++ answer) (calls ++ call_of texts) true after
+  last : (mid after : SessionState) (input text line answer : List ℕ) (calls : List (List KeptText)) (texts : List KeptText) (ends : Bool)
+      → Answered person s input text calls mid → IsPiece line → line ≢ [] → LineAnswer mid line answer texts ends after
+      → Converses person s (input ++ line) (text ++ answer) (calls ++ call_of texts) ends after
+
+-- a conversation is in a state
+pub record IsAt (c : Conversation) (s : SessionState) : Type 0 where
+  pub session : IsSession c.session
+  pub state : IsIn c.session s
+  pub warned : s.has_warned ≡ c.has_warned
+
+-- the answer where memory is wanting
+abbrev pub no_memory : List ℕ
+no_memory = codes "no: out of memory\n"
+
+-- whether a line ends the session
+abbrev pub ends_after : Next → Bool
+ends_after next.GoesOn = false
+ends_after next.Ends = true
+
+-- what a line makes of a conversation: its answer, which is this text, and the texts that files get
+abbrev pub AnswersLine : Conversation → List ℕ → List ℕ → Option (List (List KeptText)) → Option (List (List KeptText)) → Bool → Conversation
+    → Type 0
+AnswersLine old line text kept kept_after ends new =
+    (s : SessionState) → IsAt old s
+    → (texts : List KeptText) × (after : SessionState) × LineAnswer s line text texts ends after × IsAt new after
+    × (kept_after ≡ with_texts kept (call_of texts))
+
+-- What `quit` makes of a conversation that is calm, after a `quit` or not: the session is as before; without memory nothing is said.
+abbrev pub EndsQuit : {E : Type 0} → Conversation → Bool → Result Next E → Conversation → Type 0
+EndsQuit old warned (Ok next) new =
+    (s : SessionState) → IsIn old.session s → s.has_warned ≡ warned
+    → (after : SessionState) × EndsAt s (ends_after next) new.text.items after × IsAt new after
+EndsQuit old warned (Err _) new = (s : SessionState) → IsIn old.session s → IsAt new (calm s)
+
+-- What a request makes of a conversation that is calm, after a `quit` or not: it is answered; or it is refused, and calm: then any
+-- refusal answers it, or memory is wanting.
+abbrev pub EndsRequest : Conversation → Bool → Request → Result Next Refusal → Option (List (List KeptText)) → Option (List (List KeptText))
+    → Conversation → Type 0
+EndsRequest old warned r (Ok next) kept kept_after new =
+    (s : SessionState) → IsIn old.session s → s.has_warned ≡ warned
+    → (texts : List KeptText) × (after : SessionState) × AnswersRequest s r new.text.items texts (ends_after next) after × IsAt new after
+    × (kept_after ≡ with_texts kept (call_of texts))
+EndsRequest old warned r (Err refusal) kept kept_after new =
+    ((s : SessionState) → IsIn old.session s → IsAt new (calm s)) × (kept_after ≡ kept)
+    × (refusal ≢ refusals.Memory → (s : SessionState) → IsIn old.session s → (text : List ℕ) → IsRefusal text
+    → AnswersRequest s r text [] false (calm s))
+
+-- What the words of a line make of a conversation: they are answered; or they are refused: then any refusal answers them, or memory
+-- is wanting, and nothing is done.
+abbrev pub EndsWords : Conversation → List (List ℕ) → Result Next Refusal → Option (List (List KeptText)) → Option (List (List KeptText))
+    → Conversation → Type 0
+EndsWords old ws (Ok next) kept kept_after new =
+    (s : SessionState) → IsAt old s
+    → (texts : List KeptText) × (after : SessionState) × WordsAnswer s ws new.text.items texts (ends_after next) after × IsAt new after
+    × (kept_after ≡ with_texts kept (call_of texts))
+EndsWords old ws (Err refusal) kept kept_after new =
+    ((s : SessionState) → IsAt old s → IsAt new s ⊎ IsAt new (calm s)) × (kept_after ≡ kept)
+    × (refusal ≢ refusals.Memory → (s : SessionState) → IsAt old s → (text : List ℕ) → IsRefusal text
+    → WordsAnswer s ws text [] false (calm s) × IsAt new (calm s))
+
+-- what a person sees before the first line; any words, and the prompt
+abbrev pub IsGreeting : Bool → List ℕ → Type 0
+IsGreeting false text = text ≡ []
+IsGreeting true text = (words : List ℕ) × (text ≡ words ++ prompt true)
+
+-- at the end of the input: a newline for a person, and what is unsaved
+abbrev pub IsFarewell : Bool → Bool → SessionState → List ℕ → Type 0
+IsFarewell person true s text = text ≡ []
+IsFarewell person false s text =
+    (what : List ℕ) × ((IsUnsaved s → ⊥) → what ≡ []) × (text ≡ (if person then 10 ∷ [] else []) ++ what)
+
+-- all that a session writes for an input
+pub record Talk (person : Bool) (s : SessionState) (input text : List ℕ) (texts : List (List KeptText)) (quits : Bool) : Type 0 where
+  pub new : SessionState
+  pub greeting : List ℕ
+  pub answers : List ℕ
+  pub farewell : List ℕ
+  pub greets : IsGreeting person greeting
+  pub converses : Converses person s input answers texts quits new
+  pub ends : IsFarewell person quits new farewell
+  pub text_is : text ≡ greeting ++ (answers ++ farewell)
+
+-- what passes: the input, the answers, and the texts of files
+pub record Passes (Y X Z : Type 0) : Type 0 where
+  pub reader : Flow Y
+  pub out : Flow X
+  pub kept : Z → Option (List (List KeptText))
+  pub files : Z
+  pub files_after : Z
+
+-- the whole input is read, or a line ends the session, and all is written
+pub record Ended {Y X Z : Type 0} (passes : Passes Y X Z) (person : Bool) (s : SessionState) : Type 0 where
+  pub input : List ℕ
+  pub text : List ℕ
+  pub texts : List (List KeptText)
+  pub quits : Bool
+  pub talk : Talk person s input text texts quits
+  pub read : passes.reader.bytes passes.reader.old ≡ before input (passes.reader.bytes passes.reader.new)
+  pub whole : quits ≡ false → IsAtEnd (passes.reader.bytes passes.reader.new)
+  pub got : Got passes.out text
+  pub kept : passes.kept passes.files_after ≡ with_texts (passes.kept passes.files) texts
+
+-- A read or a write fails. Of what was read the answers to some input that begins as this one are written, or the first bytes of
+-- them, and the files have the texts of the lines that were answered.
+pub record BreaksDown {Y X Z : Type 0} (passes : Passes Y X Z) (person : Bool) (s : SessionState) : Type 0 where
+  pub input : List ℕ
+  pub text : List ℕ
+  pub texts : List (List KeptText)
+  pub quits : Bool
+  pub talk : Talk person s input text texts quits
+  pub rest : List ℕ
+  pub read : passes.reader.bytes passes.reader.old ≡ before (input ++ rest) (passes.reader.bytes passes.reader.new)
+  pub done : List ℕ
+  pub beginning : IsBeginning done text
+  pub got : passes.out.bytes passes.out.new ≡ after (passes.out.bytes passes.out.old) done
+  pub failed : ((passes.reader.failures passes.reader.old < passes.reader.failures passes.reader.new)
+      × (passes.out.failures passes.out.new ≡ passes.out.failures passes.out.old))
+      ⊎ (passes.out.failures passes.out.old < passes.out.failures passes.out.new)
+  pub kept : passes.kept passes.files_after ≡ with_texts (passes.kept passes.files) texts
+
+-- nothing is read, written or kept
+abbrev pub NothingPasses : {Y X Z : Type 0} → Passes Y X Z → Type 0
+NothingPasses passes = (passes.reader.new ≡ passes.reader.old) × Got passes.out [] × (passes.files_after ≡ passes.files)
+
+-- the run that a session begins with: none, or that of the text of a stimulus or of a witness
+pub data Begun : Type 0 where
+  nothing : Begun
+  stimulus : (text : List ℕ) → Begun
+  witness : (text : List ℕ) → Begun
+
+abbrev pub begun_of : Given → Begun
+begun_of given.Nothing = nothing
+begun_of (given.Stimulus text) = stimulus text.now
+begun_of (given.Witness text) = witness text.now
+
+-- the start and the rows of the run
+abbrev pub Begins : Raw → Begun → List Tern → List (List Tern) → Type 0
+Begins raw nothing start rows = (start ≡ start_of raw) × (rows ≡ [])
+Begins raw (stimulus text) start rows = SpellsRows (length raw.inputs) text rows × (start ≡ start_of raw)
+Begins raw (witness text) start rows =
+    (w : Witness) × SpellsWitness raw text w × IsAdmitted raw w × (start ≡ w.start) × (rows ≡ w.rows)
+
+-- the text of the run is refused with this fault
+abbrev pub RefusesText : Raw → Begun → RunFault → Type 0
+RefusesText raw (stimulus text) (run_faults.Stimulus fault) = RefusesStimulus (length raw.inputs) text fault
+RefusesText raw (witness text) (run_faults.Witness fault) = HasWitnessFault raw text fault
+RefusesText raw begun _ = ⊥
+
+-- the rows are too many for the circuit, or memory is wanting
+abbrev pub RefusesRows : Raw → List (List Tern) → RunFault → Type 0
+RefusesRows raw rows (run_faults.Bench benches.Limit) = cell_limit < (raw.max_var + 1) * length rows
+RefusesRows raw rows (run_faults.Bench benches.Memory) = Unit {0}
+RefusesRows raw rows run_faults.Memory = Unit {0}
+RefusesRows raw rows _ = ⊥
+
+-- the run is refused with this fault
+abbrev pub RefusesRun : Raw → Begun → RunFault → Type 0
+RefusesRun raw begun fault =
+    RefusesText raw begun fault
+    ⊎ ((start : List Tern) × (rows : List (List Tern)) × Begins raw begun start rows × RefusesRows raw rows fault)
+
+-- the circuit is refused with this fault, or its run
+abbrev pub RefusesFiles : List ℕ → Begun → RunFault → Type 0
+RefusesFiles file begun fault =
+    ((why : Fault) × (fault ≡ run_faults.Circuit why) × RefusesCircuit file why)
+    ⊎ ((raw : Raw) × IsFileOf file raw × RefusesRun raw begun fault)
+
+-- a write or a flush fails, and nothing passes
+pub record OnlyFails {Y X Z : Type 0} (passes : Passes Y X Z) : Type 0 where
+  pub reader : passes.reader.new ≡ passes.reader.old
+  pub got : passes.out.bytes passes.out.new ≡ passes.out.bytes passes.out.old
+  pub failed : passes.out.failures passes.out.old < passes.out.failures passes.out.new
+  pub kept : passes.files_after ≡ passes.files
+
+-- a session that a run of a circuit begins
+abbrev pub BeginsSession : Raw → List Tern → List (List Tern) → Session → Type 0
+BeginsSession raw start rows session =
+    IsSession session × BeginsAt raw start rows session.run.bench.pair × IsIn session (first_state raw session.run.bench.pair)
+
+-- the session of a circuit's file and its run
+abbrev pub OpensSession : List ℕ → Begun → Session → Type 0
+OpensSession file begun session =
+    (raw : Raw) × IsFileOf file raw
+    × ((start : List Tern) × (rows : List (List Tern)) × Begins raw begun start rows × BeginsSession raw start rows session)
+
+-- a session over a circuit that a run begins
+abbrev pub HoldsSession : {Y X Z : Type 0} → Passes Y X Z → Bool → Raw → Begun
+    → ((Passes Y X Z) → Bool → SessionState → Type 0) → Type 0
+HoldsSession passes person raw begun Ends =
+    (start : List Tern) × (rows : List (List Tern)) × (pair : CircuitAndRows) × Begins raw begun start rows
+    × BeginsAt raw start rows pair × Ends passes person (first_state raw pair)
+
+-- How `shell` ends: all that is read is answered; or the circuit or its run is refused, and nothing passes; or a read or a write
+-- fails, be it a flush after a refusal.
+abbrev pub EndsShell : {Y X Z : Type 0} → Passes Y X Z → Bool → List ℕ → Begun → Result (Unit {0}) RunFault → Type 0
+EndsShell passes person file begun (Ok done) = (raw : Raw) × IsFileOf file raw × HoldsSession passes person raw begun Ended
+EndsShell passes person file begun (Err fault) =
+    (RefusesFiles file begun fault × NothingPasses passes)
+    ⊎ ((fault ≡ run_faults.Shell)
+    × (((raw : Raw) × IsFileOf file raw × HoldsSession passes person raw begun BreaksDown) ⊎ OnlyFails passes))

@@ -1,0 +1,47 @@
+-- What is written to files (our own choice).
+use Rattle.std.specs.Prelude.{◌≡◌, ℕ, ◌+◌, List, [], ◌∷◌, ◌++◌, decimal, take, flat_map, Option, None, Some, Result, Ok, Err}
+use Rattle.aig_base.specs.Value.{start_of}
+use Rattle.aig_format.specs.Spelling.{short_ascii}
+use Rattle.aig_signals.specs.Lookup.{entry_in}
+use Rattle.aig_parts.specs.declared.raw.Raw.{Raw}
+use Rattle.aig_parts.specs.declared.symbols.Kind.TheVariants.{Bad}
+use Rattle.aig_sim.specs.Dump.{IsDump}
+use Rattle.aig_sim.specs.Reached.{IsFirstReached}
+use Rattle.aig_sim.specs.StimulusText.{row_line}
+use Rattle.aig_sim.specs.WitnessText.{witness_text}
+use Rattle.aig_shell.specs.State.{SessionState, circuit_of}
+
+-- a file's name, and its whole text
+pub record KeptText : Type 0 where
+  pub name : List ℕ
+  pub text : List ℕ
+
+-- the texts that files got, call by call, after one more call
+abbrev pub after_keeping : {A E : Type 0} → Option (List (List KeptText)) → List KeptText → Result A E → Option (List (List KeptText))
+after_keeping None texts result = None
+after_keeping (Some old) texts (Ok _) = Some (old ++ texts ∷ [])
+after_keeping (Some old) texts (Err _) = Some old
+
+-- the circuit with the resets of its file, and the rows where a file is named for them
+abbrev pub saved : SessionState → List ℕ → Option (List ℕ) → List KeptText
+saved s circuit None = record { name = circuit; text = short_ascii (circuit_of s) } ∷ []
+saved s circuit (Some stimulus) =
+    record { name = circuit; text = short_ascii (circuit_of s) }
+    ∷ record { name = stimulus; text = flat_map row_line s.pair.rows } ∷ []
+
+-- the property that a word names; none is asked for without a word
+abbrev pub IsAsked : Raw → Option (List ℕ) → Option ℕ → Type 0
+IsAsked raw None asked = asked ≡ None
+IsAsked raw (Some word) asked = (k : ℕ) × (asked ≡ Some k) × (entry_in raw word Bad ≡ Some k)
+
+-- the run up to the first frame that reaches a property that is asked for
+abbrev pub IsWitnessed : SessionState → List ℕ → Option (List ℕ) → List KeptText → Type 0
+IsWitnessed s file word texts =
+    (asked : Option ℕ) × (t : ℕ) × (k : ℕ) × IsAsked s.pair.circuit word asked
+    × IsFirstReached (circuit_of s) (start_of s.pair.circuit) s.pair.rows asked t k
+    × (texts ≡ record { name = file; text = witness_text (decimal k) (start_of s.pair.circuit) (take (t + 1) s.pair.rows) } ∷ [])
+
+-- the dump of the run
+abbrev pub IsWave : SessionState → List ℕ → List KeptText → Type 0
+IsWave s file texts =
+    (text : List ℕ) × IsDump (circuit_of s) (start_of s.pair.circuit) s.pair.rows text × (texts ≡ record { name = file; text = text } ∷ [])

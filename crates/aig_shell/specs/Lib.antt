@@ -1,0 +1,14 @@
+pub mod Answers
+pub mod Compared
+pub mod Commands
+pub mod Conversation
+pub mod Edits
+pub mod Ends
+pub mod Explained
+pub mod Files
+pub mod Request
+pub mod Session
+pub mod Standing
+pub mod State
+pub mod Tables
+pub mod Talking

@@ -1,0 +1,48 @@
+-- What tables of values hold: the values of names now, and those of the run that was read (our own choice).
+use Rattle.std.specs.Prelude.{◌≡◌, ◌≢◌, ◌⊎◌, ℕ, ◌+◌, ◌<◌, ◌≤◌, List, [], ◌∷◌, length, map, Option, Some}
+use Rattle.std.specs.List.{AllZip, range_with_len}
+use Rattle.aig_parts.specs.declared.ternary.Tern.{Tern}
+use Rattle.aig_bench.specs.BenchState.{CircuitAndRows, HasValue}
+use Rattle.aig_prompt.specs.Table.{TableRow}
+use Rattle.aig_signals.specs.Lookup.{Means, signal_literals}
+use Rattle.aig_signals.specs.Value.{table_text}
+use Rattle.aig_signals.specs.declared.signal.Signal.{Signal}
+
+-- the values of these literals at the frame
+abbrev pub AreBits : CircuitAndRows → ℕ → List ℕ → List (Option Tern) → Type 0
+AreBits p t literals bits = (values : List Tern) × AllZip (HasValue p t) literals values × (bits ≡ map Some values)
+
+-- the text is that of the values of these literals at the frame
+abbrev pub IsCell : CircuitAndRows → List ℕ → ℕ → List ℕ → Type 0
+IsCell p literals t cell = (bits : List (Option Tern)) × AreBits p t literals bits × (cell ≡ table_text bits)
+
+-- so many cells from a frame on, with the values of these literals
+abbrev pub AreCells : CircuitAndRows → List ℕ → ℕ → ℕ → List (List ℕ) → Type 0
+AreCells p literals first count cells = AllZip (IsCell p literals) (range_with_len first count) cells
+
+-- the row of a name that was asked for
+abbrev pub IsRowOf : CircuitAndRows → ℕ → ℕ → List ℕ → TableRow → Type 0
+IsRowOf p first count name row =
+    (literals : List ℕ) × Means p.circuit name literals × (row.name ≡ name) × AreCells p literals first count row.cells
+
+-- the rows of all names that were asked for, in this order
+abbrev pub IsShown : CircuitAndRows → ℕ → ℕ → List (List ℕ) → List TableRow → Type 0
+IsShown p first count names rows = AllZip (IsRowOf p first count) names rows
+
+-- the text of the values of these literals; a dot where the pair has no such frame
+abbrev pub IsCellOrDot : CircuitAndRows → List ℕ → ℕ → List ℕ → Type 0
+IsCellOrDot p literals t cell = ((t < length p.rows) × IsCell p literals t cell) ⊎ ((length p.rows ≤ t) × (cell ≡ 46 ∷ []))
+
+-- the text of the values that a signal has in a pair
+abbrev pub IsSignalCell : CircuitAndRows → Signal → ℕ → List ℕ → Type 0
+IsSignalCell p signal t cell = IsCellOrDot p (signal_literals p.circuit signal) t cell
+
+-- what stands below a text: `=` for the same, else the old one
+abbrev pub IsBelow : List ℕ → List ℕ → List ℕ → Type 0
+IsBelow cell old below = ((old ≡ cell) × (below ≡ 61 ∷ [])) ⊎ ((old ≢ cell) × (below ≡ old))
+
+-- the signal has other values in the second pair at one of the frames
+abbrev pub Differs : CircuitAndRows → CircuitAndRows → ℕ → ℕ → Signal → Type 0
+Differs now was first count signal =
+    (t : ℕ) × (a : List ℕ) × (b : List ℕ) × (first ≤ t) × (t < first + count) × IsSignalCell now signal t a × IsSignalCell was signal t b
+    × (a ≢ b)

@@ -1,0 +1,269 @@
+//! What is written to files.
+ghost use Rattle.std.specs.Prelude.{◌≡◌, ◌<◌, [], IfOk, IfSome, decimal, length, map, option_map, take, None, Some, ◌+◌};
+ghost use Rattle.aig_base.specs.Value.{start_of};
+ghost use Rattle.aig_format.specs.Spelling.{short_ascii};
+ghost use Rattle.aig_sim.specs.Dump.{IsDump};
+ghost use Rattle.aig_sim.specs.StimulusText.{SpellsRows};
+ghost use Rattle.aig_sim.specs.WitnessText.{witness_text};
+ghost use Rattle.aig_shell.specs.Ends.{EndsFiles};
+ghost use Rattle.aig_shell.specs.Files.{IsAsked, after_keeping};
+ghost use Rattle.aig_shell.specs.Request as request;
+ghost use Rattle.aig_shell.specs.Session.{IsSession, own_circuit};
+
+use crate::keeper::{FileText, Keep, Unkept};
+use crate::refusal::Refusal;
+use crate::run_kept::KeptRun;
+use crate::session::Session;
+use crate::written::{Text, push_number};
+use aig_base::{Kind, MemReader, Memory};
+use aig_dump_header::push_position;
+use aig_format::write_ascii_with;
+use aig_sim::{Reached, dump, first_states, write_stimulus, write_witness};
+use std::alloc::Global;
+
+/// Gives texts to the files, and says of which none was written.
+fn keep<'a, K: Keep>(files: &mut K, texts: &[FileText<'a, '_>]) -> Result<(), Refusal<'a>>
+    ensures { K.kept files.new ≡ after_keeping (K.kept files.old) (map (λ file. record {
+      name = file.name.now;
+      text = file.text.now;
+    }) texts.now) result }
+{
+    match files.keep(texts) {
+        Ok(()) => Ok(()),
+        Err(Unkept { place, reason }) => {
+            let file = match texts.get(place) {
+                Some(text) => text.name,
+                None => b"",
+            };
+            Err(Refusal::NotWritten { file, reason })
+        }
+    }
+}
+
+/// Adds that a file of rows does not say how the latches start.
+fn push_no_start(text: &mut Vec<u8>, stimulus: &[u8]) -> Result<(), Memory> {
+    text.extend_from_slice(stimulus)?;
+    text.extend_from_slice(b" has no start of latches; witness FILE has\n")?;
+    Ok(())
+}
+
+/// Adds which property a witness reaches at which frame.
+fn push_reached(text: &mut Vec<u8>, reached: Reached, file: &[u8]) -> Result<(), Memory> {
+    push_position(text, Kind::Bad, reached.property)?;
+    text.extend_from_slice(b" at ")?;
+    push_number(text, u64::from(reached.frame))?;
+    text.extend_from_slice(b": ")?;
+    text.extend_from_slice(file)?;
+    text.push(b'\n')?;
+    Ok(())
+}
+
+impl Session {
+    /// The text of the circuit as it is now, with the resets of the file.
+    fn saved_circuit(&self, alloc: Global) -> Result<Vec<u8>, Memory>
+        requires session { IsSession self.now }
+        ensures { IfOk result (λ text. text.items ≡ short_ascii (own_circuit self.now)) }
+    {
+        let mut out = Text::new(alloc);
+        match write_ascii_with(self.circuit(), self.run.latches.as_slice(), &mut out) {
+            Ok(()) => Ok(out.into_bytes()),
+            Err(_) => Err(Memory),
+        }
+    }
+
+    /// The text of the rows.
+    fn saved_rows(&self, alloc: Global) -> Result<Vec<u8>, Memory>
+        ensures { IfOk result (λ text. SpellsRows (length self.now.run.bench.pair.circuit.inputs) text.items
+            self.now.run.bench.pair.rows) }
+    {
+        let mut out = Text::new(alloc);
+        match write_stimulus(&mut out, self.bench().stimulus()) {
+            Ok(()) => Ok(out.into_bytes()),
+            Err(_) => Err(Memory),
+        }
+    }
+
+    /// Writes the circuit alone.
+    fn save_circuit<'a, K: Keep>(
+        &mut self,
+        alloc: Global,
+        files: &mut K,
+        name: &'a [u8],
+    ) -> Result<(), Refusal<'a>>
+        requires session { IsSession self.old }
+        ensures session { IsSession self.new }
+        ensures files { EndsFiles self.old (request.save name.now None) result [] (K.kept files.old) (K.kept files.new) self.new }
+    {
+        let circuit = self.saved_circuit(alloc)?;
+        keep(
+            files,
+            &[FileText {
+                name,
+                text: circuit.as_slice(),
+            }],
+        )?;
+        self.has_edited_circuit = false;
+        Ok(())
+    }
+
+    /// Writes the circuit and the rows. Says so where the start is not that of the resets. All that takes memory comes
+    /// before the files: a line that is refused has written nothing.
+    fn save_both<'a, K: Keep>(
+        &mut self,
+        alloc: Global,
+        files: &mut K,
+        text: &mut Vec<u8>,
+        name: &'a [u8],
+        stimulus: &'a [u8],
+    ) -> Result<(), Refusal<'a>>
+        requires session { IsSession self.old }
+        ensures session { IsSession self.new }
+        ensures files { EndsFiles self.old (request.save name.now (Some stimulus.now)) result text.new.items (K.kept files.old) (K.kept files.new) self.new }
+    {
+        let circuit = self.saved_circuit(alloc)?;
+        let rows = self.saved_rows(alloc)?;
+        let texts = [
+            FileText {
+                name,
+                text: circuit.as_slice(),
+            },
+            FileText {
+                name: stimulus,
+                text: rows.as_slice(),
+            },
+        ];
+        if !self.starts_by_reset() {
+            push_no_start(text, stimulus)?;
+            keep(files, &texts)?;
+            self.has_edited_circuit = false;
+            return Ok(());
+        }
+        let run = KeptRun::of(alloc, self.bench())?;
+        keep(files, &texts)?;
+        self.has_edited_circuit = false;
+        self.kept = run;
+        Ok(())
+    }
+
+    /// Writes the circuit, and the rows where a file is named for them.
+    pub(crate) fn save<'a, K: Keep>(
+        &mut self,
+        alloc: Global,
+        files: &mut K,
+        text: &mut Vec<u8>,
+        circuit: &'a [u8],
+        stimulus: Option<&'a [u8]>,
+    ) -> Result<(), Refusal<'a>>
+        requires session { IsSession self.old }
+        requires empty { text.old.items ≡ [] }
+        ensures session { IsSession self.new }
+        ensures files { EndsFiles self.old (request.save circuit.now (option_map (λ w. w.now) stimulus.entry)) result text.new.items (K.kept files.old) (K.kept files.new) self.new }
+    {
+        match stimulus {
+            Some(stimulus) => self.save_both(alloc, files, text, circuit, stimulus),
+            None => self.save_circuit(alloc, files, circuit),
+        }
+    }
+
+    /// The text of the witness of a property that is reached.
+    fn witness_text(&self, alloc: Global, reached: Reached) -> Result<Vec<u8>, Memory>
+        requires { reached.frame < length self.now.run.bench.pair.rows }
+        ensures { IfOk result (λ text. text.items ≡ witness_text (decimal reached.property)
+            (start_of self.now.run.bench.pair.circuit) (take (reached.frame + 1) self.now.run.bench.pair.rows)) }
+    {
+        let start = first_states(alloc, self.circuit())?;
+        let mut out = Text::new(alloc);
+        let written = write_witness(
+            &mut out,
+            reached.property,
+            start.as_slice(),
+            self.bench().stimulus(),
+            reached.frame + 1,
+        );
+        match written {
+            Ok(()) => Ok(out.into_bytes()),
+            Err(_) => Err(Memory),
+        }
+    }
+
+    /// The property that is asked for, where a word names one.
+    fn asked<'a>(
+        &self,
+        alloc: Global,
+        property: Option<&'a [u8]>,
+    ) -> Result<Option<u32>, Refusal<'a>>
+        requires session { IsSession self.now }
+        ensures asked { IfOk result (IsAsked self.now.run.bench.pair.circuit (option_map (λ w. w.now) property.entry)) }
+        ensures within { IfOk result (λ asked. IfSome asked (λ k. k < length self.now.run.bench.pair.circuit.bad)) }
+    {
+        match property {
+            Some(word) => Ok(Some(self.property(alloc, word)?)),
+            None => Ok(None),
+        }
+    }
+
+    /// Writes the run up to a property as a witness: up to the one that is named, or to the first.
+    pub(crate) fn witness<'a, K: Keep>(
+        &mut self,
+        alloc: Global,
+        files: &mut K,
+        text: &mut Vec<u8>,
+        name: &'a [u8],
+        property: Option<&'a [u8]>,
+    ) -> Result<(), Refusal<'a>>
+        requires session { IsSession self.old }
+        requires empty { text.old.items ≡ [] }
+        ensures session { IsSession self.new }
+        ensures files { EndsFiles self.old (request.witness name.now (option_map (λ w. w.now) property.entry)) result text.new.items (K.kept files.old) (K.kept files.new) self.new }
+    {
+        let asked = self.asked(alloc, property)?;
+        let reached = self.reached(alloc, asked)?;
+        push_reached(text, reached, name)?;
+        let witness = self.witness_text(alloc, reached)?;
+        let run = KeptRun::of(alloc, self.bench())?;
+        keep(
+            files,
+            &[FileText {
+                name,
+                text: witness.as_slice(),
+            }],
+        )?;
+        self.kept = run;
+        Ok(())
+    }
+
+    /// The dump of the run.
+    fn wave_text(&self, alloc: Global) -> Result<Vec<u8>, Memory>
+        requires { IsSession self.now }
+        ensures { IfOk result (λ text. IsDump (own_circuit self.now) (start_of self.now.run.bench.pair.circuit)
+            self.now.run.bench.pair.rows text.items) }
+    {
+        let rows = self.saved_rows(alloc)?;
+        let mut reader = MemReader::new(rows.as_slice());
+        let mut out = Text::new(alloc);
+        match dump(alloc, self.circuit(), &mut reader, &mut out) {
+            Ok(_frames) => Ok(out.into_bytes()),
+            Err(_) => Err(Memory),
+        }
+    }
+
+    /// Writes the run as a dump.
+    pub(crate) fn wave<'a, K: Keep>(
+        &self,
+        alloc: Global,
+        files: &mut K,
+        name: &'a [u8],
+    ) -> Result<(), Refusal<'a>>
+        requires session { IsSession self.now }
+        ensures files { EndsFiles self.now (request.wave name.now) result [] (K.kept files.old) (K.kept files.new) self.now }
+    {
+        let text = self.wave_text(alloc)?;
+        keep(
+            files,
+            &[FileText {
+                name,
+                text: text.as_slice(),
+            }],
+        )
+    }
+}

@@ -1,0 +1,333 @@
+//! The state of a session, and what the words of a line mean in it.
+ghost use Rattle.std.specs.Prelude.{◌≡◌, ◌≢◌, ℕ, ◌<◌, ◌≤◌, ◌↔◌, List, All, IfErr, IfNone, IfOk, IfSome, IsTrue, length, slice_get};
+ghost use Rattle.aig_parts.specs.Literal.{variable};
+ghost use Rattle.aig_base.specs.Sections.{IsDefined, IsLatchLiteral};
+ghost use Rattle.aig_bench.specs.BenchState.{HasValue};
+ghost use Rattle.aig_signals.specs.Lookup.{Means, Unknown, alone};
+ghost use Rattle.aig_shell.specs.Edits.{ArePositions, MeansInputs, MeansLatches};
+ghost use Rattle.aig_base.specs.Runs.{Allows};
+ghost use Rattle.aig_base.specs.Sound.{IsReset};
+ghost use Rattle.aig_base.specs.Value.{reset_value, start_of};
+ghost use Rattle.aig_sim.specs.Verdict.{StartsWrong};
+ghost use Rattle.aig_shell.specs.Standing.{StartsRight};
+ghost use Rattle.aig_shell.specs.Conversation.{RefusesRows};
+ghost use Rattle.aig_shell.specs.Session.{BeginsAt, IsIn, IsSession, KeepsRun, first_state, own_circuit};
+
+use crate::refusal::{Refusal, Wanted};
+use crate::run_kept::{FirstRun, KeptRun};
+use aig_base::{Circuit, Definition, Latch, List, Lit, Memory, Tern};
+use aig_bench::{Bench, BenchFault};
+use aig_names::decimal_of;
+use aig_run::RunFault;
+use aig_signals::{Signal, look_up, signals_of};
+use aig_sim::{PlaneGrid, Stimulus};
+use aig_why::Run;
+use std::alloc::Global;
+
+/// A circuit with a start and rows, as they are now, and what is known of them.
+#[derive(Drop)]
+pub(crate) struct Session {
+    /// The bench, whose circuit starts by its resets as the run does; and the latches with the resets of the file.
+    pub(crate) run: Run<PlaneGrid>,
+    /// The signals of the circuit.
+    pub(crate) signals: Vec<Signal>,
+    /// The run that was read.
+    pub(crate) first: FirstRun,
+    /// The run that was read or written last.
+    pub(crate) kept: KeptRun,
+    /// Whether a gate or an output was edited since the circuit was read or written.
+    pub(crate) has_edited_circuit: bool,
+}
+
+/// A word without a `!` in front.
+fn without_not(word: &[u8]) -> &[u8] {
+    match word.first() {
+        Some(first) if *first == b'!' => &word[1..],
+        _ => word,
+    }
+}
+
+/// The position of the input that a literal is.
+fn input_at(circuit: &Circuit, literal: Lit) -> Option<u32>
+    ensures some { IfSome result (λ p. slice_get circuit.now.inputs p ≡ Some literal) }
+    ensures none { IfNone result ((p : ℕ) → slice_get circuit.now.inputs p ≡ Some literal → ⊥) }
+{
+    // Its contract says that it is a circuit.
+    circuit.facts();
+    match circuit.definition(literal.var()) {
+        Some(Definition::Input(position)) => {
+            if literal.is_neg() {
+                None
+            } else {
+                Some(position)
+            }
+        }
+        Some(Definition::Latch(_)) => None,
+        Some(Definition::Gate(_)) => None,
+        None => None,
+    }
+}
+
+/// The positions of the inputs that literals are; none where one is no input.
+fn positions_of(
+    alloc: Global,
+    circuit: &Circuit,
+    literals: &[Lit],
+) -> Result<Option<Vec<u32>>, Memory>
+    ensures some { IfOk result (λ found. IfSome found (λ positions.
+        ArePositions circuit.now literals.now positions.items)) }
+    ensures none { IfOk result (λ found. IfNone found ((positions : List ℕ) →
+        ArePositions circuit.now literals.now positions → ⊥)) }
+{
+    let mut positions = Vec::new(alloc);
+    for literal in literals {
+        match input_at(circuit, *literal) {
+            Some(position) => positions.push(position)?,
+            None => return Ok(None),
+        }
+    }
+    Ok(Some(positions))
+}
+
+/// Whether a literal is one of a latch.
+fn is_latch(circuit: &Circuit, literal: Lit) -> bool
+    ensures { IsTrue result ↔ IsLatchLiteral circuit.now literal }
+{
+    // Its contract says that it is a circuit.
+    circuit.facts();
+    match circuit.definition(literal.var()) {
+        Some(Definition::Latch(_)) => !literal.is_neg(),
+        Some(Definition::Input(_)) => false,
+        Some(Definition::Gate(_)) => false,
+        None => false,
+    }
+}
+
+/// Whether literals are those of latches.
+fn are_latches(circuit: &Circuit, literals: &[Lit]) -> bool
+    ensures { IsTrue result ↔ All (IsLatchLiteral circuit.now) literals.now }
+{
+    for literal in literals {
+        if !is_latch(circuit, *literal) {
+            return false;
+        }
+    }
+    true
+}
+
+/// Whether the reset of a latch does not allow the start that another reset says.
+fn starts_elsewhere(own: Latch, now: Latch) -> bool
+    requires literal { 1 < own.lit }
+    requires reset { IsReset own }
+    ensures { IsTrue result ↔ (Allows own (reset_value now.reset) → ⊥) }
+{
+    let reset = aig_sim::first_value(own);
+    let start = aig_sim::first_value(now);
+    if reset == Tern::X {
+        false
+    } else {
+        start != reset
+    }
+}
+
+impl Session {
+    /// Of a circuit with a start and rows.
+    pub(crate) fn new(
+        alloc: Global,
+        circuit: Circuit,
+        start: &[Tern],
+        rows: Stimulus,
+    ) -> Result<Session, RunFault>
+        requires start { length start.now ≡ length circuit.latches }
+        requires width { rows.width ≡ length circuit.inputs }
+        ensures session { IfOk result IsSession }
+        ensures begins { IfOk result (λ s. BeginsAt circuit start.now rows.rows s.run.bench.pair) }
+        ensures state { IfOk result (λ s. IsIn s (first_state circuit s.run.bench.pair)) }
+        ensures refused { IfErr result (RefusesRows circuit rows.rows) }
+    {
+        // Its contract says that it is a circuit.
+        circuit.facts();
+        let signals = signals_of(alloc, &circuit)?;
+        let run = Run::new(alloc, circuit, start, rows)?;
+        let first = FirstRun::of(alloc, &run.bench)?;
+        let kept = KeptRun::of(alloc, &run.bench)?;
+        Ok(Session {
+            run,
+            signals,
+            first,
+            kept,
+            has_edited_circuit: false,
+        })
+    }
+
+    /// The bench.
+    pub(crate) fn bench(&self) -> &Bench<PlaneGrid>
+        ensures { result.now ≡ self.now.run.bench }
+    {
+        &self.run.bench
+    }
+
+    /// The circuit as it is now; its resets are the run's start.
+    pub(crate) fn circuit(&self) -> &Circuit
+        ensures { result.now ≡ self.now.run.bench.pair.circuit }
+    {
+        self.run.bench.circuit()
+    }
+
+    /// The value of a literal at a frame.
+    pub(crate) fn value(&self, frame: u32, literal: Lit) -> Tern
+        requires frame { frame < length self.now.run.bench.pair.rows }
+        requires defined { IsDefined self.now.run.bench.pair.circuit (variable literal) }
+        ensures { HasValue self.now.run.bench.pair frame literal result }
+    {
+        // Its contract says that the pair is a circuit.
+        self.run.bench.width();
+        let Ok(value) = self.run.bench.value(frame, literal) else {
+            unreachable!()
+        };
+        value
+    }
+
+    /// Why a word is no name: it is a number of no literal, or of one that nothing defines.
+    fn unknown<'a>(&self, word: &'a [u8]) -> Refusal<'a> {
+        let name = without_not(word);
+        let Some(number) = decimal_of(name) else {
+            return Refusal::NoName(name);
+        };
+        let literal = Lit::new(number);
+        if literal.var() <= self.circuit().max_var() {
+            return Refusal::Undefined(name);
+        }
+        Refusal::NoLiteral {
+            word: name,
+            greatest: self.circuit().max_var() * 2 + 1,
+        }
+    }
+
+    /// The literals that a word means, from bit 0 up.
+    pub(crate) fn literals<'a>(
+        &self,
+        alloc: Global,
+        word: &'a [u8],
+    ) -> Result<List<Lit>, Refusal<'a>>
+        requires session { IsSession self.now }
+        ensures ok { IfOk result (Means self.now.run.bench.pair.circuit word.now) }
+        ensures range { IfOk result (All (λ l. variable l ≤ self.now.run.bench.pair.circuit.max_var)) }
+        ensures defined { IfOk result (All (λ l. IsDefined self.now.run.bench.pair.circuit (variable l))) }
+        ensures err { IfErr result (λ refusal. refusal ≢ Refusal.Memory →
+            Unknown self.now.run.bench.pair.circuit word.now) }
+    {
+        let found = look_up(alloc, self.circuit(), self.signals.as_slice(), word)?;
+        match found {
+            Some(literals) => Ok(literals),
+            None => Err(self.unknown(word)),
+        }
+    }
+
+    /// The literal that a word means.
+    pub(crate) fn literal<'a>(&self, alloc: Global, word: &'a [u8]) -> Result<Lit, Refusal<'a>>
+        requires session { IsSession self.now }
+        ensures ok { IfOk result (λ literal. Means self.now.run.bench.pair.circuit word.now (alone literal)) }
+        ensures err { IfErr result (λ refusal. refusal ≢ Refusal.Memory → (literal : ℕ) →
+            Means self.now.run.bench.pair.circuit word.now (alone literal) → ⊥) }
+    {
+        let literals = self.literals(alloc, word)?;
+        // Its contract says that it is a circuit.
+        self.circuit().facts();
+        match literals.as_slice() {
+            [literal] => Ok(*literal),
+            several => Err(Refusal::Vector {
+                word,
+                bits: several.len(),
+            }),
+        }
+    }
+
+    /// The positions of the inputs that a word means, from bit 0 up.
+    pub(crate) fn inputs<'a>(&self, alloc: Global, word: &'a [u8]) -> Result<Vec<u32>, Refusal<'a>>
+        requires session { IsSession self.now }
+        ensures ok { IfOk result (λ positions. MeansInputs self.now.run.bench.pair.circuit word.now positions.items) }
+        ensures err { IfErr result (λ refusal. refusal ≢ Refusal.Memory → (positions : List ℕ) →
+            MeansInputs self.now.run.bench.pair.circuit word.now positions → ⊥) }
+    {
+        let literals = self.literals(alloc, word)?;
+        // Its contract says that it is a circuit.
+        self.circuit().facts();
+        let found = positions_of(alloc, self.circuit(), literals.as_slice())?;
+        let Some(positions) = found else {
+            return Err(Refusal::No {
+                word,
+                wanted: Wanted::Input,
+            });
+        };
+        Ok(positions)
+    }
+
+    /// The literals of the latches that a word means, from bit 0 up.
+    pub(crate) fn latches<'a>(
+        &self,
+        alloc: Global,
+        word: &'a [u8],
+    ) -> Result<List<Lit>, Refusal<'a>>
+        requires session { IsSession self.now }
+        ensures ok { IfOk result (MeansLatches self.now.run.bench.pair.circuit word.now) }
+        ensures err { IfErr result (λ refusal. refusal ≢ Refusal.Memory → (latches : List ℕ) →
+            MeansLatches self.now.run.bench.pair.circuit word.now latches → ⊥) }
+    {
+        let literals = self.literals(alloc, word)?;
+        // Its contract says that it is a circuit.
+        self.circuit().facts();
+        if !are_latches(self.circuit(), literals.as_slice()) {
+            return Err(Refusal::No {
+                word,
+                wanted: Wanted::Latch,
+            });
+        }
+        Ok(literals)
+    }
+
+    /// The number of the latch that does not start as its reset says, the least, with its value; none where all do.
+    pub(crate) fn other_start(&self) -> Option<(u32, Tern)>
+        requires session { IsSession self.now }
+        ensures some { IfSome result (λ found.
+            StartsWrong (own_circuit self.now) (start_of self.now.run.bench.pair.circuit) found.0) }
+        ensures none { IfNone result (StartsRight (own_circuit self.now) (start_of self.now.run.bench.pair.circuit)) }
+    {
+        let circuit = self.circuit();
+        // Its contract says that it is a circuit.
+        circuit.facts();
+        let own = self.run.latches.as_slice();
+        let now = circuit.latches();
+        for place in 0..own.len().min(now.len()) {
+            if starts_elsewhere(own[place], now[place]) {
+                return Some((place as u32, aig_sim::first_value(now[place])));
+            }
+        }
+        None
+    }
+
+    /// Whether all latches start as their resets say, those without one at x.
+    pub(crate) fn starts_by_reset(&self) -> bool
+        requires session { IsSession self.now }
+        ensures { IsTrue result ↔ (start_of self.now.run.bench.pair.circuit ≡ start_of (own_circuit self.now)) }
+    {
+        let circuit = self.circuit();
+        let own = self.run.latches.as_slice();
+        let now = circuit.latches();
+        for place in 0..own.len().min(now.len()) {
+            let start = aig_sim::first_value(now[place]);
+            let reset = aig_sim::first_value(own[place]);
+            if start != reset {
+                return false;
+            }
+        }
+        true
+    }
+
+    /// Whether start or rows are others than those that were read or written last.
+    pub(crate) fn has_edited_run(&self) -> bool
+        ensures { IsTrue result ↔ (KeepsRun self.now.kept self.now.run.bench.pair → ⊥) }
+    {
+        !self.kept.is_of(&self.run.bench)
+    }
+}
