@@ -25,6 +25,7 @@ use Rattle.aig_commands.specs.Witness.{WritesWitness}
 use Rattle.aig_why.specs.Why.{WritesWhy, WritesWhyWitness}
 use Rattle.aig_files.specs.declared.exit.Exit.{Exit}
 use Rattle.aig.specs.Ends.{ChecksWitness, Ends, EndsSelectingNamed, ForSomeText, end_of, end_of_verdict}
+use Rattle.aig.specs.Sessions.{EndsSession}
 use Rattle.aig.specs.declared.command.Command.{Command}
 use Rattle.aig.specs.declared.command.Command.TheVariants as commands
 
@@ -41,6 +42,7 @@ EndsAsMeant left (commands.WaveWitness circuit witness) result =
 EndsAsMeant left (commands.Bench circuit stimulus script kept) result =
     IfSome (left circuit) (λ file. IfSome (left stimulus) (λ rows.
     Ends end_of (ForSomeText (run_faults.Script scripts.Io) (LeavesBench file rows)) result))
+EndsAsMeant left (commands.Shell circuit given) result = EndsSession left circuit given result
 EndsAsMeant left (commands.Unroll frames to circuit) result =
     IfSome (left circuit) (λ file. Ends end_of (OfFile file (UnrollsKept frames to)) result)
 EndsAsMeant left (commands.UnrollAndMap frames to circuit opened map) result =

@@ -9,6 +9,7 @@ use crate::properties::{
     open_circuit_and_properties, open_circuit_and_property, open_circuit_and_query,
     open_circuit_and_reached,
 };
+use crate::sessions::GivenFile;
 use aig_cli::{has_flag, subcommand_of, text_of};
 use aig_files::{Exit, Part, Source, open};
 use aig_terminal::{Terminal, Tracked};
@@ -40,6 +41,7 @@ fn open_command<'m, 't, R: Files + AllocGlobal + Clock + Eprint>(
         "sim" => open_sim(terminal, matches),
         "wave" => open_wave(terminal, matches),
         "bench" => open_bench(terminal, matches),
+        "shell" => open_shell(terminal, matches),
         "unroll" => open_unroll(terminal, matches),
         "check" => open_check(terminal, matches),
         "cnf" => open_cnf(terminal, matches),
@@ -107,6 +109,34 @@ fn open_bench<'m, 't, R: Files + AllocGlobal + Clock + Eprint>(
         script,
         kept: kept_of(matches),
     })
+}
+
+fn open_shell<'m, 't, R: Files + AllocGlobal + Clock + Eprint>(
+    terminal: &'t Terminal<'t, R>,
+    matches: &'m ArgMatches<'_>,
+) -> Result<Command<'m, Source<Tracked<'t, R, R::File>>>, Exit>
+    ensures options { IfOk result (HoldsOptions matches.now) }
+{
+    let circuit = open_circuit(terminal, matches)?;
+    let given = open_given(terminal, matches)?;
+    Ok(Command::Shell { circuit, given })
+}
+
+/// Opens the file of the run that a session begins with, if one is named.
+fn open_given<'t, R: Files + AllocGlobal + Clock + Eprint>(
+    terminal: &'t Terminal<'t, R>,
+    matches: &ArgMatches<'_>,
+) -> Result<GivenFile<Source<Tracked<'t, R, R::File>>>, Exit> {
+    if text_of(matches, "STIM").is_none() {
+        return Ok(GivenFile::Nothing);
+    }
+    if has_flag(matches, "witness") {
+        let witness = open_named(terminal, matches, "STIM", Part::Witness)?;
+        Ok(GivenFile::Witness(witness))
+    } else {
+        let stimulus = open_named(terminal, matches, "STIM", Part::Stimulus)?;
+        Ok(GivenFile::Stimulus(stimulus))
+    }
 }
 
 fn open_unroll<'m, 't, R: Files + AllocGlobal + Clock + Eprint>(

@@ -87,7 +87,7 @@ where
     ensures { OnOk result (GoesWell (OfFile circuit.now (UnrollsKept frames to))) }
 {
     let circuit = write_unrolled(terminal, frames, to, circuit)?;
-    write_map(terminal.runtime(), &circuit, frames, map)
+    Ok(write_map(terminal.runtime(), &circuit, frames, map)?)
 }
 
 /// Writes the unrolled circuit, and returns the circuit that was read.

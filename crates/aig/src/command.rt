@@ -5,6 +5,7 @@ use crate::certificates::{certified_model_witness, cnf_certified, refute_certifi
 use crate::circuits::{
     cnf, cnf_alive, info, info_names, select, select_named, toaig, unroll, unroll_and_map,
 };
+use crate::sessions::{GivenFile, shell};
 use crate::simulations::{bench, sim, wave};
 use crate::solvers::{model_witness, refute, refute_alive, refute_step};
 use crate::why::{why, why_witness};
@@ -59,6 +60,11 @@ pub enum Command<'a, F> {
         stimulus: F,
         script: F,
         kept: Kept<'a>,
+    },
+    /// `shell`: the answers to the lines of standard input.
+    Shell {
+        circuit: F,
+        given: GivenFile<F>,
     },
     /// `unroll`: a circuit unrolled for some frames.
     Unroll {
@@ -194,7 +200,7 @@ pub enum Command<'a, F> {
 
 impl<F: Read + Drop> Command<'_, F> {
     /// Runs the command, and writes its results to standard output.
-    pub fn run<R: Files + AllocGlobal + Print + Eprint + Clock>(
+    pub fn run<R: Files + AllocGlobal + Print + Eprint + Clock + Input>(
         self,
         terminal: &Terminal<'_, R>,
     ) -> Result<(), Exit>
@@ -213,6 +219,7 @@ impl<F: Read + Drop> Command<'_, F> {
                 script,
                 kept,
             } => bench(terminal, circuit, stimulus, script, kept),
+            Command::Shell { circuit, given } => shell(terminal, circuit, given),
             Command::Unroll {
                 frames,
                 to,

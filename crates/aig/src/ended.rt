@@ -3,7 +3,7 @@ ghost use Rattle.std.specs.Prelude.{◌≡◌, ◌≢◌, Err, IfErr};
 ghost use Rattle.aig.specs.Ends.{IsUnwritten, end_of, end_of_verdict};
 
 use aig_base::Fault;
-use aig_files::{Exit, OUTPUT, Part};
+use aig_files::{Exit, OUTPUT, Part, Unwritten};
 use aig_run::RunFault;
 use aig_sim::Verdict;
 
@@ -43,12 +43,12 @@ pub fn confirmed(answer: Result<Verdict, RunFault>) -> Result<(), Exit>
 }
 
 /// For a file of an option that was not written it ends as for a failed write, or for missing memory.
-pub fn written<T: Drop>(done: Result<T, Exit>) -> Result<T, Exit>
+pub fn written<T: Drop>(done: Result<T, Unwritten>) -> Result<T, Exit>
     ensures fails { IfErr result IsUnwritten }
 {
     match done {
         Ok(value) => Ok(value),
-        Err(Exit::Run(RunFault::Memory)) => Err(Exit::Run(RunFault::Memory)),
+        Err(Unwritten::Memory) => Err(Exit::Run(RunFault::Memory)),
         Err(_) => Err(OUTPUT),
     }
 }

@@ -4,12 +4,12 @@ use aig_base::{Buffered, Circuit, Std};
 use aig_bench::Bench;
 use aig_commands::unroll::unroll_map;
 use aig_commands::{keep_circuit, keep_stimulus};
-use aig_files::{Exit, Kept, NewFile, OUTPUT, OutputFile, find, open_pipe};
+use aig_files::{Kept, NewFile, OutputFile, Unwritten, find, open_pipe};
 use aig_run::RunFault;
 use aig_sim::PlaneGrid;
 use aig_terminal::Shown;
 use std::fs::{Files, Metadata, OpenFile};
-use std::io;
+use std::io::{self, ErrorKind};
 use std::os::fd::AsFd;
 
 /// The files of `--circuit-out` and `--stimulus-out`. Only while their texts are written are the new files on the disk,
@@ -18,6 +18,8 @@ use std::os::fd::AsFd;
 pub struct BenchFiles<'a, F: Drop> {
     circuit: OutputFile<'a, F>,
     stimulus: OutputFile<'a, F>,
+    /// Which of the two was written last, or was not: 0 or 1.
+    place: usize,
 }
 
 impl<'a, F: io::Write + OpenFile + AsFd + Drop> BenchFiles<'a, F> {
@@ -25,27 +27,35 @@ impl<'a, F: io::Write + OpenFile + AsFd + Drop> BenchFiles<'a, F> {
     pub fn begin<R: Files<File = F> + AllocGlobal>(
         rt: &R,
         names: Kept<'a>,
-    ) -> Result<BenchFiles<'a, F>, Exit> {
+    ) -> Result<BenchFiles<'a, F>, Unwritten> {
         let circuit = find(rt, names.circuit)?;
         let stimulus = find(rt, names.stimulus)?;
-        let mut files = BenchFiles { circuit, stimulus };
+        let mut files = BenchFiles {
+            circuit,
+            stimulus,
+            place: 0,
+        };
         files.try_out(rt)?;
         Ok(files)
     }
 
     /// Creates both new files, because one may be in the other's way, and removes them.
-    fn try_out<R: Files<File = F>>(&mut self, rt: &R) -> Result<(), Exit> {
+    fn try_out<R: Files<File = F>>(&mut self, rt: &R) -> Result<(), Unwritten> {
         let created = self.create(rt);
         let removed = self.remove(rt);
         created.and(removed)
     }
 
-    fn create<R: Files<File = F>>(&mut self, rt: &R) -> Result<(), Exit> {
+    fn create<R: Files<File = F>>(&mut self, rt: &R) -> Result<(), Unwritten> {
+        self.place = 1;
         if self.circuit.is_same(&self.stimulus) {
-            return Err(OUTPUT);
+            return Err(Unwritten::Twice);
         }
+        self.place = 0;
         self.circuit.create(rt)?;
+        self.place = 1;
         self.stimulus.create(rt)?;
+        self.place = 0;
         // The new file of the stimulus may have the name of the circuit's file.
         self.circuit.check_name(rt)
     }
@@ -55,8 +65,18 @@ impl<'a, F: io::Write + OpenFile + AsFd + Drop> BenchFiles<'a, F> {
         &mut self,
         rt: &R,
         bench: &Bench<PlaneGrid>,
-    ) -> Result<(), Exit> {
-        let written = self.write_new(rt, bench);
+    ) -> Result<(), Unwritten> {
+        self.write_parts(rt, Part::Circuit(bench), Part::Stimulus(bench))
+    }
+
+    /// Writes a part to each file. If that fails, the new files are removed.
+    fn write_parts<R: Files<File = F>>(
+        &mut self,
+        rt: &R,
+        first: Part<'_>,
+        second: Part<'_>,
+    ) -> Result<(), Unwritten> {
+        let written = self.write_new(rt, first, second);
         if written.is_err() {
             // The program reports the fault that led here, and can do no more.
             let _ = self.remove(rt);
@@ -68,20 +88,75 @@ impl<'a, F: io::Write + OpenFile + AsFd + Drop> BenchFiles<'a, F> {
     fn write_new<R: Files<File = F>>(
         &mut self,
         rt: &R,
-        bench: &Bench<PlaneGrid>,
-    ) -> Result<(), Exit> {
+        first: Part<'_>,
+        second: Part<'_>,
+    ) -> Result<(), Unwritten> {
         self.create(rt)?;
-        write_part(rt, Part::Circuit(bench), &mut self.circuit)?;
-        write_part(rt, Part::Stimulus(bench), &mut self.stimulus)?;
+        write_part(rt, first, &mut self.circuit)?;
+        self.place = 1;
+        write_part(rt, second, &mut self.stimulus)?;
+        self.place = 0;
         self.circuit.take_name(rt)?;
+        self.place = 1;
         self.stimulus.take_name(rt)
     }
 
     /// Removes the new files that have not taken their names.
-    fn remove<R: Files>(&mut self, rt: &R) -> Result<(), Exit> {
+    fn remove<R: Files>(&mut self, rt: &R) -> Result<(), Unwritten> {
         let circuit = self.circuit.remove(rt);
         let stimulus = self.stimulus.remove(rt);
         circuit.and(stimulus)
+    }
+}
+
+/// Which of two files was not written, 0 or 1, and why.
+#[derive(Clone, Copy)]
+pub struct Failure {
+    pub place: usize,
+    pub why: Unwritten,
+}
+
+/// What a name leads to, where it can be written; the name is in this place.
+fn find_at<'a, R: Files + AllocGlobal>(
+    rt: &R,
+    name: Option<&'a str>,
+    place: usize,
+) -> Result<OutputFile<'a, R::File>, Failure> {
+    match find(rt, name) {
+        Ok(file) => Ok(file),
+        Err(why) => Err(Failure { place, why }),
+    }
+}
+
+/// Gives one or two files their texts at once.
+pub fn keep_texts<R: Files + AllocGlobal>(
+    rt: &R,
+    names: Kept<'_>,
+    first: &[u8],
+    second: &[u8],
+) -> Result<(), Failure>
+where
+    R::File: AsFd,
+{
+    if names.circuit == names.stimulus {
+        return Err(Failure {
+            place: 1,
+            why: Unwritten::Twice,
+        });
+    }
+    let circuit = find_at(rt, names.circuit, 0)?;
+    let stimulus = find_at(rt, names.stimulus, 1)?;
+    let mut files = BenchFiles {
+        circuit,
+        stimulus,
+        place: 0,
+    };
+    match files.write_parts(rt, Part::Text(first), Part::Text(second)) {
+        Ok(()) => Ok(()),
+        Err(why) => Err(Failure {
+            place: files.place,
+            why,
+        }),
     }
 }
 
@@ -91,7 +166,7 @@ pub fn begin_map<'a, R: Files + AllocGlobal>(
     rt: &R,
     name: &'a str,
     circuit: &Metadata,
-) -> Result<OutputFile<'a, R::File>, Exit>
+) -> Result<OutputFile<'a, R::File>, Unwritten>
 where
     R::File: AsFd,
 {
@@ -104,12 +179,12 @@ fn try_map<R: Files>(
     rt: &R,
     map: &mut OutputFile<'_, R::File>,
     circuit: &Metadata,
-) -> Result<(), Exit>
+) -> Result<(), Unwritten>
 where
     R::File: AsFd,
 {
     if map.replaces(circuit) {
-        return Err(OUTPUT);
+        return Err(Unwritten::Twice);
     }
     map.try_out(rt)
 }
@@ -120,7 +195,7 @@ pub fn write_map<R: Files>(
     circuit: &Circuit,
     frames: u32,
     map: &mut OutputFile<'_, R::File>,
-) -> Result<(), Exit>
+) -> Result<(), Unwritten>
 where
     R::File: AsFd,
 {
@@ -137,7 +212,7 @@ fn write_new_map<R: Files>(
     circuit: &Circuit,
     frames: u32,
     map: &mut OutputFile<'_, R::File>,
-) -> Result<(), Exit>
+) -> Result<(), Unwritten>
 where
     R::File: AsFd,
 {
@@ -146,12 +221,13 @@ where
     map.take_name(rt)
 }
 
-/// What a file contains: the circuit or the rows of a bench, or the inputs of a circuit unrolled for some frames.
+/// What a file contains: the circuit or the rows of a bench, the inputs of a circuit unrolled for some frames, or a text.
 #[derive(Clone, Copy)]
 enum Part<'a> {
     Circuit(&'a Bench<PlaneGrid>),
     Stimulus(&'a Bench<PlaneGrid>),
     Inputs(&'a Circuit, u32),
+    Text(&'a [u8]),
 }
 
 /// Writes a part if its option is given. A file has not taken its name then.
@@ -159,7 +235,7 @@ fn write_part<R: Files>(
     rt: &R,
     part: Part<'_>,
     output: &mut OutputFile<'_, R::File>,
-) -> Result<(), Exit>
+) -> Result<(), Unwritten>
 where
     R::File: AsFd,
 {
@@ -172,7 +248,7 @@ where
     }
 }
 
-fn write_pipe<R: Files>(rt: &R, part: Part<'_>, name: &str) -> Result<(), Exit> {
+fn write_pipe<R: Files>(rt: &R, part: Part<'_>, name: &str) -> Result<(), Unwritten> {
     let mut pipe = open_pipe(rt, name)?;
     write_text(part, &mut pipe)
 }
@@ -180,22 +256,31 @@ fn write_pipe<R: Files>(rt: &R, part: Part<'_>, name: &str) -> Result<(), Exit> 
 fn write_file<F: io::Write + OpenFile + AsFd + Drop>(
     part: Part<'_>,
     new: &mut NewFile<F>,
-) -> Result<(), Exit> {
+) -> Result<(), Unwritten> {
     if let Some(file) = new.file() {
         write_text(part, file)?;
     }
     new.complete()
 }
 
-fn write_text<F: io::Write>(part: Part<'_>, file: &mut F) -> Result<(), Exit> {
-    Ok(write_whole(part, file)?)
+fn write_text<F: io::Write>(part: Part<'_>, file: &mut F) -> Result<(), Unwritten> {
+    match part {
+        Part::Circuit(bench) => written(keep_circuit(bench, &mut Std::new(file))),
+        Part::Stimulus(bench) => written(keep_stimulus(bench, &mut Std::new(file))),
+        Part::Inputs(circuit, frames) => written(write_inputs(circuit, frames, file)),
+        Part::Text(text) => match file.write_all(text) {
+            Ok(()) => Ok(()),
+            Err(error) => Err(Unwritten::of(&error)),
+        },
+    }
 }
 
-fn write_whole<F: io::Write>(part: Part<'_>, file: &mut F) -> Result<(), RunFault> {
-    match part {
-        Part::Circuit(bench) => keep_circuit(bench, &mut Std::new(file)),
-        Part::Stimulus(bench) => keep_stimulus(bench, &mut Std::new(file)),
-        Part::Inputs(circuit, frames) => write_inputs(circuit, frames, file),
+/// A write that failed, of which no more is known.
+fn written(done: Result<(), RunFault>) -> Result<(), Unwritten> {
+    match done {
+        Ok(()) => Ok(()),
+        Err(RunFault::Memory) => Err(Unwritten::Memory),
+        Err(_) => Err(Unwritten::System(ErrorKind::Other)),
     }
 }
 

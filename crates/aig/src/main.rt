@@ -12,6 +12,7 @@ mod looked_at;
 mod named_files;
 mod options;
 mod properties;
+mod sessions;
 mod simulations;
 mod solvers;
 mod why;
@@ -35,6 +36,7 @@ use std::time::Clock;
 
 fn main(rt: HostRuntime) -> ExitCode {
     let terminals = Terminals {
+        input: rt.stdin().is_terminal(),
         output: rt.stdout().is_terminal(),
         error: rt.stderr().is_terminal(),
     };
@@ -45,7 +47,7 @@ fn main(rt: HostRuntime) -> ExitCode {
 }
 
 /// Runs what the arguments ask for. If that fails, the reason is printed already.
-fn run<R: Env + Files + AllocGlobal + Print + Eprint + Clock>(
+fn run<R: Env + Files + AllocGlobal + Print + Eprint + Clock + Input>(
     rt: &R,
     terminals: Terminals,
 ) -> Result<(), Exit>
@@ -57,7 +59,7 @@ where
     run_words(rt, terminals, words.as_slice())
 }
 
-fn run_words<R: Env + Files + AllocGlobal + Print + Eprint + Clock>(
+fn run_words<R: Env + Files + AllocGlobal + Print + Eprint + Clock + Input>(
     rt: &R,
     terminals: Terminals,
     words: &[String],
@@ -78,7 +80,7 @@ where
 }
 
 /// Runs the command that the arguments choose. The line that says how far it is is gone afterwards.
-fn run_command<R: Files + AllocGlobal + Print + Eprint + Clock>(
+fn run_command<R: Files + AllocGlobal + Print + Eprint + Clock + Input>(
     rt: &R,
     terminals: Terminals,
     matches: &ArgMatches<'_>,
@@ -92,7 +94,7 @@ where
     done
 }
 
-fn run_on<'t, R: Files + AllocGlobal + Print + Eprint + Clock>(
+fn run_on<'t, R: Files + AllocGlobal + Print + Eprint + Clock + Input>(
     terminal: &'t Terminal<'t, R>,
     matches: &'t ArgMatches<'_>,
 ) -> Result<(), Exit>

@@ -281,6 +281,21 @@ pub const IS_WITNESS: Argument = Argument {
     need: Need::Never,
 };
 
+/// The flag of a session that begins with the run of a witness, which is then given.
+pub const BEGINS_WITH_WITNESS: Argument = Argument {
+    name: "witness",
+    help: "Begin with the run of a witness instead of a stimulus",
+    kind: Kind::Flag,
+    need: Need::With("STIM"),
+};
+
+pub const BEGINNING: Argument = Argument {
+    name: "STIM",
+    help: "File of the stimulus to begin with (default: no\nframes); with --witness, file of the witness",
+    kind: Kind::Text,
+    need: Need::Never,
+};
+
 pub const TRACE: Argument = Argument {
     name: "trace",
     help: "Print the trace of the run before the verdict",

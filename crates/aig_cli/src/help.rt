@@ -17,6 +17,7 @@ Runs:
   sim         Simulate a circuit and print one line per frame
   wave        Simulate a circuit and print a dump for waveform viewers
   bench       Run a script of edits and queries on a simulation
+  shell       Edit and query a simulation at a prompt, with names
 
 Verdicts:
   check       Check that a witness reaches a bad state, and print the verdict
@@ -112,6 +113,22 @@ must not exist, and then renames it to FILE. It writes to a device or a pipe
 directly.
 
 Example: aig bench examples/fifo.aag examples/fifo.stim examples/fifo.script
+See also: man aig, man 5 aig-formats";
+
+pub const SHELL: &str =
+    "Each line of standard input is one command; the command help lists them. Its
+answer is one or more lines, or none if all is well. After an answer that begins
+with \"no: \" nothing has changed. The prompt appears if standard input is a
+terminal.
+
+A name is a word of a symbol, a vector without its [..], a letter and a position
+(i0, l3, o1, b0, c2), or a literal; a ! before it negates. Values are digits of
+base 16, or binary digits if a bit is x.
+
+save, witness and wave write a file at once, as bench does at its end. ^C leaves
+without saving.
+
+Example: aig shell --witness examples/queue.aig examples/queue.wit
 See also: man aig, man 5 aig-formats";
 
 pub const UNROLL: &str =

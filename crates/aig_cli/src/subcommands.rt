@@ -61,7 +61,7 @@ static FILES: [Subcommand; 4] = [
     },
 ];
 
-static RUNS: [Subcommand; 3] = [
+static RUNS: [Subcommand; 4] = [
     Subcommand {
         name: "sim",
         about: "Simulate a circuit and print one line per frame",
@@ -87,6 +87,17 @@ static RUNS: [Subcommand; 3] = [
             arguments::CIRCUIT,
             arguments::STIMULUS,
             arguments::SCRIPT,
+        ],
+    },
+    Subcommand {
+        name: "shell",
+        about: "Edit and query a simulation at a prompt, with names",
+        help: help::SHELL,
+        choice: None,
+        arguments: &[
+            arguments::BEGINS_WITH_WITNESS,
+            arguments::CIRCUIT,
+            arguments::BEGINNING,
         ],
     },
 ];

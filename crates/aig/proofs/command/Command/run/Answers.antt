@@ -31,3 +31,9 @@ returns-in-Select g c =
     record {
       ends = subst (λ x. EndsAsMeant g.F.Read.remaining x c.select.result) (sym c.in-Select.is) c.select.ensures.ends;
     }
+
+pub returns-in-Shell : goal.returns-in-Shell
+returns-in-Shell g c =
+    record {
+      ends = subst (λ x. EndsAsMeant g.F.Read.remaining x c.shell.result) (sym c.in-Shell.is) c.shell.ensures.ends;
+    }

@@ -1,0 +1,197 @@
+//! `shell`: a session over the terminal of its user.
+ghost use Rattle.std.specs.Prelude.{IfSome};
+ghost use Rattle.aig_shell.specs.Conversation as begun;
+ghost use Rattle.aig_shell.specs.Conversation.{begun_of};
+ghost use Rattle.aig.specs.Ends.{Ends, end_of};
+ghost use Rattle.aig.specs.Sessions.{EndsSession, HoldsSession};
+
+use crate::ended::ended;
+use crate::kept::{Failure, keep_texts};
+use aig_base::Std;
+use aig_files::{Exit, Kept, Part, Unwritten, output, read_whole};
+use aig_shell::{FileText, Given, Keep, Reason, Unkept, run_shell};
+use aig_terminal::Terminal;
+use std::fs::Files;
+use std::io::{ErrorKind, Read};
+use std::os::fd::AsFd;
+use std::str;
+use std::time::Clock;
+
+/// The run that a session begins with, in a file.
+#[derive(Drop)]
+pub enum GivenFile<F> {
+    Nothing,
+    Stimulus(F),
+    Witness(F),
+}
+
+/// Files that a session writes.
+#[derive(Drop)]
+struct SessionFiles<'a, R> {
+    rt: &'a R,
+}
+
+/// The name of a file, as the system takes it.
+fn name_of(bytes: &[u8], place: usize) -> Result<&str, Unkept> {
+    match str::from_utf8(bytes) {
+        Ok(name) => Ok(name),
+        Err(_) => Err(Unkept {
+            place,
+            reason: Reason::Name,
+        }),
+    }
+}
+
+/// What a refusal says of an error of the system.
+fn reason_of(kind: ErrorKind) -> Reason {
+    match kind {
+        ErrorKind::StorageFull => Reason::NoSpace,
+        ErrorKind::PermissionDenied => Reason::NoPermission,
+        ErrorKind::NotFound => Reason::NotFound,
+        ErrorKind::IsADirectory => Reason::IsFolder,
+        ErrorKind::NotADirectory => Reason::NoFolder,
+        ErrorKind::ReadOnlyFilesystem => Reason::ReadOnly,
+        ErrorKind::QuotaExceeded => Reason::Quota,
+        ErrorKind::FileTooLarge => Reason::TooLarge,
+        ErrorKind::InvalidFilename => Reason::LongName,
+        ErrorKind::OutOfMemory => Reason::Memory,
+        _ => Reason::Failed,
+    }
+}
+
+/// Why a file was not written, as a refusal says it.
+fn unkept(failure: Failure) -> Unkept {
+    let reason = match failure.why {
+        Unwritten::Memory => Reason::Memory,
+        Unwritten::System(kind) => reason_of(kind),
+        Unwritten::NewExists => Reason::NewExists,
+        Unwritten::Standard => Reason::Standard,
+        Unwritten::Twice => Reason::Twice,
+    };
+    Unkept {
+        place: failure.place,
+        reason,
+    }
+}
+
+impl<R: Files + AllocGlobal> Keep for SessionFiles<'_, R>
+where
+    R::File: AsFd,
+{
+    ghost use Rattle.std.specs.Prelude.{None};
+
+    ghost kept = { λ _. None };
+
+    fn keep(&mut self, files: &[FileText<'_, '_>]) -> Result<(), Unkept> {
+        let Some(first) = files.first() else {
+            return Ok(());
+        };
+        let circuit = name_of(first.name, 0)?;
+        let (stimulus, rows): (Option<&str>, &[u8]) = match files.get(1) {
+            Some(second) => (Some(name_of(second.name, 1)?), second.text),
+            None => (None, b""),
+        };
+        let names = Kept {
+            circuit: Some(circuit),
+            stimulus,
+        };
+        match keep_texts(self.rt, names, first.text, rows) {
+            Ok(()) => Ok(()),
+            Err(failure) => Err(unkept(failure)),
+        }
+    }
+}
+
+/// Answers the lines of standard input, about the circuit and the run of these files.
+pub fn shell<R: Files + AllocGlobal + Print + Eprint + Clock + Input, F: Read + Drop>(
+    terminal: &Terminal<'_, R>,
+    circuit: F,
+    given: GivenFile<F>,
+) -> Result<(), Exit>
+where
+    R::File: AsFd,
+    ensures ends { EndsSession F.remaining circuit given result }
+{
+    match given {
+        GivenFile::Nothing => begin(terminal, circuit),
+        GivenFile::Stimulus(stimulus) => begin_with_stimulus(terminal, circuit, stimulus),
+        GivenFile::Witness(witness) => begin_with_witness(terminal, circuit, witness),
+    }
+}
+
+/// Begins with no frames.
+fn begin<R: Files + AllocGlobal + Print + Eprint + Clock + Input, F: Read + Drop>(
+    terminal: &Terminal<'_, R>,
+    circuit: F,
+) -> Result<(), Exit>
+where
+    R::File: AsFd,
+    ensures { IfSome (F.remaining circuit) (λ file. Ends end_of (HoldsSession file begun.nothing) result) }
+{
+    let circuit = read_whole(terminal.alloc(), circuit, Part::Circuit)?;
+    answer(terminal, circuit.as_slice(), Given::Nothing)
+}
+
+/// Begins with the rows of a stimulus.
+fn begin_with_stimulus<R: Files + AllocGlobal + Print + Eprint + Clock + Input, F: Read + Drop>(
+    terminal: &Terminal<'_, R>,
+    circuit: F,
+    stimulus: F,
+) -> Result<(), Exit>
+where
+    R::File: AsFd,
+    ensures { IfSome (F.remaining circuit) (λ file. IfSome (F.remaining stimulus) (λ text.
+        Ends end_of (HoldsSession file (begun.stimulus text)) result)) }
+{
+    let circuit = read_whole(terminal.alloc(), circuit, Part::Circuit)?;
+    let stimulus = read_whole(terminal.alloc(), stimulus, Part::Stimulus)?;
+    let file = circuit.as_slice();
+    let text = stimulus.as_slice();
+    answer(terminal, file, Given::Stimulus(text))
+}
+
+/// Begins with the run of a witness.
+fn begin_with_witness<R: Files + AllocGlobal + Print + Eprint + Clock + Input, F: Read + Drop>(
+    terminal: &Terminal<'_, R>,
+    circuit: F,
+    witness: F,
+) -> Result<(), Exit>
+where
+    R::File: AsFd,
+    ensures { IfSome (F.remaining circuit) (λ file. IfSome (F.remaining witness) (λ text.
+        Ends end_of (HoldsSession file (begun.witness text)) result)) }
+{
+    let circuit = read_whole(terminal.alloc(), circuit, Part::Circuit)?;
+    let witness = read_whole(terminal.alloc(), witness, Part::Witness)?;
+    let file = circuit.as_slice();
+    let text = witness.as_slice();
+    answer(terminal, file, Given::Witness(text))
+}
+
+/// Answers the lines.
+fn answer<R: Files + AllocGlobal + Print + Eprint + Clock + Input>(
+    terminal: &Terminal<'_, R>,
+    circuit: &[u8],
+    given: Given<'_>,
+) -> Result<(), Exit>
+where
+    R::File: AsFd,
+    ensures { Ends end_of (HoldsSession circuit.now (begun_of given.entry)) result }
+{
+    // The line that says how far a run is would stand between a person's lines.
+    terminal.end();
+    let mut files = SessionFiles {
+        rt: terminal.runtime(),
+    };
+    let mut lines = Std::new(terminal.runtime().reader());
+    let mut out = output(terminal);
+    ended(run_shell(
+        terminal.alloc(),
+        circuit,
+        given,
+        terminal.has_person(),
+        &mut files,
+        &mut lines,
+        &mut out,
+    ))
+}
