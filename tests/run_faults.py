@@ -6,10 +6,11 @@ no memory go on. Parts that need a C compiler (`cc`) are left out where there is
 from faults.allocations import allocations
 from faults.calls import calls
 from faults.kept import kept
+from faults.sessions import sessions
 from faults.writes import writes
 from library import runs
 
-PARTS = {"allocations": allocations, "writes": writes, "calls": calls, "kept": kept}
+PARTS = {"allocations": allocations, "writes": writes, "calls": calls, "kept": kept, "sessions": sessions}
 
 if __name__ == "__main__":
     runs.main(__doc__, PARTS)

@@ -30,6 +30,7 @@ from program.reduce import reduce
 from program.refute import refute
 from program.replays import replays
 from program.select import select
+from program.shell import shell
 from program.sim import sim
 from program.talks import talks
 from program.terminals import terminals
@@ -46,7 +47,8 @@ PARTS = {"bench": bench, "kept": kept, "owners": owners, "descriptors": descript
          "large_proofs": large_proofs, "certificates": certificates, "properties": properties,
          "names": names, "ample": ample, "reduce": reduce, "why": why, "help": helps,
          "pages": pages, "completions": completions, "diagnostics": diagnostics, "explain": explain,
-         "explain_option": explain_option, "needs": needs, "talks": talks, "progress": progress, "terminals": terminals}
+         "explain_option": explain_option, "needs": needs, "talks": talks, "progress": progress, "terminals": terminals,
+         "shell": shell}
 
 if __name__ == "__main__":
     runs.main(__doc__, PARTS)

@@ -1,8 +1,9 @@
 #!/usr/bin/env python3
 """Runs the built program on files made at random: broken ones through every subcommand; scripts, whose replies have to
 be those of a plain workbench; dumps, in which a plain reader has to find the trace; runs of witnesses; formulas, also of
-whether a run keeps the constraints; selections of properties; witnesses of runs; reduced witnesses; and certificates,
-beside a search of all states. The gate runs a few hundred cases of each; --count and --seed choose others."""
+whether a run keeps the constraints; selections of properties; witnesses of runs; reduced witnesses; certificates,
+beside a search of all states; and sessions of `aig shell`, beside the plain workbench. The gate runs a few hundred cases
+of each; --count and --seed choose others."""
 
 from at_random import cases
 from at_random.alive import alive
@@ -13,13 +14,14 @@ from at_random.reductions import reductions
 from at_random.replays import replays
 from at_random.scripts import scripts
 from at_random.selections import selections
+from at_random.sessions import sessions
 from at_random.waves import waves
 from at_random.witnesses import witnesses
 from library import runs
 
 PARTS = {"hostile": hostile, "scripts": scripts, "waves": waves, "replays": replays, "formulas": formulas,
          "alive": alive, "selections": selections, "witnesses": witnesses, "reductions": reductions,
-         "certificates": certificates}
+         "certificates": certificates, "sessions": sessions}
 
 if __name__ == "__main__":
     runs.main(__doc__, PARTS, options=cases.options)

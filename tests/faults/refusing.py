@@ -40,9 +40,10 @@ class Refusing:
         settings = {name: str(value) for name, value in settings.items()}
         return {**os.environ, "LD_PRELOAD": self.library, **settings}
 
-    def run(self, *words, **settings):
+    def run(self, *words, input=None, **settings):
         """How the run ended where the library has these settings."""
-        return self.program.run(*words, env=self.environment(**settings))
+        given = {} if input is None else {"input": input}
+        return self.program.run(*words, env=self.environment(**settings), **given)
 
     def counted(self, *words, **settings):
         """The same, and how many calls there were that could have failed."""

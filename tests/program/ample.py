@@ -14,6 +14,7 @@ RUNS = {
     "sim": ("CIRCUIT ROWS", b"\n"),
     "wave": ("CIRCUIT ROWS", b"$enddefinitions"),
     "bench": ("--circuit-out kept --stimulus-out kept_rows CIRCUIT ROWS SCRIPT", b"ok\n"),
+    "shell": ("--witness CIRCUIT WITNESS", b": reached at "),
     "unroll": ("--frames 3 --to aag --map map CIRCUIT", b"aag "),
     "check": ("CIRCUIT WITNESS", b"confirmed\n"),
     "cnf": ("--frames 3 CIRCUIT", b"p cnf "),
@@ -25,6 +26,8 @@ RUNS = {
     "why": ("--witness CIRCUIT WITNESS", b"=1 at 3"),
     "strengthen": ("--to aag --certificate CERTIFICATE CIRCUIT", b"aag "),
 }
+# The lines that `shell` reads.
+LINES = b"show b0\ncheck\nset 0 i0 x\ndiff\nnew i0 0\nout o0 1\nsave kept kept_rows\nwitness kept_wit\nwave kept_dump\n"
 # Further runs of these commands.
 MORE = (
     ("toaig", "--to aag CIRCUIT", b"aag "), ("wave", "--witness CIRCUIT WITNESS", b"$enddefinitions"),
@@ -73,6 +76,6 @@ def ample(program, tally, _):
     for command, words, said in [*((name, *run) for name, run in RUNS.items()), *MORE]:
         for names in (small, files):
             asked = [command, *(names.get(word, word) for word in words.split(" "))]
-            ended = program.run(*asked)
+            ended = program.run(*asked, input=LINES)
             tally.check(f"ample: {' '.join(asked)}", ended.status == 0 and ended.err == b"" and said in ended.out,
                         (ended.status, ended.err, ended.out[:80]))
