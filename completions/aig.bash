@@ -2,7 +2,7 @@
 # tools/make_completions.py writes aig.bash: its tables from the program's help, all else from aig.bash.in.
 
 _aig() {
-    local commands="toaig info select unroll sim wave bench check witness reduce why cnf refute strengthen help"
+    local commands="toaig info select unroll sim wave bench shell check witness reduce why cnf refute strengthen help"
     local -A options=(
         [toaig]="--to --explain --progress --help"
         [info]="--names --explain --progress --help"
@@ -11,6 +11,7 @@ _aig() {
         [sim]="--explain --progress --help"
         [wave]="--witness --explain --progress --help"
         [bench]="--circuit-out --stimulus-out --explain --progress --help"
+        [shell]="--witness --explain --progress --help"
         [check]="--trace --explain --progress --help"
         [witness]="--model --frames --step --certificate --property --explain --progress --help"
         [reduce]="--explain --progress --help"
