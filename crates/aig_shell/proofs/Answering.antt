@@ -10,7 +10,7 @@ use Rattle.aig_shell.specs.Ends.{EndsChange, EndsFiles, EndsQuery}
 use Rattle.aig_shell.specs.Files.{KeptText}
 use Rattle.aig_shell.specs.Request.{Request, set, start, add, rewire, append, out, help}
 use Rattle.aig_shell.specs.Request as request
-use Rattle.aig_shell.specs.Session.{IsIn, KeepsFirst, KeepsRest}
+use Rattle.aig_shell.specs.Session.{HasSameEntries, IsIn, KeepsFirst, KeepsRest}
 use Rattle.aig_shell.specs.State.{SessionState}
 use Rattle.aig_shell.specs.declared.command.Edit.{Edit}
 use Rattle.aig_shell.specs.declared.command.Export.{Export}
@@ -20,16 +20,19 @@ use Rattle.aig_shell.specs.declared.refusal.Refusal.{Refusal}
 use Rattle.aig_shell.specs.declared.refusal.Refusal.TheVariants as refusals
 use Rattle.aig_shell.specs.declared.run_kept.FirstRun.{FirstRun}
 use Rattle.aig_shell.specs.declared.session.Session.{Session}
+use Rattle.aig_shell.proofs.Entries.{leads_entries}
 
 -- the state of a session that keeps all but the pair and the flag of the circuit
-in_next : (old new : Session) (s after : SessionState) → IsIn old s → KeepsRest old new → after.pair ≡ new.run.bench.pair
+in_next : (old new : Session) (s after : SessionState) → IsIn old s → KeepsRest old new
+    → HasSameEntries s.first.circuit new.run.bench.pair.circuit → after.pair ≡ new.run.bench.pair
     → after.latches ≡ s.latches → after.first ≡ s.first → after.kept ≡ s.kept → after.has_edited_circuit ≡ new.has_edited_circuit
     → IsIn new after
-in_next old new s after h k pair latches first kept circuit = record {
+in_next old new s after h k entries pair latches first kept circuit = record {
   pair = pair;
   latches = latches ∙ h.latches ∙ sym (ap (λ v. v.items) k.latches);
   first = subst (λ (p : CircuitAndRows). KeepsFirst new.first p) (sym first)
       (subst (λ (f : FirstRun). KeepsFirst f s.first) (sym k.first) h.first);
+  entries = subst (λ (p : CircuitAndRows). HasSameEntries p.circuit new.run.bench.pair.circuit) (sym first) entries;
   start = ap (λ r. r.start) kept ∙ h.start ∙ sym (ap (λ r. r.start.items) k.kept);
   rows = ap (λ r. r.rows) kept ∙ h.rows ∙ sym (ap (λ r. r.rows.rows) k.kept);
   circuit = circuit;
@@ -38,7 +41,15 @@ in_next old new s after h k pair latches first kept circuit = record {
 -- a session that stays is in the state before
 in_same : (old new : Session) (s : SessionState) → IsIn old s → KeepsRest old new → new.run.bench.pair ≡ old.run.bench.pair
     → new.has_edited_circuit ≡ old.has_edited_circuit → IsIn new s
-in_same old new s h k pair circuit = in_next old new s s h k (h.pair ∙ sym pair) refl refl refl (h.circuit ∙ sym circuit)
+in_same old new s h k pair circuit =
+    in_next old new s s h k (subst (λ (p : CircuitAndRows). HasSameEntries s.first.circuit p.circuit) (sym pair) h.entries)
+    (h.pair ∙ sym pair) refl refl refl (h.circuit ∙ sym circuit)
+
+-- edits leave the entries
+does_entries : (old new : Session) (r : Request) (s : SessionState) → IsIn old s → Does old.run.bench.pair r new.run.bench.pair
+    → HasSameEntries s.first.circuit new.run.bench.pair.circuit
+does_entries old new r s h (edits, asks, leads) =
+    leads_entries s.first.circuit edits old.run.bench.pair new.run.bench.pair h.entries leads
 
 refused : (old new : Session) (r : Request) (s : SessionState) → IsIn old s → IsImpossible old.run.bench.pair r
     → IsImpossible s.pair r
@@ -54,7 +65,7 @@ run_changed old new r (Ok x) text k same does holds denied = λ s h.
     let after : SessionState = record s { pair = q; has_warned = false } in (
       after,
       holds s after (q, subst (λ (p : CircuitAndRows). Does p r q) (sym h.pair) does, refl),
-      in_next old new s after h k refl refl refl refl (h.circuit ∙ sym same),
+      in_next old new s after h k (does_entries old new r s h does) refl refl refl refl (h.circuit ∙ sym same),
     )
 run_changed old new r (Err refusal) text k same (none, kept) holds denied =
     ((λ s h. in_same old new s h k kept same), λ other s h. denied s (refused old new r s h (none other)))
@@ -70,7 +81,7 @@ circuit_changed old new r (Ok x) text k edited does holds denied = λ s h.
     let after : SessionState = record s { pair = q; has_edited_circuit = true; has_warned = false } in (
       after,
       holds s after h.pair (q, subst (λ (p : CircuitAndRows). Does p r q) (sym h.pair) does, refl),
-      in_next old new s after h k refl refl refl refl (sym edited),
+      in_next old new s after h k (does_entries old new r s h does) refl refl refl refl (sym edited),
     )
 circuit_changed old new r (Err refusal) text k same (none, kept) holds denied =
     ((λ s h. in_same old new s h k kept same), λ other s h. denied s (refused old new r s h (none other)))

@@ -1,9 +1,9 @@
 -- Signals now and in the run that was read.
-use Rattle.std.proofs.Common.{◌≡◌, ◌≢◌, ℕ, zero, suc, ◌+◌, ◌-◌, ◌<◌, ◌≤◌, List, [], ◌∷◌, ◌++◌, All, length, map, take, get_or, Option, None, Some, IfSome, IfNone, slice_get, inl, inr, refl, sym, ap, subst, ◌∙◌, arith}
+use Rattle.std.proofs.Common.{◌≡◌, ℕ, zero, suc, ◌+◌, ◌-◌, ◌<◌, ◌≤◌, List, [], ◌∷◌, ◌++◌, All, length, map, take, get_or, Option, None, Some, IfSome, IfNone, slice_get, inl, inr, refl, sym, ap, subst, ◌∙◌, arith}
 use Rattle.std.specs.Prelude.{slice_index_or}
-use Rattle.std.specs.List.{AllZip, flat_map, range_with_len}
+use Rattle.std.specs.List.{flat_map, range_with_len}
 use Rattle.std.proofs.lemmas.List.{map-append}
-use Rattle.std.proofs.lemmas.List.Elements.{All-nil, All-cons, All-head, All-tail, All-map, All-append, All-weaker}
+use Rattle.std.proofs.lemmas.List.Elements.{All-nil, All-head, All-tail, All-weaker, All-map, All-append}
 use Rattle.std.proofs.lemmas.Option.{get_or_from_slice_get, slice_get-get_or}
 use Rattle.aig_parts.specs.declared.raw.Raw.{Raw}
 use Rattle.aig_parts.specs.declared.symbols.Kind.{Kind}
@@ -21,8 +21,7 @@ use Rattle.aig_signals.specs.Value.{table_text}
 use Rattle.aig_signals.proofs.Defined.{section_known}
 use Rattle.aig_signals.proofs.RunLemmas.{IsRunIn, IsThere, runs_in}
 use Rattle.aig_shell.specs.declared.run_kept.FirstRun.{FirstRun}
-use Rattle.aig_shell.specs.declared.session.Session.{Session}
-use Rattle.aig_shell.specs.Session.{KeepsFirst, IsFirst, HasSameEntries}
+use Rattle.aig_shell.specs.Session.{KeepsFirst, HasSameEntries}
 use Rattle.aig_shell.specs.Tables.{AreBits, IsCellOrDot}
 use Rattle.aig_shell.proofs.Shown.{bits_more, range_more}
 
@@ -67,7 +66,7 @@ module _ (raw : Raw) (circuit : IsCircuit raw) where
       All-map (λ l. IsDefined raw (variable l)) (literal_of raw signal.kind) (range_with_len signal.first (signal.end - signal.first))
       (λ k d lt. index_known (literals_of raw signal.kind) _ (section_known raw circuit signal.kind))
 
--- the entries of each signal are there
+-- the entries of all signals are there
 section_there : (raw : Raw) (kind : Kind) → All (IsThere raw) (section_signals raw kind)
 unfolding section_signals
 section_there raw kind =
@@ -78,7 +77,8 @@ section_there raw kind =
 sections_there : (raw : Raw) (kinds : List Kind) → All (IsThere raw) (flat_map (section_signals raw) kinds)
 sections_there raw [] = All-nil (IsThere raw)
 sections_there raw (kind ∷ kinds) =
-    All-append (IsThere raw) (section_signals raw kind) (flat_map (section_signals raw) kinds) (section_there raw kind) (sections_there raw kinds)
+    All-append (IsThere raw) (section_signals raw kind) (flat_map (section_signals raw) kinds) (section_there raw kind)
+    (sections_there raw kinds)
 
 -- a signal of the session's is there
 pub signal_within : (raw : Raw) (signals items : List Signal) (i : ℕ) (signal : Signal) → items ≡ signals → signals ≡ signals_of raw

@@ -2,9 +2,12 @@ mod Allowed
 mod Answering
 mod Asking
 mod Checking
+mod Columns
 mod Commands
 mod Differences
+mod Differing
 mod Dumps
+mod Entries
 mod Explained
 mod FirstRuns
 mod Impossible

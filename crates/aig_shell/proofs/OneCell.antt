@@ -1,5 +1,5 @@
 -- A signal has one text at a frame, and what follows for the frames at which it differs.
-use Rattle.std.proofs.Common.{◌≡◌, ◌≢◌, ℕ, zero, suc, ◌+◌, ◌<◌, ◌≤◌, ◌⊎◌, Bool, true, false, not, List, [], ◌∷◌, length, map, Some, Option, inl, inr, refl, sym, ap, ap₂, ◌∙◌, subst, arith}
+use Rattle.std.proofs.Common.{◌≡◌, ◌≢◌, ℕ, ◌+◌, Bool, true, false, not, List, [], ◌∷◌, map, Some, inl, inr, refl, sym, ap, ap₂, ◌∙◌, subst, arith}
 use Rattle.std.specs.List.{AllZip}
 use Rattle.std.specs.Str.{bytes_eq}
 use Rattle.std.proofs.lemmas.Bool.{cases_lt, false≢true}
@@ -13,7 +13,7 @@ use Rattle.aig_signals.specs.declared.signal.Signal.{Signal}
 use Rattle.aig_signals.specs.Lookup.{signal_literals}
 use Rattle.aig_signals.specs.Value.{table_text}
 use Rattle.aig_shell.specs.Compared.{AreSame}
-use Rattle.aig_shell.specs.Tables.{IsCell, IsCellOrDot, IsSignalCell, Differs}
+use Rattle.aig_shell.specs.Tables.{IsCell, IsCellOrDot, IsSignalCell}
 
 -- two texts are the same, or they are not
 pub texts_same : (a b : List ℕ) (r : Bool) → r ≡ bytes_eq a b → r ≡ true → a ≡ b

@@ -109,7 +109,7 @@ module _ (old : Session) (kept kept_after : Option (List (List KeptText))) where
     saved s name None,
     record s { has_edited_circuit = false; has_warned = false },
     (refl, refl),
-    record { pair = h.pair; latches = h.latches; first = h.first; start = h.start; rows = h.rows; circuit = refl },
+    record { pair = h.pair; latches = h.latches; first = h.first; entries = h.entries; start = h.start; rows = h.rows; circuit = refl },
     (λ none. let no : ⊥ = cc in no),
     kept_as _ _ (ap (λ (t : List ℕ). record { name = name; text = t } ∷ []) (e ∙ ap short_ascii (own_is old s h))) k,
   )
@@ -135,6 +135,7 @@ module _ (old : Session) (kept kept_after : Option (List (List KeptText))) where
       pair = h.pair;
       latches = h.latches;
       first = h.first;
+      entries = h.entries;
       start = sym (keeps.start ∙ start_is old s h);
       rows = sym (keeps.rows ∙ rows_are old s h);
       circuit = refl;
@@ -153,7 +154,7 @@ module _ (old : Session) (kept kept_after : Option (List (List KeptText))) where
     saved s name (Some stimulus),
     record s { has_edited_circuit = false; has_warned = false },
     (refl, ((λ yes. absurd (other (starts_back old s h yes))), (λ no. refl))),
-    record { pair = h.pair; latches = h.latches; first = h.first; start = h.start; rows = h.rows; circuit = refl },
+    record { pair = h.pair; latches = h.latches; first = h.first; entries = h.entries; start = h.start; rows = h.rows; circuit = refl },
     (λ none. let no : ⊥ = cc in no),
     kept_as _ _ (both_texts name bytes stimulus rows e f s h) k,
   )
@@ -172,6 +173,7 @@ module _ (old : Session) (kept kept_after : Option (List (List KeptText))) where
       pair = h.pair;
       latches = h.latches;
       first = h.first;
+      entries = h.entries;
       start = sym (keeps.start ∙ start_is old s h);
       rows = sym (keeps.rows ∙ rows_are old s h);
       circuit = h.circuit;
@@ -190,7 +192,7 @@ module _ (old : Session) (kept kept_after : Option (List (List KeptText))) where
     record { name = file; text = bytes } ∷ [],
     calm s,
     ((bytes, dump_in old s h bytes d, refl), refl),
-    record { pair = h.pair; latches = h.latches; first = h.first; start = h.start; rows = h.rows; circuit = h.circuit },
+    record { pair = h.pair; latches = h.latches; first = h.first; entries = h.entries; start = h.start; rows = h.rows; circuit = h.circuit },
     (λ none. let no : ⊥ = cc in no),
     kept_as _ _ refl k,
   )

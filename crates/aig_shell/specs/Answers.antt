@@ -1,5 +1,5 @@
 -- What a line does to a session, what is answered, and what is written to files (our own choice).
-use Rattle.std.specs.Prelude.{◌≡◌, ◌≢◌, ◌⊎◌, ◌+◌, ◌-◌, ◌*◌, ℕ, if◌then◌else◌, Bool, true, false, IsTrue, List, [], ◌∷◌, ◌++◌, length, map, codes, decimal, Option, None, Some, slice_get}
+use Rattle.std.specs.Prelude.{◌≡◌, ◌≢◌, ◌⊎◌, ◌+◌, ◌-◌, ◌*◌, ◌≤◌, ℕ, max, if◌then◌else◌, Bool, true, false, IsTrue, List, [], ◌∷◌, ◌++◌, length, map, codes, decimal, Option, None, Some, slice_get}
 use Rattle.std.specs.Str.{bytes_eq}
 use Rattle.aig_parts.specs.declared.raw.Raw.{Raw}
 use Rattle.aig_parts.specs.declared.symbols.Kind.TheVariants.{Bad}
@@ -19,7 +19,7 @@ use Rattle.aig_shell.specs.Request as request
 use Rattle.aig_shell.specs.Request.{Request, show, why_first, why, set, start, add, gate, rewire, append, out, check, diff, save, witness, wave, list_names, help, quit, request_words, IsRequest, IsNoRequest}
 use Rattle.aig_shell.specs.Standing.{IsStanding, standing_text}
 use Rattle.aig_shell.specs.State.{SessionState, circuit_of}
-use Rattle.aig_shell.specs.Tables.{IsShown}
+use Rattle.aig_shell.specs.Tables.{IsShown, IsDifference}
 use Rattle.aig_shell.specs.declared.check.Standing.{Standing}
 
 -- ---- frames that are shown where none are named
@@ -28,6 +28,16 @@ use Rattle.aig_shell.specs.declared.check.Standing.{Standing}
 abbrev pub ShowsFrames : Option (List ℕ) → ℕ → ℕ → ℕ → Type 0
 ShowsFrames None count first last = (last + 1 ≡ count) × (first ≡ count - 64)
 ShowsFrames (Some word) count first last = AreFrames word count first last
+
+-- so many frames in a row from the first: those that are named; without a name some of all, and all where there are 64 at most
+abbrev pub DiffersFrames : Option (List ℕ) → ℕ → ℕ → ℕ → Type 0
+DiffersFrames None count first n = (first + n ≤ count) × (count ≤ 64 → (first ≡ 0) × (n ≡ count))
+DiffersFrames (Some word) count first n = (last : ℕ) × AreFrames word count first last × (n ≡ last + 1 - first)
+
+-- where no frames are named, no difference in those that are shown means none at all
+abbrev pub NoneElsewhere : Option (List ℕ) → SessionState → ℕ → List TableRow → Type 0
+NoneElsewhere None s count rows = rows ≡ [] → IsDifference s.pair s.first 0 count []
+NoneElsewhere (Some word) s count rows = Unit {0}
 
 -- ---- answers
 
@@ -79,8 +89,8 @@ IsAfterSave s (Some stimulus) after =
     (StartsByReset s → after ≡ record s { kept = run_of s.pair; has_edited_circuit = false; has_warned = false })
     × ((StartsByReset s → ⊥) → after ≡ record s { has_edited_circuit = false; has_warned = false })
 
--- What a request answers, which files it writes at once, and what it leaves. Only tested are the words of `gate`, `names` and
--- `help`, the notes above a table, and the table of `diff`.
+-- What a request answers, which files it writes at once, and what it leaves. The words of `gate`, `names` and `help`, and the
+-- notes above a table are only tested.
 abbrev pub Answers : SessionState → Request → List ℕ → List KeptText → SessionState → Type 0
 Answers s (show names frames) text texts after =
     (first : ℕ) × (last : ℕ) × (rows : List TableRow) × (note : List ℕ) × (table : List ℕ)
@@ -104,7 +114,12 @@ Answers s (append side0 side1) text texts after =
     EditsCircuit s (append side0 side1) after × (text ≡ decimal (2 * (s.pair.circuit.max_var + 1)) ++ 10 ∷ []) × (texts ≡ [])
 Answers s (out name literal) text texts after = EditsCircuit s (out name literal) after × (text ≡ []) × (texts ≡ [])
 Answers s check text texts after = IsChecked s text × (texts ≡ []) × (after ≡ calm s)
-Answers s (diff frames) text texts after = (texts ≡ []) × (after ≡ calm s)
+Answers s (diff frames) text texts after =
+    let count = max (length s.pair.rows) (length s.first.rows) in
+    (first : ℕ) × (n : ℕ) × (rows : List TableRow) × (note : List ℕ) × (table : List ℕ) × DiffersFrames frames count first n
+    × IsDifference s.pair s.first first n rows × NoneElsewhere frames s count rows
+    × (((rows ≡ []) × (table ≡ codes "no difference\n")) ⊎ ((rows ≢ []) × IsTable first n rows table)) × (text ≡ note ++ table)
+    × (texts ≡ []) × (after ≡ calm s)
 Answers s (save circuit stimulus) text texts after = (texts ≡ saved s circuit stimulus) × IsAfterSave s stimulus after
 Answers s (witness file name) text texts after =
     IsWitnessed s file name texts × (after ≡ record s { kept = run_of s.pair; has_warned = false })
@@ -124,7 +139,6 @@ HasNoAnswer s (witness file name) = Unit {0}
 HasNoAnswer s (wave file) = Unit {0}
 HasNoAnswer s (help command) = Unit {0}
 HasNoAnswer s (list_names part) = Unit {0}
-HasNoAnswer s (diff frames) = Unit {0}
 HasNoAnswer s r = (text : List ℕ) (texts : List KeptText) (after : SessionState) → Answers s r text texts after → ⊥
 
 -- something would be lost at the end

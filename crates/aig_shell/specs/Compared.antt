@@ -1,10 +1,11 @@
 -- What is known of a signal while its values are compared: for the proofs.
-use Rattle.std.specs.Prelude.{◌≡◌, ℕ, ◌<◌, ◌≤◌, List}
+use Rattle.std.specs.Prelude.{◌≡◌, ◌≢◌, ◌⊎◌, ℕ, ◌<◌, ◌≤◌, List, [], Contains, codes}
 use Rattle.aig_bench.specs.BenchState.{CircuitAndRows}
+use Rattle.aig_prompt.specs.Table.{TableRow, IsTable}
 use Rattle.aig_signals.specs.Lookup.{signal_literals}
 use Rattle.aig_signals.specs.declared.signal.Signal.{Signal}
 use Rattle.aig_shell.specs.Session.{IsFirst}
-use Rattle.aig_shell.specs.Tables.{IsSignalCell}
+use Rattle.aig_shell.specs.Tables.{Differs, IsDifference, IsSignalCell}
 use Rattle.aig_shell.specs.declared.diff.Cells.{Cells}
 use Rattle.aig_shell.specs.declared.diff.Literals.{Literals}
 use Rattle.aig_shell.specs.declared.session.Session.{Session}
@@ -23,3 +24,21 @@ pub record AreTexts (session : Session) (signal : Signal) (t : ℕ) (cells : Cel
 abbrev pub AreSame : CircuitAndRows → CircuitAndRows → Signal → ℕ → ℕ → Type 0
 AreSame now was signal first end =
     (t : ℕ) (a b : List ℕ) → first ≤ t → t < end → IsSignalCell now signal t a → IsSignalCell was signal t b → a ≡ b
+
+-- all of these signals have the same values in both pairs at the frames up to an end
+abbrev pub AreAllSame : CircuitAndRows → CircuitAndRows → List Signal → ℕ → ℕ → Type 0
+AreAllSame now was signals first end = (signal : Signal) → Contains signals signal → AreSame now was signal first end
+
+-- one of these signals differs at one of the frames
+abbrev pub OneDiffers : CircuitAndRows → CircuitAndRows → List Signal → ℕ → ℕ → Type 0
+OneDiffers now was signals first count = (signal : Signal) × Contains signals signal × Differs now was first count signal
+
+-- no difference in these frames means none at all
+abbrev pub NoneOutside : CircuitAndRows → CircuitAndRows → ℕ → ℕ → ℕ → Type 0
+NoneOutside now was count first n = IsDifference now was first n [] → IsDifference now was 0 count []
+
+-- the text of the signals that differ at one of the frames: a table, or that there is none
+abbrev pub IsDifferenceText : CircuitAndRows → CircuitAndRows → ℕ → ℕ → List ℕ → Type 0
+IsDifferenceText now was first n text =
+    (rows : List TableRow) × IsDifference now was first n rows
+    × (((rows ≡ []) × (text ≡ codes "no difference\n")) ⊎ ((rows ≢ []) × IsTable first n rows text))

@@ -72,6 +72,7 @@ pub record IsIn (session : Session) (s : SessionState) : Type 0 where
   pub pair : s.pair ≡ session.run.bench.pair
   pub latches : s.latches ≡ session.run.latches.items
   pub first : KeepsFirst session.first s.first
+  pub entries : HasSameEntries s.first.circuit session.run.bench.pair.circuit
   pub start : s.kept.start ≡ session.kept.start.items
   pub rows : s.kept.rows ≡ session.kept.rows.rows
   pub circuit : s.has_edited_circuit ≡ session.has_edited_circuit

@@ -1,10 +1,11 @@
 -- What tables of values hold: the values of names now, and those of the run that was read (our own choice).
-use Rattle.std.specs.Prelude.{◌≡◌, ◌≢◌, ◌⊎◌, ℕ, ◌+◌, ◌<◌, ◌≤◌, List, [], ◌∷◌, length, map, Option, Some}
+use Rattle.std.specs.Prelude.{◌≡◌, ◌≢◌, ◌⊎◌, ℕ, ◌+◌, ◌<◌, ◌≤◌, List, [], ◌∷◌, length, map, Contains, Option, Some, slice_get}
 use Rattle.std.specs.List.{AllZip, range_with_len}
 use Rattle.aig_parts.specs.declared.ternary.Tern.{Tern}
 use Rattle.aig_bench.specs.BenchState.{CircuitAndRows, HasValue}
 use Rattle.aig_prompt.specs.Table.{TableRow}
 use Rattle.aig_signals.specs.Lookup.{Means, signal_literals}
+use Rattle.aig_signals.specs.Signals.{signals_of}
 use Rattle.aig_signals.specs.Value.{table_text}
 use Rattle.aig_signals.specs.declared.signal.Signal.{Signal}
 
@@ -41,8 +42,36 @@ IsSignalCell p signal t cell = IsCellOrDot p (signal_literals p.circuit signal) 
 abbrev pub IsBelow : List ℕ → List ℕ → List ℕ → Type 0
 IsBelow cell old below = ((old ≡ cell) × (below ≡ 61 ∷ [])) ⊎ ((old ≢ cell) × (below ≡ old))
 
+-- two texts at a frame, of which the second is `=` where they are the same
+abbrev pub AreTwoCells : CircuitAndRows → CircuitAndRows → Signal → ℕ → List ℕ → List ℕ → Type 0
+AreTwoCells now was signal t cell below =
+    (old : List ℕ) × IsSignalCell now signal t cell × IsSignalCell was signal t old × IsBelow cell old below
+
 -- the signal has other values in the second pair at one of the frames
 abbrev pub Differs : CircuitAndRows → CircuitAndRows → ℕ → ℕ → Signal → Type 0
 Differs now was first count signal =
     (t : ℕ) × (a : List ℕ) × (b : List ℕ) × (first ≤ t) × (t < first + count) × IsSignalCell now signal t a × IsSignalCell was signal t b
     × (a ≢ b)
+
+-- the two rows of a signal
+pub record AreTwoRows (now was : CircuitAndRows) (first count : ℕ) (signal : Signal) (above below : TableRow) : Type 0 where
+  pub name : above.name ≡ signal.name
+  pub sizes : (length above.cells ≡ count) × (length below.cells ≡ count)
+  pub cells : (k : ℕ) (a b : List ℕ) → slice_get above.cells k ≡ Some a → slice_get below.cells k ≡ Some b
+      → AreTwoCells now was signal (first + k) a b
+
+-- two rows for each of these signals
+unfoldable pub AreRowsOf : CircuitAndRows → CircuitAndRows → ℕ → ℕ → List Signal → List TableRow → Type 0
+AreRowsOf now was first count [] [] = Unit {0}
+AreRowsOf now was first count (signal ∷ signals) (above ∷ (below ∷ rows)) =
+    AreTwoRows now was first count signal above below × AreRowsOf now was first count signals rows
+AreRowsOf now was first count _ _ = ⊥
+
+-- two rows for each signal that differs at one of the frames
+pub record IsDifference (now was : CircuitAndRows) (first count : ℕ) (rows : List TableRow) : Type 0 where
+  pub signals : List Signal
+  pub rows_are : AreRowsOf now was first count signals rows
+  pub each : (signal : Signal) → Contains (signals_of now.circuit) signal → Differs now was first count signal
+      → Contains signals signal
+  pub only : (signal : Signal) → Contains signals signal
+      → Contains (signals_of now.circuit) signal × Differs now was first count signal

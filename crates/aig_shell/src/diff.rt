@@ -1,16 +1,19 @@
 //! What differs from the run that was read.
-ghost use Rattle.std.specs.Prelude.{◌≡◌, ◌+◌, ◌-◌, ◌<◌, ◌≤◌, [], All, IfNone, IfOk, IfSome, OnOk, length, option_map};
+ghost use Rattle.std.specs.Prelude.{◌≡◌, ◌≢◌, ℕ, ◌+◌, ◌-◌, ◌<◌, ◌≤◌, ◌++◌, List, None, [], All, IfErr, IfNone, IfOk, IfSome, OnOk, length, option_map};
 ghost use Rattle.std.specs.Str.{bytes_eq};
 ghost use Rattle.aig_parts.specs.Literal.{variable};
 ghost use Rattle.aig_base.specs.Sections.{IsDefined};
 ghost use Rattle.aig_bench.specs.BenchState.{CircuitAndRows};
+ghost use Rattle.aig_prompt.specs.Table.{row_of};
 ghost use Rattle.aig_signals.specs.Names.{literal_of, literals_of};
+ghost use Rattle.aig_signals.specs.Signals.{signals_of};
 ghost use Rattle.aig_signals.specs.declared.signal.Signal.{Signal};
+ghost use Rattle.aig_shell.specs.Answers.{DiffersFrames};
 ghost use Rattle.aig_shell.specs.Ends.{EndsQuery};
 ghost use Rattle.aig_shell.specs.Request as request;
 ghost use Rattle.aig_shell.specs.Session.{IsFirst, IsSession};
-ghost use Rattle.aig_shell.specs.Tables.{AreBits, Differs, IsBelow, IsCellOrDot};
-ghost use Rattle.aig_shell.specs.Compared.{AreLiterals, AreSame, AreTexts};
+ghost use Rattle.aig_shell.specs.Tables.{AreBits, AreTwoRows, Differs, IsBelow, IsCellOrDot};
+ghost use Rattle.aig_shell.specs.Compared.{AreAllSame, AreLiterals, AreSame, AreTexts, IsDifferenceText, NoneOutside, OneDiffers};
 
 use crate::frames::{SHOWN, frames_of};
 use crate::refusal::Refusal;
@@ -215,6 +218,11 @@ impl Session {
     /// The first of the frames up to an end at which any signal differs.
     fn first_frame(&self, alloc: Global, first: u32, end: u32) -> Result<Option<u32>, Memory>
         requires { IsSession self.now }
+        ensures range { IfOk result (λ found. IfSome found (λ t. (first ≤ t) × (t < end))) }
+        ensures differs { (p : CircuitAndRows) → IsFirst self.now p → IfOk result (λ found. IfSome found (λ t.
+            OneDiffers self.now.run.bench.pair p (signals_of self.now.run.bench.pair.circuit) t 1)) }
+        ensures same { (p : CircuitAndRows) → IsFirst self.now p → IfOk result (λ found. IfNone found (
+            AreAllSame self.now.run.bench.pair p (signals_of self.now.run.bench.pair.circuit) first end)) }
     {
         let mut cells = Cells::new(alloc);
         let mut least = None;
@@ -230,33 +238,40 @@ impl Session {
         Ok(least)
     }
 
-    /// Adds the two rows of a signal.
-    fn push_rows(
+    /// The two rows of a signal at the frames up to an end: its texts now, and below each the one that was.
+    fn two_rows(
         &self,
         alloc: Global,
-        table: &mut Table,
         signal: &Signal,
         literals: &Literals,
         first: u32,
         end: u32,
-    ) -> Result<(), Memory>
-        requires { All (λ l. IsDefined self.now.run.bench.pair.circuit (variable l)) literals.now.current.items }
+    ) -> Result<(Row, Row), Memory>
+        requires order { first ≤ end }
+        requires defined { All (λ l. IsDefined self.now.run.bench.pair.circuit (variable l)) literals.now.current.items }
+        ensures { AreLiterals self.now signal.now literals.now → (p : CircuitAndRows) → IsFirst self.now p
+            → IfOk result (λ rows. AreTwoRows self.now.run.bench.pair p first (end - first) signal.now (row_of rows.0)
+            (row_of rows.1)) }
     {
         let mut cells = Cells::new(alloc);
         let mut above = Vec::new(alloc);
         let mut below = Vec::new(alloc);
         for frame in first..end {
             self.fill(&mut cells, literals, frame)?;
-            let now = Vec::from_slice(alloc, cells.current.as_slice())?;
-            above.push(now)?;
-            let was = cells.below(alloc)?;
-            below.push(was)?;
+            let cell = Vec::from_slice(alloc, cells.current.as_slice())?;
+            above.push(cell)?;
+            let under = cells.below(alloc)?;
+            below.push(under)?;
         }
-        let name = Vec::from_slice(alloc, signal.name.as_slice())?;
-        table.rows.push(Row { name, cells: above })?;
-        let name = Vec::from_slice(alloc, b"  was")?;
-        table.rows.push(Row { name, cells: below })?;
-        Ok(())
+        let text = signal.name.as_slice();
+        let name = Vec::from_slice(alloc, text)?;
+        let was = Vec::from_slice(alloc, b"  was")?;
+        let above = Row { name, cells: above };
+        let below = Row {
+            name: was,
+            cells: below,
+        };
+        Ok((above, below))
     }
 
     /// Adds a table of the signals that differ at the frames up to an end.
@@ -269,6 +284,8 @@ impl Session {
     ) -> Result<(), Memory>
         requires session { IsSession self.now }
         requires order { first ≤ end }
+        ensures { (p : CircuitAndRows) → IsFirst self.now p → OnOk result ((table : List ℕ)
+            × IsDifferenceText self.now.run.bench.pair p first (end - first) table × (text.new.items ≡ text.old.items ++ table)) }
     {
         let mut cells = Cells::new(alloc);
         let mut table = Table::new(alloc, first, end - first);
@@ -276,7 +293,9 @@ impl Session {
             let literals = self.signal_literals(alloc, signal)?;
             let found = self.first_difference(&mut cells, &literals, first, end)?;
             if found.is_some() {
-                self.push_rows(alloc, &mut table, signal, &literals, first, end)?;
+                let (above, below) = self.two_rows(alloc, signal, &literals, first, end)?;
+                table.rows.push(above)?;
+                table.rows.push(below)?;
             }
         }
         if table.rows.is_empty() {
@@ -297,6 +316,9 @@ impl Session {
         requires { IsSession self.now }
         ensures order { IfOk result (λ found. found.0 ≤ found.1) }
         ensures within { IfOk result (λ found. found.1 ≤ count) }
+        ensures short { IfOk result (λ found. count ≤ 64 → (found.0 ≡ 0) × (found.1 ≡ count)) }
+        ensures outside { (p : CircuitAndRows) → IsFirst self.now p → IfOk result (λ found.
+            NoneOutside self.now.run.bench.pair p count found.0 (found.1 - found.0)) }
     {
         if count <= SHOWN {
             return Ok((0, count));
@@ -328,6 +350,12 @@ impl Session {
         requires { IsSession self.now }
         ensures order { IfOk result (λ found. found.0 ≤ found.1) }
         ensures within { IfOk result (λ found. found.1 ≤ count) }
+        ensures shown { IfOk result (λ found.
+            DiffersFrames (option_map (λ w. w.now) frames.entry) count found.0 (found.1 - found.0)) }
+        ensures outside { (p : CircuitAndRows) → IsFirst self.now p → frames.entry ≡ None → IfOk result (λ found.
+            NoneOutside self.now.run.bench.pair p count found.0 (found.1 - found.0)) }
+        ensures err { IfErr result (λ refusal. refusal ≢ Refusal.Memory → (first n : ℕ) →
+            DiffersFrames (option_map (λ w. w.now) frames.entry) count first n → ⊥) }
     {
         match frames {
             Some(word) => {
