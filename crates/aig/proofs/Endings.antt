@@ -16,7 +16,8 @@ use Rattle.aig_files.specs.declared.exit.Exit.TheVariants as exits
 use Rattle.aig_files.specs.Known.{still_known}
 use Rattle.aig_terminal.specs.declared.part.Part.{Part}
 use Rattle.aig_terminal.specs.declared.part.Part.TheVariants as parts
-use Rattle.aig.specs.Ends.{Answers, AreConfirmed, ChecksWitness, Ends, ForSomeText, IsUnwritten, as_meant, end_of, end_of_verdict, unread, writes}
+use Rattle.aig.specs.Ends.{Answers, AreConfirmed, ChecksWitness, Ends, ForSomeText, IsUnwritten, as_meant, end_of}
+use Rattle.aig.specs.Ends.{end_of_verdict, unread, writes}
 
 -- what holds of the bytes that were read holds of those that the file had left
 pub of_whole : (left : Option (List ℕ)) (bytes : List ℕ) → IfSome left (λ xs. bytes ≡ xs) → (Q : List ℕ → Type 0) → Q bytes

@@ -1,4 +1,5 @@
 -- Which options a command has, by what the matches of the parser hold for it.
+-- Example: `refute --frames 20 --property 1`: K is 20 and P is 1.
 use Rattle.std.specs.Prelude.{◌≡◌, ◌⊎◌, ℕ, List, true, false, Option, None, Some, codes, option_map, ⊤}
 use Rattle.std.specs.Option.{unwrap_or}
 use Rattle.clap.specs.Matches.{first_value, found_of}
@@ -68,11 +69,14 @@ HoldsOptions matches (commands.Witness property circuit stimulus) = HoldsReached
 HoldsOptions matches (commands.ModelWitness query circuit model) = HoldsQuery matches circuit query
 HoldsOptions matches (commands.Refute frames property circuit proof) = HoldsClaim matches circuit frames property
 HoldsOptions matches (commands.RefuteAlive frames circuit proof) = HoldsNumber matches (codes "K") (Some frames)
-HoldsOptions matches (commands.RefuteStep frames property circuit proof step) = HoldsClaim matches circuit frames property
+HoldsOptions matches (commands.RefuteStep frames property circuit proof step) =
+    HoldsClaim matches circuit frames property
 HoldsOptions matches (commands.Strengthen property to circuit certificate) = HoldsProperty matches circuit property
 HoldsOptions matches (commands.CnfCertified property circuit certificate) = HoldsProperty matches circuit property
-HoldsOptions matches (commands.CertifiedModelWitness property circuit certificate model) = HoldsProperty matches circuit property
-HoldsOptions matches (commands.RefuteCertified property circuit certificate proof) = HoldsProperty matches circuit property
+HoldsOptions matches (commands.CertifiedModelWitness property circuit certificate model) =
+    HoldsProperty matches circuit property
+HoldsOptions matches (commands.RefuteCertified property circuit certificate proof) =
+    HoldsProperty matches circuit property
 HoldsOptions matches (commands.Why name span circuit stimulus) =
     (first_value (found_of matches) (codes "of") ≡ Some name.now) × HoldsSpan matches span
 HoldsOptions matches (commands.WhyWitness name span circuit witness) =

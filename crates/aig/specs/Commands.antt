@@ -1,4 +1,5 @@
 -- How each command of the program ends, where the bytes of its files are known.
+-- Example: `refute` by `Refutes`, with its own K and P.
 use Rattle.std.specs.Prelude.{ℕ, List, Option, Some, Result, IfSome, OnOk, option_copied}
 use Rattle.aig_cnf.specs.Query.{induction}
 use Rattle.aig_sim.specs.declared.stimulus.fault.StimFault.TheVariants as stimuli
@@ -60,12 +61,14 @@ EndsAsMeant left (commands.InfoNames circuit) result = Ends end_of (OfCircuit Li
 EndsAsMeant left (commands.Select selection to circuit) result =
     Ends end_of (OfCircuit (Selects selection.from selection.into selection.positions.items to)) result
 EndsAsMeant left (commands.SelectNamed selection to circuit names) result =
-    IfSome (left names) (λ text. EndsSelectingNamed selection.from selection.into selection.positions.items text to result)
+    IfSome (left names) (λ text. EndsSelectingNamed selection.from selection.into selection.positions.items text to
+    result)
 EndsAsMeant left (commands.Witness property circuit stimulus) result =
     IfSome (left circuit) (λ file. IfSome (left stimulus) (λ text.
     Ends end_of (OfFile file (WritesWitness property text)) result))
 EndsAsMeant left (commands.ModelWitness query circuit model) result =
-    IfSome (left circuit) (λ file. IfSome (left model) (λ text. Ends end_of (OfFile file (WritesModel query text)) result))
+    IfSome (left circuit) (λ file. IfSome (left model)
+    (λ text. Ends end_of (OfFile file (WritesModel query text)) result))
 EndsAsMeant left (commands.Refute frames property circuit proof) result =
     IfSome (left circuit) (λ file. Ends end_of (OfFile file (Refutes frames property)) result)
 EndsAsMeant left (commands.RefuteAlive frames circuit proof) result =
@@ -91,4 +94,5 @@ EndsAsMeant left (commands.WhyWitness name span circuit witness) result =
     IfSome (left circuit) (λ file. IfSome (left witness) (λ text.
     Ends end_of (OfFile file (WritesWhyWitness text (option_copied name) span)) result))
 EndsAsMeant left (commands.Reduce circuit witness) result =
-    IfSome (left circuit) (λ file. IfSome (left witness) (λ text. Ends end_of_verdict (OfFile file (Reduces text)) result))
+    IfSome (left circuit) (λ file. IfSome (left witness)
+    (λ text. Ends end_of_verdict (OfFile file (Reduces text)) result))

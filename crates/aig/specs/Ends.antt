@@ -1,4 +1,5 @@
 -- How the program takes a command's answer. Standard output is the system's: no clause says which bytes reach it.
+-- Examples: `bench` with a faulty stimulus ends with the stimulus's fault; `not bad` ends as `NotConfirmed`.
 use Rattle.std.specs.Prelude.{◌≡◌, ◌⊎◌, ℕ, List, Bool, true, false, Result, Ok, Err}
 use Rattle.aig_parts.specs.declared.raw.Raw.{Raw}
 use Rattle.aig_sim.specs.declared.witness.verdict.Verdict.{Verdict}
@@ -22,7 +23,8 @@ pub data Answers {T : Type 0} (Means : Result T RunFault → List ℕ → Type 0
 
 -- What a command answers that reads a text meanwhile: what it means for some text; or this fault, as a read of the text
 -- or a write failed.
-abbrev pub ForSomeText : {T : Type 0} → RunFault → (Text → Result T RunFault → List ℕ → Type 0) → Result T RunFault → List ℕ
+abbrev pub ForSomeText : {T : Type 0} → RunFault → (Text → Result T RunFault → List ℕ → Type 0) → Result T RunFault
+    → List ℕ
     → Type 0
 ForSomeText fault Means answer bytes = (answer ≡ Err fault) ⊎ ((text : Text) × Means text answer bytes)
 
@@ -48,7 +50,8 @@ abbrev pub IsUnwritten : Exit → Type 0
 IsUnwritten exit = (exit ≡ exits.Run run_faults.Output) ⊎ (exit ≡ exits.Run run_faults.Memory)
 
 -- A command ends as its contract means, or a file was not read.
-pub data Ends {T : Type 0} (end : Result T RunFault → Result (Unit {0}) Exit) (Means : Result T RunFault → List ℕ → Type 0)
+pub data Ends {T : Type 0} (end : Result T RunFault → Result (Unit {0}) Exit)
+    (Means : Result T RunFault → List ℕ → Type 0)
     (result : Result (Unit {0}) Exit) : Type 0 where
   as_meant : (answer : Result T RunFault) → Answers Means answer → result ≡ end answer → Ends end Means result
   unread : (exit : Exit) → result ≡ Err exit → IsUnread exit → Ends end Means result
@@ -58,9 +61,11 @@ abbrev pub AreConfirmed : List ℕ → List ℕ → Type 0
 AreConfirmed file text = (raw : Raw) × IsFileOf file raw × ShowsVerdict raw text Confirmed
 
 -- `select --names` ends as it means for these positions and the text of names
-abbrev pub EndsSelectingNamed : PropertySection → PropertySection → List ℕ → List ℕ → Format → Result (Unit {0}) Exit → Type 0
+abbrev pub EndsSelectingNamed : PropertySection → PropertySection → List ℕ → List ℕ → Format → Result (Unit {0}) Exit
+    → Type 0
 EndsSelectingNamed from into positions text to result =
-    Ends end_of (λ answer bytes. (s : NamedSelection) × (s.from ≡ from) × (s.into ≡ into) × (s.positions.now ≡ positions)
+    Ends end_of (λ answer bytes. (s : NamedSelection) × (s.from ≡ from) × (s.into ≡ into)
+    × (s.positions.now ≡ positions)
     × (s.names.now ≡ text) × OfCircuit (SelectsNamed s to) answer bytes) result
 
 -- what `check` means, with `--trace` or without

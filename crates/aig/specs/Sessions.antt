@@ -1,4 +1,5 @@
--- How `shell` ends, where the bytes of its files are known. Which lines come, and which files are written, nobody can say.
+-- How `shell` ends, where the bytes of its files are known. Which lines come, and which files are written, nobody can
+-- say.
 use Rattle.std.specs.Prelude.{◌≡◌, ◌⊎◌, ℕ, List, [], Bool, Option, IfSome, Result, Ok, Err}
 use Rattle.aig_parts.specs.declared.raw.Raw.{Raw}
 use Rattle.aig_parts.specs.declared.ternary.Tern.{Tern}
@@ -18,12 +19,13 @@ use Rattle.aig.specs.declared.sessions.GivenFile.TheVariants as files
 -- all that a session over a circuit and a run writes for some lines, with a prompt or without one
 abbrev pub IsSomeTalk : Raw → Begun → List ℕ → Type 0
 IsSomeTalk raw begun text =
-    (start : List Tern) × (rows : List (List Tern)) × (pair : CircuitAndRows) × Begins raw begun start rows × BeginsAt raw start rows pair
+    (start : List Tern) × (rows : List (List Tern)) × (pair : CircuitAndRows) × Begins raw begun start rows
+    × BeginsAt raw start rows pair
     × (person : Bool) × (input : List ℕ) × (texts : List (List KeptText)) × (quits : Bool)
     × Talk person (first_state raw pair) input text texts quits
 
--- A session is written; or the circuit or the run is refused, and nothing is written; or a line is not read, or an answer not
--- written.
+-- A session is written; or the circuit or the run is refused, and nothing is written; or a line is not read, or an
+-- answer not written.
 abbrev pub HoldsSession : List ℕ → Begun → Result (Unit {0}) RunFault → List ℕ → Type 0
 HoldsSession file begun (Ok done) bytes = (raw : Raw) × IsFileOf file raw × IsSomeTalk raw begun bytes
 HoldsSession file begun (Err fault) bytes = (RefusesFiles file begun fault × (bytes ≡ [])) ⊎ (fault ≡ run_faults.Shell)
@@ -33,6 +35,8 @@ abbrev pub EndsSession : {F : Type 0} → (F → Option (List ℕ)) → F → Gi
 EndsSession left circuit files.Nothing result =
     IfSome (left circuit) (λ file. Ends end_of (HoldsSession file begun.nothing) result)
 EndsSession left circuit (files.Stimulus stimulus) result =
-    IfSome (left circuit) (λ file. IfSome (left stimulus) (λ text. Ends end_of (HoldsSession file (begun.stimulus text)) result))
+    IfSome (left circuit) (λ file. IfSome (left stimulus)
+    (λ text. Ends end_of (HoldsSession file (begun.stimulus text)) result))
 EndsSession left circuit (files.Witness witness) result =
-    IfSome (left circuit) (λ file. IfSome (left witness) (λ text. Ends end_of (HoldsSession file (begun.witness text)) result))
+    IfSome (left circuit) (λ file. IfSome (left witness)
+    (λ text. Ends end_of (HoldsSession file (begun.witness text)) result))

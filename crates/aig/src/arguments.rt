@@ -36,7 +36,8 @@ pub fn parsed<'a, R: AllocGlobal + Eprint>(
     }
 }
 
-/// Rejects a number with a sign or a leading zero, which the parser accepts. It says so in the words of clap's messages.
+/// Rejects a number with a sign or a leading zero, which the parser accepts. It says so in the words of clap's
+/// messages.
 pub fn with_odd_number(rt: &impl Eprint, matches: &ArgMatches<'_>) -> Option<Exit> {
     let (_, matches) = subcommand_of(matches)?;
     let number = odd_number(matches)?;

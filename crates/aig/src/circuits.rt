@@ -55,7 +55,8 @@ pub fn unroll<R: AllocGlobal + Print, F: Read + Drop>(
     ended(write_unrolled(rt, frames, to, file))
 }
 
-/// Writes it, and to the file `map` what its inputs are. `opened` is the circuit's file, which the map must not replace.
+/// Writes it, and to the file `map` what its inputs are. `opened` is the circuit's file, which the map must not
+/// replace.
 pub fn unroll_and_map<R: Files + AllocGlobal + Print + Eprint + Clock, F: Read + Drop>(
     terminal: &Terminal<'_, R>,
     frames: u32,

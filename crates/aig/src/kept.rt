@@ -221,7 +221,8 @@ where
     map.take_name(rt)
 }
 
-/// What a file contains: the circuit or the rows of a bench, the inputs of a circuit unrolled for some frames, or a text.
+/// What a file contains: the circuit or the rows of a bench, the inputs of a circuit unrolled for some frames, or a
+/// text.
 #[derive(Clone, Copy)]
 enum Part<'a> {
     Circuit(&'a Bench<PlaneGrid>),

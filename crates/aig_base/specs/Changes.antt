@@ -1,5 +1,6 @@
 -- The changes of a circuit: other right sides of a gate, another reset of a latch, another literal at an output, one
 -- more gate (our own choice).
+-- Example: `examples/two_gates.aag` with one more gate of 9 and 2 has the gate `10 = 9 AND 2`.
 use Rattle.std.specs.Prelude.{ℕ, ◌+◌, ◌*◌, ◌<◌, [], ◌∷◌, ◌++◌, map, nat_eq, slice_set, if◌then◌else◌}
 use Rattle.aig_parts.specs.declared.gate.Gate.{Gate}
 use Rattle.aig_parts.specs.declared.latch.Latch.{Latch}

@@ -1,4 +1,5 @@
 -- A circuit: formed parts that are sound and acyclic.
+-- Example: `examples/two_gates.aag` is one.
 use Rattle.aig_parts.specs.declared.raw.Raw.{Raw}
 use Rattle.aig_parts.specs.Formed.{IsFormed}
 use Rattle.aig_base.specs.Sound.{IsSound}

@@ -1,5 +1,6 @@
 -- A completion of a start and rows: others of the same lengths, without x, equal to them wherever they are not x
 -- (our own choice).
+-- Example: `x1` is completed by `01` and `11`.
 use Rattle.std.specs.Prelude.{◌≡◌, ◌≢◌, List}
 use Rattle.std.specs.List.{AllZip}
 use Rattle.aig_parts.specs.declared.ternary.Tern.{Tern}

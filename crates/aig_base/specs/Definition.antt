@@ -1,4 +1,5 @@
 -- What defines a variable: an input, a latch or a gate, by its position in its section.
+-- Example: in `examples/two_gates.aag` variable 4 is gate 0.
 use Rattle.std.specs.Prelude.{◌≡◌, ℕ, map, Some, Contains, slice_get}
 use Rattle.aig_parts.specs.declared.gate.Gate.{Gate}
 use Rattle.aig_parts.specs.declared.latch.Latch.{Latch}

@@ -1,4 +1,5 @@
 -- The fault of parts that are no circuit: the first that applies, in the order of its number (our own choice).
+-- Example: gates `4 = 6, 2` and `6 = 4, 2`: `Cycle(2)`.
 use Rattle.std.specs.Prelude.{◌≡◌, ℕ, ◌+◌, ◌*◌, ◌<◌, ◌++◌, Any, Some, slice_get}
 use Rattle.aig_parts.specs.declared.latch.Latch.{Latch}
 use Rattle.aig_parts.specs.declared.raw.Raw.{Raw}

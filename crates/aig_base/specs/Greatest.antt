@@ -1,4 +1,5 @@
 -- The greatest level and the greatest fan-out of a circuit (our own choice).
+-- Example: in `examples/two_gates.aag` the greatest level is 2, and variable 1 is read by 2 gates.
 use Rattle.std.specs.Prelude.{◌≡◌, ℕ, ◌≤◌, Bool, ◌||◌, nat_eq, count_by}
 use Rattle.aig_parts.specs.declared.gate.Gate.{Gate}
 use Rattle.aig_parts.specs.declared.raw.Raw.{Raw}

@@ -1,5 +1,6 @@
 -- The variables that rest on inputs and latches alone (AIGER 1.0: gate definitions are not cyclic), and their levels
 -- (our own choice).
+-- Example: in `examples/two_gates.aag` variable 3 has level 1 and variable 4 level 2.
 use Rattle.std.specs.Prelude.{◌≡◌, ℕ, ◌+◌, max, Some, slice_get}
 use Rattle.aig_parts.specs.declared.gate.Gate.{Gate}
 use Rattle.aig_parts.specs.declared.latch.Latch.{Latch}

@@ -1,4 +1,6 @@
 -- What the laws say of parts, with a name.
+-- Example: literal 8 of `examples/two_gates.aag` is x under `x1`, so nothing is said of it; literal 6 is 0 under `x0`,
+-- and stays 0 under `10`.
 use Rattle.std.specs.Prelude.{◌≢◌, ℕ, List}
 use Rattle.aig_parts.specs.declared.fault.Fault.{Fault}
 use Rattle.aig_parts.specs.declared.raw.Raw.{Raw}

@@ -1,4 +1,5 @@
 -- Levels, a number a variable: one more than the greater of a gate's two fan-ins.
+-- Example: in `examples/two_gates.aag` they are 0, 0, 0, 1, 2.
 use Rattle.std.specs.Prelude.{◌≡◌, ℕ, ◌+◌, List, length, Some, slice_get}
 use Rattle.aig_parts.specs.declared.raw.Raw.{Raw}
 use Rattle.aig_base.specs.Grounded.{Level}

@@ -1,4 +1,5 @@
 -- The renumbered circuit (our own choice; its form is what AIGER 1.0 asks of a binary file).
+-- Example: `examples/two_gates.aag` has the gates `6 = 4 AND 2`, `8 = 6 AND 2` then.
 use Rattle.std.specs.Prelude.{◌≡◌, ℕ, ◌+◌, ◌*◌, ◌<◌, ◌≤◌, List, length, map, Option, find, All, nat_lt, ◌==◌}
 use Rattle.std.specs.Prelude.{if◌then◌else◌}
 use Rattle.std.specs.List.{filter_map, range_with_len}

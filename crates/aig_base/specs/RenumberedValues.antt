@@ -1,4 +1,5 @@
 -- Values of a circuit and of its renumbered form, from the same start and the same rows.
+-- Example: literal 8 of `examples/two_gates.aag` and its counterpart, which is 8 too.
 use Rattle.std.specs.Prelude.{ℕ, ◌<◌, List, length}
 use Rattle.aig_parts.specs.declared.raw.Raw.{Raw}
 use Rattle.aig_parts.specs.declared.ternary.Tern.{Tern}

@@ -1,4 +1,5 @@
 -- The table by which a circuit is renumbered: for each variable the one that stands for it.
+-- Example: that of `examples/two_gates.aag` is 0, 1, 2, 3, 4.
 use Rattle.std.specs.Prelude.{◌≡◌, ℕ, ◌+◌, ◌*◌, ◌<◌, ◌≤◌, List, length, slice_index, All}
 use Rattle.aig_parts.specs.declared.gate.Gate.{Gate}
 use Rattle.aig_parts.specs.declared.latch.Latch.{Latch}

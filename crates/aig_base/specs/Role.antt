@@ -1,4 +1,5 @@
 -- What a variable is, with gates by their place in the canonical order.
+-- Example: in `examples/two_gates.aag` variable 4 is gate 1 of that order.
 use Rattle.std.specs.Prelude.{ℕ, suc, List, [], ◌∷◌, Bool, Option, Some, None, map, option_map, ◌==◌, if◌then◌else◌}
 use Rattle.aig_parts.specs.declared.raw.Raw.{Raw}
 use Rattle.aig_parts.specs.Literal.{variable}

@@ -1,5 +1,6 @@
 -- Starts that the resets allow, and runs that reach a bad state (AIGER 1.9, resets, bad state properties and invariant
 -- constraints; x is our own choice).
+-- Example: input 2 is bad, input 4 a constraint: the rows `01`, `11` reach it at frame 1, `00`, `11` do not.
 use Rattle.std.specs.Prelude.{◌≡◌, ◌⊎◌, ℕ, ◌<◌, ◌≤◌, List, length, Contains, Some, slice_get}
 use Rattle.aig_parts.specs.declared.latch.Latch.{Latch}
 use Rattle.aig_parts.specs.declared.raw.Raw.{Raw}

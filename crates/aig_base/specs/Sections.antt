@@ -1,4 +1,5 @@
 -- What the sections of a circuit define and use (AIGER 1.0, ASCII format; AIGER 1.9, header).
+-- Example: in `examples/two_gates.aag` the definitions are 2, 4, 8, 6, and the uses 8, 6, 2, 2, 4.
 use Rattle.std.specs.Prelude.{ℕ, List, [], ◌∷◌, ◌++◌, map, flat_map, Contains}
 use Rattle.aig_parts.specs.declared.raw.Raw.{Raw}
 use Rattle.aig_parts.specs.Literal.{variable}

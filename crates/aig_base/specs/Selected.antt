@@ -1,5 +1,7 @@
 -- A circuit that keeps some of its properties: those at some positions of one section, in the section of bad state
 -- properties or in that of outputs. The other of the two, justice and fairness are empty then (our own choice).
+-- Example: properties 8, 9, 0 with the names `b2 never`, `b0 both`; of positions 2, 0: properties 0, 8 with the names
+-- `b0 never`, `b1 both`.
 use Rattle.std.specs.Prelude.{ℕ, ◌+◌, ◌==◌, ◌<◌, ◌≤◌, List, [], ◌∷◌, length, map, slice_index, if◌then◌else◌, All, Any}
 use Rattle.std.specs.List.{flat_map, range_with_len}
 use Rattle.aig_parts.specs.declared.raw.Raw.{Raw}
@@ -45,8 +47,8 @@ places_from j (q ∷ qs) p = if q == p then j ∷ places_from (j + 1) qs p else 
 abbrev pub moved : PropertySection → List ℕ → ℕ → List Key
 moved into positions p = map (λ j. (kind_of into, j)) (places_from 0 positions p)
 
--- the entries that are the entry at position p of a section: inputs, latches and constraints stay, a property is at each
--- place to which it is moved, any other entry is gone
+-- the entries that are the entry at position p of a section: inputs, latches and constraints stay, a property is at
+-- each place to which it is moved, any other entry is gone
 abbrev pub kept_entries : PropertySection → PropertySection → List ℕ → Kind → ℕ → List Key
 kept_entries from into positions kinds.Input p = (kinds.Input, p) ∷ []
 kept_entries from into positions kinds.Latch p = (kinds.Latch, p) ∷ []
@@ -59,7 +61,8 @@ kept_entries from into positions _ p = []
 abbrev pub kept_symbols : PropertySection → PropertySection → List ℕ → Key × List ℕ → List (Key × List ℕ)
 kept_symbols from into positions s = map (λ entry. (entry, s.1)) (kept_entries from into positions s.0.0 s.0.1)
 
--- the circuit that keeps the properties at these positions of a section, in their order; symbols stay in the file's order
+-- the circuit that keeps the properties at these positions of a section, in their order; symbols stay in the file's
+-- order
 abbrev pub selected_at : Raw → PropertySection → PropertySection → List ℕ → Raw
 selected_at raw from into positions =
     let literals = map (slice_index (properties_in from raw)) positions in

@@ -1,5 +1,6 @@
 -- What makes parts a circuit (AIGER 1.0, ASCII format; AIGER 1.9, resets; that each used variable is
 -- defined, and none twice, is our own choice).
+-- Example: `examples/two_gates.aag` with the output 10 is not sound: 10 is over 9, its greatest literal.
 use Rattle.std.specs.Prelude.{◌≡◌, ◌⊎◌, ℕ, ◌+◌, ◌*◌, ◌<◌, ◌≤◌, List, ◌++◌, map, All, Contains, Some, slice_get}
 use Rattle.aig_parts.specs.declared.latch.Latch.{Latch}
 use Rattle.aig_parts.specs.declared.raw.Raw.{Raw}

@@ -1,4 +1,5 @@
 -- The value of a literal at a frame: 0, 1 or x, unknown (AIGER 1.0 and 1.9, semantics; x is our own choice).
+-- Example: in `examples/two_gates.aag` with the rows `11`, `01` literal 8 is 1 at frame 0 and 0 at frame 1.
 use Rattle.std.specs.Prelude.{◌≡◌, ℕ, zero, suc, ◌-◌, ◌<◌, List, map, length, Some, slice_get, All}
 use Rattle.aig_parts.specs.declared.ternary.Tern.{Tern}
 use Rattle.aig_parts.specs.declared.ternary.Tern.TheVariants.{Zero, One, X}

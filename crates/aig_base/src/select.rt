@@ -6,8 +6,10 @@ ghost use Rattle.std.specs.Map.{keys_of};
 ghost use Rattle.aig_parts.specs.Formed.{limit};
 ghost use Rattle.aig_base.specs.Circuit.{IsCircuit};
 ghost use Rattle.aig_base.specs.Selected as spec;
-ghost use Rattle.aig_base.specs.Selected.{AreProperties, CanSelect, RefusesSelection, kept_entries, kept_symbols, moved, properties_in};
-ghost use Rattle.aig_base.specs.Selected.{bad_in, outputs_in, selected, selected_at, selected_positions, with_properties};
+ghost use Rattle.aig_base.specs.Selected.{AreProperties, CanSelect, RefusesSelection, kept_entries, kept_symbols};
+ghost use Rattle.aig_base.specs.Selected.{moved, properties_in};
+ghost use Rattle.aig_base.specs.Selected.{bad_in, outputs_in, selected, selected_at, selected_positions};
+ghost use Rattle.aig_base.specs.Selected.{with_properties};
 ghost use Rattle.aig_base.specs.state.PropertyPlaces.{ArePlaces};
 
 use crate::circuit::Circuit;
@@ -152,7 +154,8 @@ fn push_kept(
 ) -> Result<(), AllocError>
     requires places { ArePlaces places.now.numbers.now places.now.first.items places.now.next.items }
     requires number { entry.0 ≡ spec.kind_of from → entry.1 < length places.now.first.items }
-    requires fresh { AllPairs (λ x y. x ≢ y) (keys_of list.old ++ kept_entries from into places.now.numbers.now entry.0 entry.1) }
+    requires fresh { AllPairs (λ x y. x ≢ y)
+        (keys_of list.old ++ kept_entries from into places.now.numbers.now entry.0 entry.1) }
     ensures { OnOk result (list.new ≡ list.old ++ kept_symbols from into places.now.numbers.now (entry, name.now)) }
 {
     match entry.0 {

@@ -1,4 +1,6 @@
--- What a bench is seen as: a circuit and the rows of its stimulus, and how many gates it evaluated so far (our own choice).
+-- What a bench is seen as: a circuit and the rows of its stimulus, and how many gates it evaluated so far (our own
+-- choice).
+-- Example: `examples/two_gates.aag` and the row `11`: literal 8 has value 1 at frame 0.
 use Rattle.std.specs.Prelude.{ℕ, List}
 use Rattle.aig_parts.specs.declared.raw.Raw.{Raw}
 use Rattle.aig_parts.specs.declared.ternary.Tern.{Tern}

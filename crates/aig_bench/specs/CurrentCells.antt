@@ -1,4 +1,5 @@
 -- The cells of a bench: a row a frame, a value a variable (our own choice).
+-- Example: `examples/two_gates.aag` and the row `11`: one row, 0, 1, 1, 1, 1.
 use Rattle.std.specs.Prelude.{◌≡◌, ℕ, ◌*◌, ◌<◌, List, length, Some, slice_get}
 use Rattle.aig_parts.specs.declared.ternary.Tern.{Tern}
 use Rattle.aig_base.specs.Sections.{IsDefined}

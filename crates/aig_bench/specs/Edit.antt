@@ -1,5 +1,8 @@
 -- Edits of a circuit and its rows (our own choice).
-use Rattle.std.specs.Prelude.{◌≡◌, ◌≢◌, ◌⊎◌, ℕ, ◌+◌, ◌-◌, ◌*◌, ◌<◌, ◌≤◌, List, [], ◌∷◌, ◌++◌, length, take, Result, Ok, Err}
+-- Example: bit (0, 1) set to 0 gives the row `10`; at frame 3 it is fault 6 and the pair stays; `append_gate 9 2` gives
+-- the gate `10 = 9 AND 2`.
+use Rattle.std.specs.Prelude.{◌≡◌, ◌≢◌, ◌⊎◌, ℕ, ◌+◌, ◌-◌, ◌*◌, ◌<◌, ◌≤◌, List, [], ◌∷◌, ◌++◌, length, take, Result, Ok}
+use Rattle.std.specs.Prelude.{Err}
 use Rattle.aig_parts.specs.declared.ternary.Tern.{Tern}
 use Rattle.aig_parts.specs.Formed.{limit}
 use Rattle.aig_parts.specs.Limits.{cell_limit, frame_limit}
@@ -42,7 +45,8 @@ Forbids p (set_reset latch w) fault.NotALatch = IsLatchLiteral p.circuit latch �
 Forbids p (set_bit t i w) fault.NoFrame = length p.rows ≤ t
 Forbids p (set_bit t i w) fault.NoInput = length p.circuit.inputs ≤ i
 Forbids p (add_frame row) fault.Length = length row ≢ length p.circuit.inputs
-Forbids p (add_frame row) fault.Limit = ((p.circuit.max_var + 1) * (length p.rows + 1) ≤ cell_limit) × (length p.rows < frame_limit) → ⊥
+Forbids p (add_frame row) fault.Limit =
+    ((p.circuit.max_var + 1) * (length p.rows + 1) ≤ cell_limit) × (length p.rows < frame_limit) → ⊥
 Forbids p drop_frame fault.Empty = p.rows ≡ []
 Forbids p (append_gate r0 r1) fault.Range = IsInRange p.circuit r0 × IsInRange p.circuit r1 → ⊥
 Forbids p (append_gate r0 r1) fault.Undefined =

@@ -1,4 +1,5 @@
 -- Variables of a large fan-out: many gates read them (our own choice).
+-- Example: no variable of `examples/two_gates.aag`.
 use Rattle.std.specs.Prelude.{ℕ, ◌≤◌, List, length, Contains}
 use Rattle.aig_parts.specs.declared.raw.Raw.{Raw}
 use Rattle.aig_base.specs.Readers.{ReadsVariable}

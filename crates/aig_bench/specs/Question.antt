@@ -1,4 +1,5 @@
 -- The value of a literal at a frame, as a bench answers it (our own choice).
+-- Example: literal 10 of `examples/two_gates.aag` at frame 9: 3 before 6.
 use Rattle.std.specs.Prelude.{ℕ, ◌≤◌, length, Result, Ok, Err}
 use Rattle.aig_parts.specs.declared.ternary.Tern.{Tern}
 use Rattle.aig_parts.specs.Literal.{variable}

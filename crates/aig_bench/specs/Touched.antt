@@ -1,5 +1,8 @@
 -- Which cells an accepted edit touches, and which it changes (our own choice).
-use Rattle.std.specs.Prelude.{◌≡◌, ◌≢◌, ◌⊎◌, ◌↔◌, ℕ, ◌+◌, ◌*◌, ◌<◌, List, [], ◌∷◌, length, Result, Ok, Err, Some, slice_get, Contains}
+-- Example: `examples/two_gates.aag`, `11`: bit (0, 1) set to 0 touches 6 and 8 and changes both; a new gate 10 is
+-- touched at each frame and changes none.
+use Rattle.std.specs.Prelude.{◌≡◌, ◌≢◌, ◌⊎◌, ◌↔◌, ℕ, ◌+◌, ◌*◌, ◌<◌, List, [], ◌∷◌, length, Result, Ok, Err, Some}
+use Rattle.std.specs.Prelude.{slice_get, Contains}
 use Rattle.aig_parts.specs.declared.ternary.Tern.{Tern}
 use Rattle.aig_parts.specs.declared.gate.Gate.{Gate}
 use Rattle.aig_parts.specs.Literal.{variable}

@@ -1,5 +1,5 @@
-//! Which causes are found. What is expected was worked out by hand from the rule: of two sides that are 0 the lighter one
-//! counts, the first where they weigh the same, but the other one where that is known already.
+//! Which causes are found. What is expected was worked out by hand from the rule: of two sides that are 0 the lighter
+//! one counts, the first where they weigh the same, but the other one where that is known already.
 ghost use Rattle.std.specs.Prelude.{◌≡◌, ◌≤◌, All, IfOk, IfSome, IsTrue};
 ghost use Rattle.aig_parts.specs.Literal.{variable};
 ghost use Rattle.aig_base.specs.Sections.{IsDefined};
@@ -19,8 +19,8 @@ enum Wanted {
     Kept(&'static [u32]),
 }
 
-// Literals that are asked for at the last frame, and the lines of each frame, the last one first. Vectors of latches are
-// given by their ends.
+// Literals that are asked for at the last frame, and the lines of each frame, the last one first. Vectors of latches
+// are given by their ends.
 struct Row {
     file: &'static [u8],
     stimulus: &'static [u8],

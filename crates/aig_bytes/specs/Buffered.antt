@@ -1,4 +1,5 @@
 -- What a buffered writer is seen as, and what becomes of the bytes that it takes.
+-- Example: `ok` is held; a flush that fails after one byte holds `k`, and nothing is written any more.
 use Rattle.std.specs.Prelude.{◌≡◌, ℕ, ◌+◌, List, ◌++◌, Option, Bool, true, false, Result, IsErr, is_err}
 use Rattle.aig_bytes.specs.Bytes.{after, failed}
 

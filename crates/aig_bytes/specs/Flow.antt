@@ -1,4 +1,5 @@
 -- What passes through a reader or a writer between two moments.
+-- Example: a writer that had `1/` and has `1/ok/`, with no failed call.
 use Rattle.std.specs.Prelude.{ℕ, List, Option}
 
 -- how it gives its bytes (those that are left, or those that were written) and how many calls failed, what it was, and

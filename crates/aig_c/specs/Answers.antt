@@ -1,4 +1,6 @@
 -- What the arguments of a call for C ask for, and what its status says.
+-- Examples: `step, 4, 1` is the query of the induction step of four frames and property 1; `NotBad` is not; `toaig` of
+-- `aag 0 0 0 0 1/`.
 use Rattle.std.specs.Prelude.{◌≡◌, ℕ, List, Bool, true, false, Result, Err}
 use Rattle.aig_cnf.specs.Query.{step, within}
 use Rattle.aig_cnf.specs.declared.query.Query.{Query}

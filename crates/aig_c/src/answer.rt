@@ -43,7 +43,8 @@ pub(crate) fn answer(bytes: &[u8], room: &mut [u8], written: &mut usize) -> u8
     DONE
 }
 
-/// Writes the message of a fault to the front of a room, and returns its length: 0 if there is no room or no memory for it.
+/// Writes the message of a fault to the front of a room, and returns its length: 0 if there is no room or no memory for
+/// it.
 fn write_message(alloc: Global, fault: RunFault, room: &mut [u8]) -> usize
     ensures { result ≤ length room.old }
 {

@@ -99,7 +99,8 @@ pub extern "C" fn aig_unroll(
     room: &mut [u8],
     written: &mut usize,
 ) -> u8
-    ensures done { result ≡ 0 → OfFile circuit.now (Unrolls frames (format_of binary)) (Ok tt) (take written.new room.new) }
+    ensures done { result ≡ 0 → OfFile circuit.now (Unrolls frames (format_of binary)) (Ok tt)
+        (take written.new room.new) }
     ensures refused { result ≡ 1 → Refuses (OfFile circuit.now (Unrolls frames (format_of binary))) }
     ensures inside { result ≤ 1 → written.new ≤ length room.old }
     ensures kept { 1 < result → (room.new ≡ room.old) × (written.new ≡ written.old) }

@@ -135,7 +135,8 @@ pub extern "C" fn aig_model_witness(
     }
 }
 
-/// Writes the witness of the run by which a certificate fails, that a model of the formula of `aig_cnf_certified` names.
+/// Writes the witness of the run by which a certificate fails, that a model of the formula of `aig_cnf_certified`
+/// names.
 #[unsafe(no_mangle)]
 pub extern "C" fn aig_model_witness_certified(
     alloc: Global,

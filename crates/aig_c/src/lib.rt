@@ -1,5 +1,5 @@
-//! The calls for C, from bytes to bytes, as `include/aig.h` declares them. They keep no state. Each writes what its command
-//! prints, or why an input is rejected, to the front of a room that the caller passes, and returns a status.
+//! The calls for C, from bytes to bytes, as `include/aig.h` declares them. They keep no state. Each writes what its
+//! command prints, or why an input is rejected, to the front of a room that the caller passes, and returns a status.
 #![tactic(auto)]
 
 mod answer;

@@ -85,7 +85,8 @@ fn refute_by<'x>(
     requires { out.old.bytes ≡ [] }
     ensures unreachable { OnOk result (IsFileNeverReached circuit.now property) }
     ensures done { OnOk result (OfFile circuit.now (RefutesStep frames property) (Ok tt) out.new.bytes) }
-    ensures refused { IfErr result (λ fault. status_of fault ≡ 1 → Refuses (OfFile circuit.now (RefutesStep frames property))) }
+    ensures refused { IfErr result (λ fault. status_of fault ≡ 1
+        → Refuses (OfFile circuit.now (RefutesStep frames property))) }
 {
     let mut first = MemReader::new(proof);
     let mut second = MemReader::new(step);

@@ -20,7 +20,8 @@ const WITNESS: &[u8] = b"1\nb0\n0\n1\nx\n.\n";
 /// Whether the witness is confirmed: then its run reaches the bad state of the file's circuit (`ShowsVerdict`, which
 /// `Checks` cites).
 fn is_confirmed(alloc: Global, file: &[u8], witness: &[u8]) -> Result<bool, RunFault>
-    ensures confirmed { result ≡ Ok true → (line : List ℕ) × OfFile file.now (Checks witness.now) (Ok Verdict.Confirmed) line }
+    ensures confirmed { result ≡ Ok true → (line : List ℕ)
+        × OfFile file.now (Checks witness.now) (Ok Verdict.Confirmed) line }
 {
     let mut line = MemWriter::new(alloc, 64)?;
     let verdict = check_bytes(alloc, file, witness, &mut line)?;

@@ -1,5 +1,5 @@
-//! The four programs of docs/CALLING.md, one after the other. Each module is a program of its own if its `run` is called
-//! `main`.
+//! The four programs of docs/CALLING.md, one after the other. Each module is a program of its own if its `run` is
+//! called `main`.
 #![tactic(auto)]
 
 mod check_witness;

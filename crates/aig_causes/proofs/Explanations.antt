@@ -1,9 +1,11 @@
 -- An explanation goes down line by line and frame by frame, and what it names explains what was asked for.
-use Rattle.std.proofs.Common.{◌≡◌, ◌⊎◌, ◌↔◌, inl, inr, ℕ, suc, ◌-◌, ◌<◌, ◌≤◌, List, [], ◌∷◌, ◌++◌, length, All, Contains, Some, slice_get, Bool, IsTrue, sym, ap, ◌∙◌, subst, arith, flat_map}
+use Rattle.std.proofs.Common.{◌≡◌, ◌⊎◌, ◌↔◌, inl, inr, ℕ, suc, ◌-◌, ◌<◌, ◌≤◌, List, [], ◌∷◌, ◌++◌, length, All}
+use Rattle.std.proofs.Common.{Contains, Some, slice_get, Bool, IsTrue, sym, ap, ◌∙◌, subst, arith, flat_map}
 use Rattle.std.proofs.lemmas.Bool.{cases_lt}
 use Rattle.std.proofs.lemmas.Grind.{flat_map-append}
 use Rattle.std.proofs.lemmas.List.{append-nil}
-use Rattle.std.proofs.lemmas.List.Elements.{All-append, All-cons, All-contains, All-head, All-nil, All-tail, Contains-append_cases, Contains-append_left, Contains-append_right}
+use Rattle.std.proofs.lemmas.List.Elements.{All-append, All-cons, All-contains, All-head, All-nil, All-tail}
+use Rattle.std.proofs.lemmas.List.Elements.{Contains-append_cases, Contains-append_left, Contains-append_right}
 use Rattle.std.proofs.lemmas.Option.{slice_get_within}
 use Rattle.aig_parts.specs.declared.latch.Latch.{Latch}
 use Rattle.aig_parts.specs.declared.raw.Raw.{Raw}
@@ -11,7 +13,8 @@ use Rattle.aig_base.specs.Circuit.{IsCircuit}
 use Rattle.aig_base.proofs.lists.Gets.{All-by_get, Contains-from_get}
 use Rattle.aig_bench.specs.BenchState.{CircuitAndRows}
 use Rattle.aig_causes.specs.Causes.{AreInOrder, AreThere, Explain, ExplainUnknown, Moment, Sources, moment}
-use Rattle.aig_causes.specs.Explanation.{AreKept, AreLines, AreNamedBetween, ComesDown, ExplanationState, HasCome, IsAsked, IsLine, IsNamed, IsOf, LineState}
+use Rattle.aig_causes.specs.Explanation.{AreKept, AreLines, AreNamedBetween, ComesDown, ExplanationState, HasCome}
+use Rattle.aig_causes.specs.Explanation.{IsAsked, IsLine, IsNamed, IsOf, LineState}
 use Rattle.aig_causes.specs.Explanation.{inputs_after, left_sides, named_at, named_by}
 use Rattle.aig_causes.specs.Lines.{ExplainLatches, ExplainTogether, next}
 use Rattle.aig_causes.proofs.Laws.{explain_more}

@@ -1,5 +1,6 @@
 -- Latches that keep their values.
-use Rattle.std.proofs.Common.{◌≡◌, ◌↔◌, inl, inr, ℕ, List, All, length, Some, Bool, true, false, IsTrue, slice_get, sym, ◌∙◌, subst, rules}
+use Rattle.std.proofs.Common.{◌≡◌, ◌↔◌, inl, inr, ℕ, List, All, length, Some, Bool, true, false, IsTrue, slice_get, sym}
+use Rattle.std.proofs.Common.{◌∙◌, subst, rules}
 use Rattle.std.specs.Prelude.{nat_eq}
 use Rattle.std.specs.Cmp.Lexicographic.{pointwise, same_text}
 use Rattle.std.proofs.Math.Bool.{not}

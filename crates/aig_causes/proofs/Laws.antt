@@ -1,5 +1,6 @@
 -- What a finished walk found explains what it was asked for: by recursion on the gates that lead there.
-use Rattle.std.proofs.Common.{◌≡◌, ◌≢◌, inl, inr, ℕ, ◌-◌, ◌*◌, ◌<◌, List, [], Contains, Some, slice_get, refl, sym, ◌∙◌, subst, arith}
+use Rattle.std.proofs.Common.{◌≡◌, ◌≢◌, inl, inr, ℕ, ◌-◌, ◌*◌, ◌<◌, List, [], Contains, Some, slice_get, refl, sym, ◌∙◌}
+use Rattle.std.proofs.Common.{subst, arith}
 use Rattle.std.proofs.lemmas.Bool.{cases_eq}
 use Rattle.aig_parts.specs.Literal.{variable}
 use Rattle.aig_parts.specs.Ternary.{kleene_and, kleene_not}
@@ -13,7 +14,8 @@ use Rattle.aig_base.specs.Grounded as grounded
 use Rattle.aig_base.specs.Sections.{IsDefined}
 use Rattle.aig_base.specs.Value as value
 use Rattle.aig_base.specs.declared.circuit.definition.Definition.TheVariants as definition
-use Rattle.aig_base.proofs.circuits.Circuits.{gate_definition, input_defined, input_definition, latch_defined, latch_definition, rhs0_defined, rhs1_defined}
+use Rattle.aig_base.proofs.circuits.Circuits.{gate_definition, input_defined, input_definition, latch_defined}
+use Rattle.aig_base.proofs.circuits.Circuits.{latch_definition, rhs0_defined, rhs1_defined}
 use Rattle.aig_base.proofs.circuits.Defined.{even, Grounded-of_defined}
 use Rattle.aig_base.proofs.circuits.Places.{gate, odd}
 use Rattle.aig_base.proofs.values.OneValue.{exists_value}

@@ -1,5 +1,6 @@
 -- What a walker keeps stays, as long as its marks, weights and order do.
-use Rattle.std.proofs.Common.{◌≡◌, ℕ, List, All, Global, Option, Some, None, unwrap_or, Vec, ◌+◌, length, IfSome, sym, ap, ◌∙◌, subst}
+use Rattle.std.proofs.Common.{◌≡◌, ℕ, List, All, Global, Option, Some, None, unwrap_or, Vec, ◌+◌, length, IfSome, sym}
+use Rattle.std.proofs.Common.{ap, ◌∙◌, subst}
 use Rattle.aig_parts.specs.declared.gate.Gate.{Gate}
 use Rattle.aig_parts.specs.declared.raw.Raw.{Raw}
 use Rattle.aig_base.specs.Circuit.{IsCircuit}

@@ -1,8 +1,11 @@
 -- A walk goes on: one variable more is visited, and what it leads to is found or queued.
-use Rattle.std.proofs.Common.{append-nil, All, map, zero, ◌≡◌, ◌≢◌, ◌⊎◌, inl, inr, ℕ, suc, ◌+◌, ◌*◌, ◌<◌, ◌≤◌, List, [], ◌∷◌, ◌++◌, length, get_or, Bool, not, cond, count_by, nat_eq, Contains, Some, slice_get, slice_set, refl, sym, ap, ◌∙◌, subst, arith}
+use Rattle.std.proofs.Common.{append-nil, All, map, zero, ◌≡◌, ◌≢◌, ◌⊎◌, inl, inr, ℕ, suc, ◌+◌, ◌*◌, ◌<◌, ◌≤◌, List, []}
+use Rattle.std.proofs.Common.{◌∷◌, ◌++◌, length, get_or, Bool, not, cond, count_by, nat_eq, Contains, Some, slice_get}
+use Rattle.std.proofs.Common.{slice_set, refl, sym, ap, ◌∙◌, subst, arith}
 use Rattle.std.proofs.lemmas.Bool.{cases_eq, eq-eqb, ne_eqb}
 use Rattle.std.proofs.lemmas.List.{length-set, length_push, length-append}
-use Rattle.std.proofs.lemmas.List.Elements.{Contains-append_cases, Contains-append_left, Contains-append_right, Contains-push, Contains-push_cases}
+use Rattle.std.proofs.lemmas.List.Elements.{Contains-append_cases, Contains-append_left, Contains-append_right}
+use Rattle.std.proofs.lemmas.List.Elements.{Contains-push, Contains-push_cases}
 use Rattle.std.proofs.lemmas.List.Sums.{sum_by-set}
 use Rattle.std.proofs.lemmas.Option.{slice_get_within, slice_get-get_or}
 use Rattle.aig_parts.specs.Literal.{variable}
@@ -17,7 +20,9 @@ use Rattle.aig_base.specs.Sections.{definitions}
 use Rattle.aig_base.specs.Sound.{IsSound}
 use Rattle.aig_base.specs.declared.circuit.definition.Definition.{Definition}
 use Rattle.aig_base.specs.declared.circuit.definition.Definition.TheVariants as definition
-use Rattle.aig_base.proofs.circuits.Circuits.{contains_variable, gate_definition, gate_in_range, gate_stands, input_definition, input_stands, latch_definition, latch_stands, rhs0_in_range, rhs1_in_range}
+use Rattle.aig_base.proofs.circuits.Circuits.{contains_variable, gate_definition, gate_in_range, gate_stands}
+use Rattle.aig_base.proofs.circuits.Circuits.{input_definition, input_stands, latch_definition, latch_stands}
+use Rattle.aig_base.proofs.circuits.Circuits.{rhs0_in_range, rhs1_in_range}
 use Rattle.aig_base.proofs.circuits.Defined.{even}
 use Rattle.aig_base.proofs.circuits.Places.{At, Place, gate, input, latch, same_place}
 use Rattle.aig_base.proofs.lists.Gets.{All-by_get, slice_get-set_other, slice_get-set_same}
@@ -27,7 +32,8 @@ use Rattle.aig_values.specs.GateOrder.{IsGateOrder}
 use Rattle.aig_causes.specs.declared.sides.Sides.{Sides}
 use Rattle.aig_causes.specs.declared.sides.Sides.TheVariants as sides
 use Rattle.aig_causes.specs.Causes.{Has, Moment, Sources}
-use Rattle.aig_causes.specs.state.Walk.{AreEarlier, Begins, IsSide, queued, GoesOn, HasLed, HaveReached, IsReached, IsVisited, IsWalk, Leads, Needs, WalkState, steps_left, with_queued}
+use Rattle.aig_causes.specs.state.Walk.{AreEarlier, Begins, IsSide, queued, GoesOn, HasLed, HaveReached, IsReached}
+use Rattle.aig_causes.specs.state.Walk.{IsVisited, IsWalk, Leads, Needs, WalkState, steps_left, with_queued}
 
 needs_more : (P Q : ℕ → Type 0) → ((u : ℕ) → P u → Q u) → (g : Gate) (a b w : Tern) → Needs P g a b w → Needs Q g a b w
 needs_more P Q f g a b Zero h = elim h [

@@ -1,4 +1,6 @@
 -- Which inputs and latches make a literal of a run what it is at a frame (our own choice).
+-- Examples: `6 = 2 AND 4` with the row `01`: the first input explains 6, for wherever it is 0, 6 is 0; with the row
+-- `x1`, where the first input is 0 or 1, so is 6.
 use Rattle.std.specs.Prelude.{◌≡◌, ◌≢◌, ℕ, ◌<◌, List, length, Contains, Some, slice_get}
 use Rattle.std.specs.List.Sorted.{IsStrictlyIncreasing}
 use Rattle.aig_parts.specs.declared.latch.Latch.{Latch}

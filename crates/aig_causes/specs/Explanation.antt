@@ -1,6 +1,8 @@
--- An explanation, frame by frame from the last one down: what is named at a frame explains the latches that are named at the
--- frame after it (our own choice).
-use Rattle.std.specs.Prelude.{◌≡◌, ℕ, ◌+◌, ◌-◌, ◌<◌, ◌≤◌, ◌↔◌, List, [], ◌∷◌, length, flat_map, All, Contains, Some, slice_get, Bool, true, IsTrue}
+-- An explanation, frame by frame from the last one down: what is named at a frame explains the latches that are named
+-- at the frame after it (our own choice).
+-- Example: the latch that takes 6 as its next state, asked for at frame 1, has one line: the first input.
+use Rattle.std.specs.Prelude.{◌≡◌, ℕ, ◌+◌, ◌-◌, ◌<◌, ◌≤◌, ◌↔◌, List, [], ◌∷◌, length, flat_map, All, Contains, Some}
+use Rattle.std.specs.Prelude.{slice_get, Bool, true, IsTrue}
 use Rattle.std.specs.List.Sorted.{IsStrictlyIncreasing}
 use Rattle.aig_parts.specs.declared.latch.Latch.{Latch}
 use Rattle.aig_parts.specs.declared.raw.Raw.{Raw}
@@ -9,7 +11,8 @@ use Rattle.aig_bench.specs.BenchState.{CircuitAndRows}
 use Rattle.aig_causes.specs.Causes.{AreInOrder, AreThere, Explain, ExplainUnknown, Has, Moment, Sources, moment}
 use Rattle.aig_causes.specs.Lines.{next}
 
--- A line: latches of a frame by their positions, what explains them at the frame before, and whether they keep their values.
+-- A line: latches of a frame by their positions, what explains them at the frame before, and whether they keep their
+-- values.
 pub record LineState : Type 0 where
   pub latches : List ℕ
   pub causes : Sources
@@ -76,15 +79,17 @@ abbrev pub inputs_after : Sources → List (List LineState) → List (List ℕ)
 inputs_after asked [] = []
 inputs_after asked (lines ∷ frames) = (named_at asked frames).inputs ∷ inputs_after asked frames
 
--- The literals that were asked for are explained down to m: by these lines of each frame from m on, the lowest frame first.
+-- The literals that were asked for are explained down to m: by these lines of each frame from m on, the lowest frame
+-- first.
 unfoldable pub ComesDown : Raw → List ℕ → Sources → Moment → List (List LineState) → Type 0
 ComesDown raw literals asked m [] = IsAsked raw m literals asked
 ComesDown raw literals asked m (lines ∷ frames) =
-    AreLines raw m (named_at asked frames).latches (length raw.latches) lines × ComesDown raw literals asked (next m) frames
+    AreLines raw m (named_at asked frames).latches (length raw.latches) lines
+    × ComesDown raw literals asked (next m) frames
 
--- What is kept of an explanation: for how many variables it is, what is named where it began, whether latches alone were asked
--- for, its frame, which latches are named there, below which position they are explained, and which latches that names at the
--- frame before.
+-- What is kept of an explanation: for how many variables it is, what is named where it began, whether latches alone
+-- were asked for, its frame, which latches are named there, below which position they are explained, and which latches
+-- that names at the frame before.
 pub record ExplanationState : Type 0 where
   pub variables : ℕ
   pub asked : Sources
@@ -111,8 +116,8 @@ pub record IsOf (p : CircuitAndRows) (e : ExplanationState) : Type 0 where
   pub below : length e.below ≡ length p.circuit.latches
   pub end : e.end ≤ length p.circuit.latches
 
--- An explanation has come down to its frame by these lines of each frame from there on, the lowest frame first, and has these
--- lines of the frame before so far.
+-- An explanation has come down to its frame by these lines of each frame from there on, the lowest frame first, and has
+-- these lines of the frame before so far.
 pub record HasCome (p : CircuitAndRows) (literals : List ℕ) (e : ExplanationState) (frames : List (List LineState))
     (lines : List LineState) : Type 0 where
   pub down : ComesDown p.circuit literals e.asked (moment p e.frame) frames

@@ -1,4 +1,5 @@
--- Lines frame by frame, from the last one down: what they name explains the literals that were asked for (our own choice).
+-- Lines frame by frame, from the last one down: what they name explains the literals that were asked for (our own
+-- choice).
 use Rattle.std.specs.Prelude.{◌≡◌, ◌≢◌, ℕ, zero, suc, List, [], ◌∷◌, length, Contains, Some, slice_get}
 use Rattle.aig_parts.specs.declared.latch.Latch.{Latch}
 use Rattle.aig_parts.specs.declared.raw.Raw.{Raw}
@@ -26,7 +27,8 @@ AgreeOnInputs raw m n (inputs ∷ rest) =
 abbrev pub ExplainTogether : Raw → Moment → Sources → List (List ℕ) → ℕ → Type 0
 ExplainTogether raw m sources rest l =
     (w : Tern) → w ≢ X → Has raw (later m (length rest)) l w
-    → (n : Moment) → IsMoment raw (later n (length rest)) → Agree raw sources m n → AgreeOnInputs raw (next m) (next n) rest
+    → (n : Moment) → IsMoment raw (later n (length rest)) → Agree raw sources m n
+    → AgreeOnInputs raw (next m) (next n) rest
     → Has raw (later n (length rest)) l w
 
 -- each of these latches of the next frame is explained by what is named at this one

@@ -42,7 +42,8 @@ impl Explainer {
     }
 
     /// Inputs and latches that explain what these literals are at a frame, in order. Of a gate that is 1 both
-    /// sides count, of one that is 0 one side that is 0, and of one that is x each side that is x. Of two sides that are
+    /// sides count, of one that is 0 one side that is 0, and of one that is x each side that is x. Of two sides that
+    /// are
     /// 0 it takes the lighter one, or one that is known already; the contract leaves that open (our own choice).
     ///
     /// The first call at a frame weighs the gates there, in the time of their values. A walk visits each variable once

@@ -1,10 +1,12 @@
 //! Explanations, frame by frame from the last one down.
-ghost use Rattle.std.specs.Prelude.{◌≡◌, ℕ, ◌+◌, ◌∷◌, ◌++◌, [], ◌-◌, ◌<◌, ◌≤◌, ◌↔◌, List, length, All, IfOk, IfNone, IfSome, OnOk, OnErr, IsTrue, option_to_list};
+ghost use Rattle.std.specs.Prelude.{◌≡◌, ℕ, ◌+◌, ◌∷◌, ◌++◌, [], ◌-◌, ◌<◌, ◌≤◌, ◌↔◌, List, length, All, IfOk, IfNone};
+ghost use Rattle.std.specs.Prelude.{IfSome, OnOk, OnErr, IsTrue, option_to_list};
 ghost use Rattle.aig_parts.specs.Literal.{variable};
 ghost use Rattle.aig_base.specs.Sections.{IsDefined, IsLatchLiteral};
 ghost use Rattle.aig_bench.specs.BenchState.{CircuitAndRows};
 ghost use Rattle.aig_causes.specs.Causes.{moment};
-ghost use Rattle.aig_causes.specs.Explanation.{AreNamedBetween, ExplainThemselves, HasCome, IsAsked, IsLine, IsNamed, IsOf, LineState};
+ghost use Rattle.aig_causes.specs.Explanation.{AreNamedBetween, ExplainThemselves, HasCome, IsAsked, IsLine, IsNamed};
+ghost use Rattle.aig_causes.specs.Explanation.{IsOf, LineState};
 
 use crate::causes::Causes;
 use crate::explainer::Explainer;
@@ -19,8 +21,8 @@ use std::alloc::Global;
 use std::marker::Model;
 use std::mem::swap;
 
-/// What explains literals of a run, line by line and frame by frame. It keeps what is named at one frame and at the frame
-/// before it, so memory does not grow with the frames.
+/// What explains literals of a run, line by line and frame by frame. It keeps what is named at one frame and at the
+/// frame before it, so memory does not grow with the frames.
 pub struct Explanation {
     explainer: Explainer,
     asked: Causes,
@@ -109,8 +111,9 @@ fn line_of<G: Grid>(
 }
 
 impl Explanation {
-    /// What explains these literals at a frame. A latch that is asked for explains itself, where all literals are ones of
-    /// latches; else it is what `Explainer::causes` finds. It takes memory as an explainer does, and two bytes a latch.
+    /// What explains these literals at a frame. A latch that is asked for explains itself, where all literals are ones
+    /// of latches; else it is what `Explainer::causes` finds. It takes memory as an explainer does, and two bytes a
+    /// latch.
     pub fn new<G: Grid>(
         alloc: Global,
         bench: &Bench<G>,

@@ -4,8 +4,8 @@ ghost use Rattle.std.specs.Prelude.{◌≡◌};
 use crate::causes::Causes;
 use std::marker::Model;
 
-/// Latches of a frame, and what explains them at the frame before. Contracts see both, and whether the latches keep their
-/// values.
+/// Latches of a frame, and what explains them at the frame before. Contracts see both, and whether the latches keep
+/// their values.
 #[derive(Debug)]
 pub struct Line {
     latches: Vec<u32>,

@@ -1,5 +1,6 @@
 //! A walk from literals to the inputs and latches by which they have their values, at one frame.
-ghost use Rattle.std.specs.Prelude.{◌≡◌, ℕ, ◌+◌, ◌<◌, ◌≤◌, ◌++◌, [], length, Contains, Some, slice_get, IfOk, OnOk, unwrap_or};
+ghost use Rattle.std.specs.Prelude.{◌≡◌, ℕ, ◌+◌, ◌<◌, ◌≤◌, ◌++◌, [], length, Contains, Some, slice_get, IfOk, OnOk};
+ghost use Rattle.std.specs.Prelude.{unwrap_or};
 ghost use Rattle.aig_parts.specs.Literal.{variable};
 ghost use Rattle.aig_base.specs.Sections.{IsDefined};
 ghost use Rattle.aig_causes.specs.Causes.{moment};

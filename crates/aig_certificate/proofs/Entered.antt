@@ -1,10 +1,14 @@
 -- The table of literals.
-use Rattle.std.proofs.Common.{◌≡◌, ◌≢◌, ◌⊎◌, inl, inr, ℕ, zero, suc, Bool, true, false, nat_lt, if◌then◌else◌, ◌+◌, ◌-◌, ◌%◌, ◌<◌, ◌≤◌, List, [], ◌∷◌, ◌++◌, length, map, drop, get_or, set, replicate, Option, Some, None, slice_get, option_map, All}
+use Rattle.std.proofs.Common.{◌≡◌, ◌≢◌, ◌⊎◌, inl, inr, ℕ, zero, suc, Bool, true, false, nat_lt, if◌then◌else◌, ◌+◌, ◌-◌}
+use Rattle.std.proofs.Common.{◌%◌, ◌<◌, ◌≤◌, List, [], ◌∷◌, ◌++◌, length, map, drop, get_or, set, replicate, Option}
+use Rattle.std.proofs.Common.{Some, None, slice_get, option_map, All}
 use Rattle.std.proofs.Common.{refl, sym, ap, ap₂, subst, ◌∙◌, append_assoc, arith}
 use Rattle.std.proofs.lemmas.Bool.{cases_lt}
-use Rattle.std.proofs.lemmas.List.{append-nil, drop_more, drop_all, get_or-set_same, get_or-set_other, length-append, length-map, length-replicate}
+use Rattle.std.proofs.lemmas.List.{append-nil, drop_more, drop_all, get_or-set_same, get_or-set_other, length-append}
+use Rattle.std.proofs.lemmas.List.{length-map, length-replicate}
 use Rattle.std.proofs.lemmas.List.Elements.{All-get_or, All-weaker, Contains-get_or}
-use Rattle.std.proofs.lemmas.Option.{slice_get-map, slice_get-get_or, slice_get_within, get_or_from_slice_get, none-some, same_Some}
+use Rattle.std.proofs.lemmas.Option.{slice_get-map, slice_get-get_or, slice_get_within, get_or_from_slice_get}
+use Rattle.std.proofs.lemmas.Option.{none-some, same_Some}
 use Rattle.aig_parts.specs.declared.gate.Gate.{Gate}
 use Rattle.aig_parts.specs.declared.latch.Latch.{Latch}
 use Rattle.aig_parts.specs.declared.raw.Raw.{Raw}
@@ -13,13 +17,16 @@ use Rattle.aig_base.specs.Renumbered.{evens_from}
 use Rattle.aig_base.specs.RenumberingTable.{IsGateListed, IsInTable, IsLatchListed}
 use Rattle.aig_base.specs.Sections.{definitions, uses}
 use Rattle.aig_base.specs.Sound.{IsDefinition, IsInRange, IsReset, IsSound, StandsTwice}
-use Rattle.aig_base.proofs.circuits.Circuits.{input_in_range, latch_in_range, gate_in_range, next_in_range, rhs0_in_range, rhs1_in_range, use_in_range, input_definition, latch_definition}
+use Rattle.aig_base.proofs.circuits.Circuits.{input_in_range, latch_in_range, gate_in_range, next_in_range}
+use Rattle.aig_base.proofs.circuits.Circuits.{rhs0_in_range, rhs1_in_range, use_in_range, input_definition}
+use Rattle.aig_base.proofs.circuits.Circuits.{latch_definition}
 use Rattle.aig_base.proofs.circuits.EachUse.{each_use}
 use Rattle.aig_base.proofs.lists.Gets.{All-at, All-by_get, slice_get_left, slice_get_right}
 use Rattle.aig_base.proofs.lists.Joined.{All-left}
 use Rattle.aig_certificate.specs.Shared.{AreMeanings, Meanings}
 use Rattle.aig_certificate.specs.Strengthened.{IsTranslation, literals_after, own, own_literals, properties}
-use Rattle.aig_certificate.specs.state.Table.{AreEntered, AreEnteredTo, HasLiterals, all_meanings, literal_by, next_after, value_of, values_from}
+use Rattle.aig_certificate.specs.state.Table.{AreEntered, AreEnteredTo, HasLiterals, all_meanings, literal_by}
+use Rattle.aig_certificate.specs.state.Table.{next_after, value_of, values_from}
 use Rattle.aig_certificate.proofs.Extensions.{twice_negated}
 use Rattle.aig_certificate.proofs.OwnEntries.{own-all, own-append, own-map}
 

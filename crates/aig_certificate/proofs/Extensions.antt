@@ -1,5 +1,6 @@
 -- What is strengthened extends the model.
-use Rattle.std.proofs.Common.{◌≡◌, ℕ, ◌+◌, ◌-◌, ◌*◌, ◌%◌, Bool, true, false, inl, inr, ◌⊎◌, suc, if◌then◌else◌, nat_lt, List, [], ◌∷◌, ◌++◌, length, map, Some, slice_get, Contains}
+use Rattle.std.proofs.Common.{◌≡◌, ℕ, ◌+◌, ◌-◌, ◌*◌, ◌%◌, Bool, true, false, inl, inr, ◌⊎◌, suc, if◌then◌else◌, nat_lt}
+use Rattle.std.proofs.Common.{List, [], ◌∷◌, ◌++◌, length, map, Some, slice_get, Contains}
 use Rattle.std.proofs.Common.{refl, sym, ap, subst, ◌∙◌, arith, append_assoc}
 use Rattle.std.proofs.lemmas.List.Elements.{Contains-append_right}
 use Rattle.aig_parts.specs.declared.gate.Gate.{Gate}
@@ -8,7 +9,8 @@ use Rattle.aig_parts.specs.Literal.{negation}
 use Rattle.aig_base.specs.Renumbered.{ready_gate, relabelled_latch}
 use Rattle.aig_certificate.specs.Extension.{IsAndOf, IsExtension}
 use Rattle.aig_certificate.specs.Extension as and_of
-use Rattle.aig_certificate.specs.Strengthened.{IsStrengthened, chain, chain_end, claims, own, own_literals, translated_gate}
+use Rattle.aig_certificate.specs.Strengthened.{IsStrengthened, chain, chain_end, claims, own, own_literals}
+use Rattle.aig_certificate.specs.Strengthened.{translated_gate}
 
 -- a literal is the negation of its negation
 pub twice_negated : (l : ℕ) → negation (negation l) ≡ l

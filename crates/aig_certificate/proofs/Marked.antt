@@ -1,5 +1,6 @@
 -- What the symbols of a certificate say.
-use Rattle.std.proofs.Common.{◌≡◌, ◌≢◌, inl, inr, ℕ, ◌+◌, ◌<◌, List, [], ◌∷◌, ◌++◌, length, decimal, codes, Option, Some, None, slice_get, option_map, Contains, AllPairs}
+use Rattle.std.proofs.Common.{◌≡◌, ◌≢◌, inl, inr, ℕ, ◌+◌, ◌<◌, List, [], ◌∷◌, ◌++◌, length, decimal, codes, Option}
+use Rattle.std.proofs.Common.{Some, None, slice_get, option_map, Contains, AllPairs}
 use Rattle.std.proofs.Common.{refl, sym, ap, subst, ◌∙◌, arith}
 use Rattle.std.specs.Map.{keys_of}
 use Rattle.std.proofs.lemmas.Bool.{cases_lt}
@@ -9,7 +10,8 @@ use Rattle.std.proofs.lemmas.Option.{slice_get-map, slice_get_within, get_or_fro
 use Rattle.aig_parts.specs.declared.latch.Latch.{Latch}
 use Rattle.aig_parts.specs.declared.raw.Raw.{Raw}
 use Rattle.aig_parts.specs.declared.symbols.Kind.{Kind}
-use Rattle.aig_parts.specs.declared.symbols.Kind.TheVariants.{Input, Latch as Latches, Output, Bad, Constraint, Justice, Fairness}
+use Rattle.aig_parts.specs.declared.symbols.Kind.TheVariants.{Input, Latch as Latches, Output, Bad, Constraint, Justice}
+use Rattle.aig_parts.specs.declared.symbols.Kind.TheVariants.{Fairness}
 use Rattle.aig_parts.specs.Formed.{IsFormed, IsSymbolOf, section_length}
 use Rattle.aig_parts.specs.Literal.{variable}
 use Rattle.aig_parts.specs.SymbolPlaces.{Key}
@@ -19,7 +21,8 @@ use Rattle.aig_certificate.specs.declared.fault.StrengthenFault.{StrengthenFault
 use Rattle.aig_certificate.specs.declared.fault.StrengthenFault.TheVariants as faults
 use Rattle.aig_certificate.specs.Shared.{IsBefore, IsMarked, IsMeaning, IsNamed, IsSource, IsWrong, StandsFor}
 use Rattle.aig_certificate.specs.Shared as stands
-use Rattle.aig_certificate.specs.state.Marks.{AreMeaningsOf, AreRight, IsFirstWrong, IsNamedLiteral, RefusesReading, literal_at}
+use Rattle.aig_certificate.specs.state.Marks.{AreMeaningsOf, AreRight, IsFirstWrong, IsNamedLiteral, RefusesReading}
+use Rattle.aig_certificate.specs.state.Marks.{literal_at}
 use Rattle.aig_certificate.specs.Answers.{HasMapping}
 
 -- an entry has one name

@@ -1,7 +1,9 @@
 -- What the inputs and latches of a certificate stand for in a model (our own choice; `= LIT` is the form of the witness
 -- circuits of the Hardware Model Checking Competition). Those that stand for a literal of the model are shared, and the
 -- others are the certificate's own.
-use Rattle.std.specs.Prelude.{◌≡◌, ◌≢◌, ◌⊎◌, ℕ, ◌<◌, List, ◌++◌, length, codes, decimal, Contains, Option, Some, None, slice_get}
+-- Example: a latch with the symbol `= 4` stands for literal 4.
+use Rattle.std.specs.Prelude.{◌≡◌, ◌≢◌, ◌⊎◌, ℕ, ◌<◌, List, ◌++◌, length, codes, decimal, Contains, Option, Some, None}
+use Rattle.std.specs.Prelude.{slice_get}
 use Rattle.aig_parts.specs.declared.latch.Latch.{Latch}
 use Rattle.aig_parts.specs.declared.raw.Raw.{Raw}
 use Rattle.aig_parts.specs.declared.symbols.Kind.{Kind}
@@ -45,7 +47,8 @@ pub record AreMeanings (model certificate : Raw) (meanings : Meanings) : Type 0 
   pub input_count : length meanings.inputs ≡ length certificate.inputs
   pub latch_count : length meanings.latches ≡ length certificate.latches
   pub inputs : (p : ℕ) (m : Option ℕ) → slice_get meanings.inputs p ≡ Some m → IsMeaning model certificate (Input, p) m
-  pub latches : (p : ℕ) (m : Option ℕ) → slice_get meanings.latches p ≡ Some m → IsMeaning model certificate (Latches, p) m
+  pub latches : (p : ℕ) (m : Option ℕ) → slice_get meanings.latches p ≡ Some m
+      → IsMeaning model certificate (Latches, p) m
 
 -- the symbol of this entry begins with `= `, and no literal of a defined variable of the model comes behind it
 abbrev pub IsWrong : Raw → Raw → Key → Type 0

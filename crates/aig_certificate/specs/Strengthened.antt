@@ -1,8 +1,9 @@
--- A model that is strengthened by a certificate (our own choice). The certificate claims of the model's runs that none of
--- its properties is ever 1 and each of its constraints always is. The strengthened circuit is the model with the
+-- A model that is strengthened by a certificate (our own choice). The certificate claims of the model's runs that none
+-- of its properties is ever 1 and each of its constraints always is. The strengthened circuit is the model with the
 -- certificate's own inputs and latches, with all its gates, and with one bad state property: the model's is 1, or a
 -- claim is broken.
-use Rattle.std.specs.Prelude.{◌≡◌, ℕ, ◌+◌, ◌*◌, ◌==◌, nat_lt, if◌then◌else◌, List, [], ◌∷◌, ◌++◌, length, map, take, count_by, is_none, Option, Some, None, option_map, slice_get}
+use Rattle.std.specs.Prelude.{◌≡◌, ℕ, ◌+◌, ◌*◌, ◌==◌, nat_lt, if◌then◌else◌, List, [], ◌∷◌, ◌++◌, length, map, take}
+use Rattle.std.specs.Prelude.{count_by, is_none, Option, Some, None, option_map, slice_get}
 use Rattle.std.specs.List.{filter_map, range_with_len}
 use Rattle.aig_parts.specs.declared.gate.Gate.{Gate}
 use Rattle.aig_parts.specs.declared.latch.Latch.{Latch}

@@ -1,5 +1,6 @@
 //! The sections of the strengthened circuit.
-ghost use Rattle.std.specs.Prelude.{◌≡◌, ◌+◌, ◌*◌, ◌≤◌, ◌∷◌, ◌++◌, Some, length, map, slice_get, All, IfOk, OnOk, IfErr};
+ghost use Rattle.std.specs.Prelude.{◌≡◌, ◌+◌, ◌*◌, ◌≤◌, ◌∷◌, ◌++◌, Some, length, map, slice_get, All, IfOk, OnOk};
+ghost use Rattle.std.specs.Prelude.{IfErr};
 ghost use Rattle.aig_parts.specs.Formed.{limit};
 ghost use Rattle.aig_parts.specs.Literal.{negation};
 ghost use Rattle.aig_base.specs.Renumbered as renumbered;
@@ -47,7 +48,8 @@ fn ready_gate(lhs: Lit, left: Lit, right: Lit) -> Gate
     Gate { lhs, rhs0, rhs1 }
 }
 
-// Adds the gates from a variable on that AND the negations of these literals to one, in order. Returns the last literal.
+// Adds the gates from a variable on that AND the negations of these literals to one, in order. Returns the last
+// literal.
 fn push_chain(
     gates: &mut List<Gate>,
     first: u32,
@@ -151,7 +153,8 @@ fn push_gates(to: &mut List<Gate>, translation: &Translation, gates: &[Gate]) ->
     Ok(())
 }
 
-/// The bad state property of the strengthened circuit: its parts, as outputs, its literal, and how many claims there are.
+/// The bad state property of the strengthened circuit: its parts, as outputs, its literal, and how many claims there
+/// are.
 #[derive(Drop)]
 struct Property {
     outputs: List<Lit>,
@@ -164,7 +167,8 @@ impl<'a> Sources<'a> {
     fn inputs(&self, alloc: Global) -> Result<List<Lit>, Memory>
         requires { AreSources self.now }
         ensures { IfOk result (λ inputs. inputs ≡ self.now.model.now.inputs
-            ++ map (literal_by self.now.translation.table) (spec.own self.now.shared.inputs self.now.certificate.now.inputs)) }
+            ++ map (literal_by self.now.translation.table)
+            (spec.own self.now.shared.inputs self.now.certificate.now.inputs)) }
     {
         self.certificate.facts();
         let own = own(
@@ -224,10 +228,12 @@ impl<'a> Sources<'a> {
         Ok(claims)
     }
 
-    // How many variables the certificate adds with its inputs, latches and gates, where these are all inputs and latches.
+    // How many variables the certificate adds with its inputs, latches and gates, where these are all inputs and
+    // latches.
     fn own_count(&self, inputs: &List<Lit>, latches: &List<Latch>) -> u32
         requires inputs { inputs.now ≡ self.now.model.now.inputs
-            ++ map (literal_by self.now.translation.table) (spec.own self.now.shared.inputs self.now.certificate.now.inputs) }
+            ++ map (literal_by self.now.translation.table)
+            (spec.own self.now.shared.inputs self.now.certificate.now.inputs) }
         requires latches { latches.now ≡ self.now.model.now.latches
             ++ map (relabelled_latch (literal_by self.now.translation.table))
             (spec.own self.now.shared.latches self.now.certificate.now.latches) }

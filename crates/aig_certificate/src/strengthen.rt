@@ -37,11 +37,11 @@ fn bad_at(model: &Circuit, property: u32) -> Option<Lit>
 }
 
 /// The model with the own inputs and latches of a certificate, all its gates, and one bad state property: the model's
-/// property at this position is 1, or a claim of the certificate is broken. Its outputs are these parts. The certificate
-/// claims that none of its bad literals (outputs where it has none) is ever 1, and that each of its constraints always
-/// is. Where a symbol of an input or latch of the certificate begins with `= `, those that are shared say `= LIT`, a
-/// literal of the model; else the first inputs and latches are the model's. Nothing of the certificate is believed: the
-/// result extends the model, whatever it is.
+/// property at this position is 1, or a claim of the certificate is broken. Its outputs are these parts. The
+/// certificate claims that none of its bad literals (outputs where it has none) is ever 1, and that each of its
+/// constraints always is. Where a symbol of an input or latch of the certificate begins with `= `, those that are
+/// shared say `= LIT`, a literal of the model; else the first inputs and latches are the model's. Nothing of the
+/// certificate is believed: the result extends the model, whatever it is.
 pub fn strengthened(
     alloc: Global,
     model: &Circuit,
@@ -49,7 +49,8 @@ pub fn strengthened(
     certificate: &Circuit,
 ) -> Result<Circuit, StrengthenFault>
     ensures strengthened { IfOk result (IsStrengthened model.now property certificate.now) }
-    ensures extension { IfOk result (λ x. (b : ℕ) × (slice_get model.now.bad property ≡ Some b) × IsExtension model.now x b) }
+    ensures extension { IfOk result
+        (λ x. (b : ℕ) × (slice_get model.now.bad property ≡ Some b) × IsExtension model.now x b) }
     ensures accepted { OnOk result (CanStrengthen model.now property certificate.now) }
     ensures refused { IfErr result (RefusesStrengthening model.now property certificate.now) }
 {

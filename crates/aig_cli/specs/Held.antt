@@ -1,12 +1,15 @@
 -- What the parsed arguments hold.
-use Rattle.std.specs.Prelude.{◌≡◌, ℕ, ◌<◌, ◌^◌, ◌&&◌, ◌||◌, nat_le, List, slice_index, Bool, true, false, Option, None, Some, codes}
+-- Example: `--property 3` holds 3 for `P`, and without it `P` is 0.
+use Rattle.std.specs.Prelude.{◌≡◌, ℕ, ◌<◌, ◌^◌, ◌&&◌, ◌||◌, nat_le, List, slice_index, Bool, true, false, Option, None}
+use Rattle.std.specs.Prelude.{Some, codes}
 use Rattle.std.specs.Option.{unwrap_or}
 use Rattle.std.specs.Str.{bytes_eq}
 use Rattle.std.specs.Str.Parse.{IsNumeral, digits_value, without_leading_plus}
 use Rattle.clap.specs.Matches.{found_of, one_text}
 use Rattle.clap.specs.declared.parser.matches.ArgMatches.{ArgMatches}
 
--- a number of 32 bits is the one that a text spells in decimal digits; there is none only where it spells no such number
+-- a number of 32 bits is the one that a text spells in decimal digits; there is none only where it spells no such
+-- number
 abbrev pub IsNumberOf : List ℕ → Option ℕ → Type 0
 IsNumberOf text (Some n) = n ≡ digits_value 10 (without_leading_plus text)
 IsNumberOf text None =

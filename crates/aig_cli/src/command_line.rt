@@ -112,7 +112,8 @@ pub fn has_flag(matches: &ArgMatches<'_>, name: &str) -> bool
     matches.get_flag(name)
 }
 
-/// A number that has a sign, or a zero before another digit. The parser takes it, but no file and no script may have it.
+/// A number that has a sign, or a zero before another digit. The parser takes it, but no file and no script may have
+/// it.
 #[derive(Clone, Copy)]
 pub struct OddNumber<'a> {
     /// The option and the name of its value, as help shows them.

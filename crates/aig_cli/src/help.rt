@@ -1,7 +1,7 @@
 //! The help of the program, and the texts that follow the options in the help of each command.
 
-/// The help of the program, whole, as the parser has no groups of commands. Each command's own help begins with the text that
-/// it has here, which `tests/run_program.py` checks.
+/// The help of the program, whole, as the parser has no groups of commands. Each command's own help begins with the
+/// text that it has here, which `tests/run_program.py` checks.
 pub const ALL: &str = "Convert, simulate and edit AIGER circuits, and check both verdicts on them: a
 run to a bad state, and a SAT solver's proof that there is none
 

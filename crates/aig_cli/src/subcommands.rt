@@ -16,8 +16,8 @@ pub struct Subcommand {
     arguments: &'static [Argument],
 }
 
-// The commands in the order of the help. A check takes a table as one term, and stops at a larger one, so those on verdicts
-// are in two.
+// The commands in the order of the help. A check takes a table as one term, and stops at a larger one, so those on
+// verdicts are in two.
 static FILES: [Subcommand; 4] = [
     Subcommand {
         name: "toaig",

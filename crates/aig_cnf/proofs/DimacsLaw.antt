@@ -1,5 +1,7 @@
 -- The text of a formula with its comment lines, for a reader of DIMACS.
-use Rattle.std.proofs.Common.{◌≡◌, ◌≢◌, inl, inr, ℕ, zero, suc, ◌+◌, ◌-◌, ◌*◌, ◌^◌, ◌<◌, Bool, true, false, ◌&&◌, List, [], ◌∷◌, ◌++◌, length, slice_index, All, Some, refl, sym, ap, ◌∙◌, subst, arith, append_assoc}
+use Rattle.std.proofs.Common.{◌≡◌, ◌≢◌, inl, inr, ℕ, zero, suc, ◌+◌, ◌-◌, ◌*◌, ◌^◌, ◌<◌, Bool, true, false, ◌&&◌, List}
+use Rattle.std.proofs.Common.{[], ◌∷◌, ◌++◌, length, slice_index, All, Some, refl, sym, ap, ◌∙◌, subst, arith}
+use Rattle.std.proofs.Common.{append_assoc}
 use Rattle.std.specs.Prelude.{if◌then◌else◌, ◌==◌, codes}
 use Rattle.std.specs.Fmt.{decimal}
 use Rattle.std.specs.List.{flat_map}
@@ -19,7 +21,8 @@ use Rattle.aig_cnf.specs.Answers.{HasFormula}
 use Rattle.aig_cnf.specs.CnfText.{cnf_text, goal_line, goal_lines}
 use Rattle.aig_cnf.specs.Dimacs.{formula_text, literal_text, sign_text}
 use Rattle.aig_cnf.specs.DimacsRead.{read_formula}
-use Rattle.aig_cnf.specs.Formula.{Cnf, IsFormulaOf, all_but_last, first_reached, formula_of, gate_clauses, gates_for, goal_clauses, implies, last_alone, start_literals}
+use Rattle.aig_cnf.specs.Formula.{Cnf, IsFormulaOf, all_but_last, first_reached, formula_of, gate_clauses, gates_for}
+use Rattle.aig_cnf.specs.Formula.{goal_clauses, implies, last_alone, start_literals}
 use Rattle.aig_cnf.specs.Heading.{asked_options, goal_option, heading}
 use Rattle.aig_cnf.specs.Query.{depth, from_any_state, last, subject}
 use Rattle.aig_cnf.specs.declared.heading.Heading.{Heading}
@@ -27,14 +30,16 @@ use Rattle.aig_cnf.specs.declared.heading.Heading.TheVariants as headings
 use Rattle.aig_cnf.specs.declared.query.Goal.{Goal}
 use Rattle.aig_cnf.specs.declared.query.Goal.TheVariants as asked
 use Rattle.aig_cnf.specs.declared.query.Query.{Query}
-use Rattle.aig_unroll.specs.InputMap.{Origin, input, start, is_input, is_latch, is_same, map_field, origin_line, origin_lines, origins, symbol_name_at}
+use Rattle.aig_unroll.specs.InputMap.{Origin, input, start, is_input, is_latch, is_same, map_field, origin_line}
+use Rattle.aig_unroll.specs.InputMap.{origin_lines, origins, symbol_name_at}
 use Rattle.aig_unroll.specs.Unrolled.{frames, unrolled}
 use Rattle.aig_unroll.proofs.UnrolledCircuit.{unrolled_circuit}
 use Rattle.aig_unroll.proofs.UnrolledReady.{IsReadyGate, gates_ready}
 use Rattle.aig_cnf.proofs.AlwaysBad.{always_circuit}
 use Rattle.aig_cnf.proofs.AnyCircuit.{subject_circuit}
 use Rattle.aig_cnf.proofs.ConeLemmas.{All-gates_for, length-gates_for}
-use Rattle.aig_cnf.proofs.DimacsLines.{HasNoEnd, decimal_no_end, no_end_by_test, IsLine, line_end, line_more, line_byte, HasLines, lines_none, lines_then, comment_line}
+use Rattle.aig_cnf.proofs.DimacsLines.{HasNoEnd, decimal_no_end, no_end_by_test, IsLine, line_end, line_more, line_byte}
+use Rattle.aig_cnf.proofs.DimacsLines.{HasLines, lines_none, lines_then, comment_line}
 use Rattle.aig_cnf.proofs.DimacsReading.{AreBelow, reads_after}
 use Rattle.aig_cnf.proofs.FormulaText.{length-formula, length-goal_clauses}
 use Rattle.aig_cnf.proofs.GoalLemmas.{goals_below, length-goals}

@@ -1,5 +1,7 @@
 -- What a reader of DIMACS finds in the text of a formula.
-use Rattle.std.proofs.Common.{◌≡◌, ◌≢◌, inl, inr, ℕ, ◌+◌, ◌-◌, ◌*◌, ◌%◌, ◌^◌, ◌<◌, ◌≤◌, eqb, true, false, List, [], ◌∷◌, ◌++◌, length, map, filter, All, Some, refl, sym, ap, ap₂, ◌∙◌, subst, arith, append_assoc, append-nil}
+use Rattle.std.proofs.Common.{◌≡◌, ◌≢◌, inl, inr, ℕ, ◌+◌, ◌-◌, ◌*◌, ◌%◌, ◌^◌, ◌<◌, ◌≤◌, eqb, true, false, List, [], ◌∷◌}
+use Rattle.std.proofs.Common.{◌++◌, length, map, filter, All, Some, refl, sym, ap, ap₂, ◌∙◌, subst, arith, append_assoc}
+use Rattle.std.proofs.Common.{append-nil}
 use Rattle.std.specs.Prelude.{◌&&◌, nat_lt, nat_le, codes, Option, slice_index}
 use Rattle.std.specs.Fmt.{decimal}
 use Rattle.std.specs.List.{flat_map}
@@ -14,8 +16,10 @@ use Rattle.std.proofs.lemmas.Slice.Eq.{bytes_eq-Decides}
 use Rattle.std.proofs.lemmas.Str.Parse.{IsNumeralModel, numerals_by_value, tells_all_ascii_digits}
 use Rattle.aig_parts.specs.Literal.{variable}
 use Rattle.aig_cnf.specs.Dimacs.{sign_text, literal_text, clause_text, problem_line, formula_text}
-use Rattle.aig_cnf.specs.DimacsRead.{Found, is_space, words, number, signed, literal_of, clauses_of, counts_of, found_in, read_formula}
-use Rattle.aig_cnf.proofs.DimacsLines.{IsDigit, decimal_is_digits, decimal_no_end, no_end_by_test, line_end, line_more, HasLines, lines_none, lines_then, other_line}
+use Rattle.aig_cnf.specs.DimacsRead.{Found, is_space, words, number, signed, literal_of, clauses_of, counts_of}
+use Rattle.aig_cnf.specs.DimacsRead.{found_in, read_formula}
+use Rattle.aig_cnf.proofs.DimacsLines.{IsDigit, decimal_is_digits, decimal_no_end, no_end_by_test, line_end, line_more}
+use Rattle.aig_cnf.proofs.DimacsLines.{HasLines, lines_none, lines_then, other_line}
 use Rattle.aig_cnf.proofs.SignLemmas.{signs}
 
 -- ---- numbers

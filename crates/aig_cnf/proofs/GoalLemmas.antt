@@ -1,5 +1,6 @@
 -- The bad literals of the frames of an unrolled circuit.
-use Rattle.std.proofs.Common.{◌≡◌, ℕ, zero, suc, ◌+◌, ◌*◌, ◌<◌, ◌≤◌, List, [], ◌∷◌, length, slice_index, All, Option, Result, Ok, Err, IfErr}
+use Rattle.std.proofs.Common.{◌≡◌, ℕ, zero, suc, ◌+◌, ◌*◌, ◌<◌, ◌≤◌, List, [], ◌∷◌, length, slice_index, All, Option}
+use Rattle.std.proofs.Common.{Result, Ok, Err, IfErr}
 use Rattle.std.proofs.Common.{mul-le-mul_right, refl, sym, ◌∙◌, ap, subst, arith}
 use Rattle.std.specs.Global.{Vec}
 use Rattle.std.specs.Result.{IsErrAnd}

@@ -1,5 +1,6 @@
--- The question whether a run keeps the constraints of a circuit (AIGER 1.9, invariant constraints; the formula is our own
--- choice).
+-- The question whether a run keeps the constraints of a circuit (AIGER 1.9, invariant constraints; the formula is our
+-- own choice).
+-- Example: with the constraint 0, no assignment satisfies it.
 use Rattle.std.specs.Prelude.{ℕ, ◌≢◌, [], ◌∷◌, None}
 use Rattle.aig_parts.specs.declared.raw.Raw.{Raw}
 use Rattle.aig_cnf.specs.Answers.{HasFormula, RefusesFormula}

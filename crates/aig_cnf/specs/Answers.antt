@@ -1,4 +1,5 @@
 -- When there is a formula of a query (our own choice).
+-- Example: for 0 frames `NoFrames`, also of a property that is not there.
 use Rattle.std.specs.Prelude.{◌≡◌, ◌<◌, ◌≤◌, length}
 use Rattle.aig_parts.specs.declared.raw.Raw.{Raw}
 use Rattle.aig_cnf.specs.Query.{depth, subject}

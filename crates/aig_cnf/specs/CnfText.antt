@@ -1,4 +1,7 @@
 -- The text of a formula with comment lines that say what its variables are (our own choice).
+-- Example: input 2 is bad, within one frame: `c aig cnf --frames 1 --property 0 /c i 2 0 0 /c b 2 0/p cnf 2 2/-1 0/2
+-- 0/`; the latch `2 3 0` is bad, step of one frame: `c aig cnf --step --frames 1 --property 0 /c l 2 0 /c b 2 0/c b -2
+-- 1/p cnf 2 3/-1 0/-2 0/-2 0/`.
 use Rattle.std.specs.Prelude.{ℕ, List, ◌++◌, length, codes, decimal, slice_index}
 use Rattle.aig_parts.specs.declared.raw.Raw.{Raw}
 use Rattle.aig_cnf.specs.Dimacs.{formula_text, literal_text}
@@ -16,8 +19,8 @@ goal_line l t = codes "c b " ++ (literal_text l ++ (decimal t ++ codes "\n"))
 abbrev pub goal_lines : List ℕ → List ℕ
 goal_lines goals = frames (λ t. goal_line (slice_index goals t) t) (length goals)
 
--- What was asked for; the inputs of the unrolled circuit, as its map has them, with their variables in the formula, which
--- count from 2; the bad literals; and the formula.
+-- What was asked for; the inputs of the unrolled circuit, as its map has them, with their variables in the formula,
+-- which count from 2; the bad literals; and the formula.
 abbrev pub cnf_text : Raw → Heading → Cnf → List ℕ
 cnf_text raw asked formula =
     heading asked raw

@@ -1,4 +1,5 @@
 -- The text of a formula (DIMACS).
+-- Example: the clause `7 2` is `-4 2 0`.
 use Rattle.std.specs.Prelude.{ℕ, ◌+◌, ◌%◌, nat_eq, if◌then◌else◌, List, [], ◌++◌, length, codes, decimal}
 use Rattle.std.specs.List.{flat_map}
 use Rattle.aig_parts.specs.Literal.{variable}

@@ -1,6 +1,11 @@
 -- The formula of a query, over the circuit that is unrolled for it, in conjunctive normal form (Tseitin's encoding; the
 -- clauses and their order are our own choice).
-use Rattle.std.specs.Prelude.{◌≡◌, ℕ, ◌+◌, ◌*◌, ◌-◌, ◌==◌, Bool, ◌||◌, if◌then◌else◌, List, [], ◌∷◌, ◌++◌, length, drop, map, flat_map, slice_index}
+-- Examples: the gate `6 2 4` has the clauses `7 2`, `7 4` and `6 3 5`; for the literals 2 and 6: within two frames the
+-- clause `2 6`, for a step the clauses `3` and `6`; for the literals 2 and 6, and a latch of variable 4 whose reset is
+-- 1: the clauses `2 6` and `3 8`; of the gates `6 2 4` and `8 6 2`, the cone of the literal 7 has the first; input 2 is
+-- bad, one frame: two variables, the literal 2, the clauses `1` and `2`.
+use Rattle.std.specs.Prelude.{◌≡◌, ℕ, ◌+◌, ◌*◌, ◌-◌, ◌==◌, Bool, ◌||◌, if◌then◌else◌, List, [], ◌∷◌, ◌++◌, length, drop}
+use Rattle.std.specs.Prelude.{map, flat_map, slice_index}
 use Rattle.std.specs.List.{list_any}
 use Rattle.aig_parts.specs.Literal.{negation, variable}
 use Rattle.aig_parts.specs.declared.gate.Gate.{Gate}

@@ -1,4 +1,5 @@
 -- The first comment line of a formula: the command that asks for it, and the symbol of the property (our own choice).
+-- Example: `c aig cnf --step --frames 3 --property 1 full/`, `c aig cnf --alive --frames 20 /`.
 use Rattle.std.specs.Prelude.{ℕ, List, [], ◌++◌, codes}
 use Rattle.aig_parts.specs.declared.raw.Raw.{Raw}
 use Rattle.aig_parts.specs.declared.symbols.Kind.TheVariants as kinds

@@ -1,4 +1,5 @@
 -- What is asked of bad literal p of a circuit, over k frames (our own choice).
+-- Examples: `within 3 0` takes 3 frames, `step 3 0` and `induction 3 0` take 4; the latch `2 3 0` becomes `2 3 2`.
 use Rattle.std.specs.Prelude.{ℕ, ◌+◌, map}
 use Rattle.aig_parts.specs.declared.latch.Latch.{Latch}
 use Rattle.aig_parts.specs.declared.raw.Raw.{Raw}
@@ -18,8 +19,8 @@ last k p = record { goal = goals.Last; frames = k; property = p }
 abbrev pub step : ℕ → ℕ → Query
 step k p = record { goal = goals.Step; frames = k; property = p }
 
--- a run from a start that the resets allow reaches it within k frames, or one from any state reaches it at frame k, and at
--- none before: either disproves an induction over k frames
+-- a run from a start that the resets allow reaches it within k frames, or one from any state reaches it at frame k, and
+-- at none before: either disproves an induction over k frames
 abbrev pub induction : ℕ → ℕ → Query
 induction k p = record { goal = goals.Induction; frames = k; property = p }
 

@@ -59,8 +59,9 @@ fn always_bad_circuit(alloc: Global, circuit: &Circuit) -> Result<Circuit, Memor
 impl Formula {
     /// Makes the formula that some run from a start that the resets allow keeps all constraints of a circuit at each of
     /// the first so many frames. Where no assignment satisfies it, a bad state is unreachable at the last of them only
-    /// because no run gets there. Bad states need not be there, and are ignored. It refuses 0 frames, then what is over a
-    /// limit of `unroll`, and memory may run out before that. `write` takes the circuit itself, so its names are there.
+    /// because no run gets there. Bad states need not be there, and are ignored. It refuses 0 frames, then what is over
+    /// a limit of `unroll`, and memory may run out before that. `write` takes the circuit itself, so its names are
+    /// there.
     pub fn alive(alloc: Global, circuit: &Circuit, frames: u32) -> Result<Formula, CnfFault>
         ensures formula { IfOk result (IsAliveFormulaOf circuit.now frames) }
         ensures accepted { OnOk result (HasAliveFormula circuit.now frames) }

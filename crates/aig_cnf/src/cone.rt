@@ -32,7 +32,8 @@ fn marks_of(alloc: Global, max_var: u32, literals: &[Lit]) -> Result<Vec<bool>, 
 fn add_read(marks: &mut [bool], found: &mut Vec<Gate>, gate: Gate) -> Result<(), Memory>
     requires { IsGateBelow (length marks.old) gate }
     ensures { OnOk result ((n : ℕ) (literals : List ℕ) (gates : List Gate) →
-        IsCone n literals gates marks.old found.old.items → IsCone n literals (gate ∷ gates) marks.new found.new.items) }
+        IsCone n literals gates marks.old found.old.items
+        → IsCone n literals (gate ∷ gates) marks.new found.new.items) }
 {
     if marks[gate.lhs.var() as usize] {
         mark(marks, gate.rhs0);

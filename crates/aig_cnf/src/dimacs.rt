@@ -292,9 +292,9 @@ impl Formula {
     }
 
     /// Writes the formula in DIMACS, with comment lines that say what was asked for and what its variables are, for the
-    /// circuit that it was made of. The literal of a literal `l` of the unrolled circuit is `l / 2 + 1`, negative where `l` is odd;
-    /// variable 1 is false. `law_of_dimacs` says what a reader finds in the text. It takes no memory, and writes the
-    /// comment lines in small pieces: pass a writer that buffers them.
+    /// circuit that it was made of. The literal of a literal `l` of the unrolled circuit is `l / 2 + 1`, negative where
+    /// `l` is odd; variable 1 is false. `law_of_dimacs` says what a reader finds in the text. It takes no memory, and
+    /// writes the comment lines in small pieces: pass a writer that buffers them.
     pub fn write<W: Write>(&self, circuit: &Circuit, asked: Heading, out: &mut W) -> Result<(), Io>
         ensures { Writes W.written W.failures out.old out.new (cnf_text circuit.now asked self.now) result }
     {

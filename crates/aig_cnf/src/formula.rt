@@ -216,8 +216,8 @@ impl Formula {
         })
     }
 
-    /// How many variables the formula has: that of the constant, and those of the unrolled circuit. There are so few that
-    /// a literal of DIMACS has 32 bits with its sign.
+    /// How many variables the formula has: that of the constant, and those of the unrolled circuit. There are so few
+    /// that a literal of DIMACS has 32 bits with its sign.
     pub fn variables(&self) -> u32
         ensures count { result ≡ self.now.variables }
         ensures few { result < 2 ^ 31 }

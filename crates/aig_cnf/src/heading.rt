@@ -15,8 +15,8 @@ pub enum Heading {
     Runs(Query),
     /// Whether some run keeps all constraints at so many frames.
     Alive(u32),
-    /// The induction over a strengthened circuit, by a certificate for the property at this position of the circuit that
-    /// was strengthened.
+    /// The induction over a strengthened circuit, by a certificate for the property at this position of the circuit
+    /// that was strengthened.
     Certified(u32),
 }
 

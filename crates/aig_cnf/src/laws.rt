@@ -11,10 +11,10 @@ ghost use Rattle.aig_cnf.specs.Query.{subject};
 ghost use Rattle.aig_cnf.specs.declared.heading.Heading.{Heading};
 ghost use Rattle.aig_cnf.specs.declared.query.Query.{Query};
 
-/// A reader of DIMACS finds in the text of a formula, as `Formula::write` writes it, exactly its number of variables, its
-/// number of clauses and its clauses: variable v of DIMACS is variable v - 1 here. The reader goes line by line and word
-/// by word, and knows nothing of the writer. So it does for the formula of `Formula::alive`, in the text for the circuit
-/// itself. What the first comment line says does not matter.
+/// A reader of DIMACS finds in the text of a formula, as `Formula::write` writes it, exactly its number of variables,
+/// its number of clauses and its clauses: variable v of DIMACS is variable v - 1 here. The reader goes line by line and
+/// word by word, and knows nothing of the writer. So it does for the formula of `Formula::alive`, in the text for the
+/// circuit itself. What the first comment line says does not matter.
 pub fn law_of_dimacs()
     ensures found { (raw : Raw) (query : Query) (asked : Heading) (formula : Cnf) →
         IsCircuit raw → HasFormula raw query → IsFormulaOf raw query formula →

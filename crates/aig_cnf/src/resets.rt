@@ -18,8 +18,8 @@ fn push_reset(found: &mut Vec<Lit>, latch: Latch, variable: u32) -> Result<(), M
     Ok(())
 }
 
-/// The literals of latches that have their resets, as far as these are 0 or 1, where the latches have the variables from
-/// the first one on.
+/// The literals of latches that have their resets, as far as these are 0 or 1, where the latches have the variables
+/// from the first one on.
 pub(crate) fn reset_literals(
     alloc: Global,
     latches: &[Latch],

@@ -1,5 +1,6 @@
 -- The first lines of a script are those of a beginning of it.
-use Rattle.std.proofs.Common.{◌≡◌, ℕ, ◌≤◌, Bool, true, false, cond, eqb, List, [], ◌∷◌, ◌++◌, map, length, length-append, refl, sym, ap, ◌∙◌, arith}
+use Rattle.std.proofs.Common.{◌≡◌, ℕ, ◌≤◌, Bool, true, false, cond, eqb, List, [], ◌∷◌, ◌++◌, map, length}
+use Rattle.std.proofs.Common.{length-append, refl, sym, ap, ◌∙◌, arith}
 use Rattle.aig_bytes.specs.Bytes.{IsBeginning}
 use Rattle.aig_script.specs.Lines.{Line, whole, lines_from, whole_lines, last_piece}
 

@@ -1,4 +1,5 @@
 -- What `cnf --alive` writes and `refute --alive` answers: whether a run keeps all constraints of a circuit.
+-- Example: `no run of 2 frames`.
 use Rattle.std.specs.Prelude.{◌≡◌, ℕ, List, [], Result, Ok, Err}
 use Rattle.aig_parts.specs.declared.raw.Raw.{Raw}
 use Rattle.aig_cnf.specs.Alive.{HasAliveFormula, IsAliveFormulaOf, RefusesAlive}
@@ -22,8 +23,8 @@ WritesAlive k raw (Ok done) text = HasAliveFormula raw k × IsAliveText raw k te
 WritesAlive k raw (Err (run_faults.Cnf fault)) text = RefusesAlive raw k fault × (text ≡ [])
 WritesAlive k raw (Err _) text = ⊥
 
--- what the check of a proof about it says: no run keeps all constraints at k frames; or there is no formula, or the proof
--- is refused
+-- what the check of a proof about it says: no run keeps all constraints at k frames; or there is no formula, or the
+-- proof is refused
 abbrev pub ChecksAlive : ℕ → Raw → Result (Unit {0}) RunFault → Type 0
 ChecksAlive k raw (Ok done) = HasAliveFormula raw k × HasNoRun raw k
 ChecksAlive k raw (Err (run_faults.Cnf fault)) = RefusesAlive raw k fault

@@ -1,4 +1,6 @@
 -- What a script on a bench means, from bytes to bytes (our own choice).
+-- Example: `v 0 8/v 0` on `examples/two_gates.aag` with `11/`: `1/bad/`; where a read fails after it: `1/`, and no
+-- bench.
 use Rattle.std.specs.Prelude.{◌≡◌, ℕ, List, [], IsTrue, Result, Ok, Err}
 use Rattle.aig_bench.specs.BenchState.{CircuitAndRows, BenchState}
 use Rattle.aig_script.specs.Lines.{whole_lines, lines_of}
@@ -17,7 +19,8 @@ RunsScript circuit stimulus script (Ok done) bytes =
     (pair new : CircuitAndRows) × AreBenchFiles circuit stimulus pair × IsTrue script.is_whole
     × Replies pair (lines_of script.bytes) bytes new
 RunsScript circuit stimulus script (Err (Script scripts.Io)) bytes =
-    (pair new : CircuitAndRows) × AreBenchFiles circuit stimulus pair × Replies pair (whole_lines script.bytes) bytes new
+    (pair new : CircuitAndRows) × AreBenchFiles circuit stimulus pair
+    × Replies pair (whole_lines script.bytes) bytes new
 RunsScript circuit stimulus script (Err (Script scripts.Memory)) bytes =
     ((pair : CircuitAndRows) × AreBenchFiles circuit stimulus pair) × (script.bytes ≡ []) × (bytes ≡ [])
 RunsScript circuit stimulus script (Err fault) bytes =

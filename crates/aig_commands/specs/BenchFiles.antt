@@ -1,4 +1,6 @@
 -- Files of a bench: what they are, why they are refused, and how they are kept.
+-- Example: a cyclic circuit and a faulty stimulus: the circuit's fault; `examples/two_gates.aag` with `11/` after `g 9
+-- 4`: a circuit with the gate `10 9 4` last, and `11/`.
 use Rattle.std.specs.Prelude.{ℕ, ◌+◌, ◌*◌, ◌<◌, ◌≤◌, List, length}
 use Rattle.std.specs.List.{flat_map}
 use Rattle.aig_parts.specs.declared.raw.Raw.{Raw}
@@ -34,7 +36,8 @@ abbrev pub RefusesFiles : List ℕ → List ℕ → RunFault → Type 0
 RefusesFiles circuit stimulus (Circuit fault) = RefusesCircuit circuit fault
 RefusesFiles circuit stimulus (Stimulus fault) =
     (raw : Raw) × IsFileOf circuit raw × RefusesStimulus (length raw.inputs) stimulus fault
-RefusesFiles circuit stimulus (Bench fault) = (pair : CircuitAndRows) × AreFilesOf circuit stimulus pair × RefusesBench pair fault
+RefusesFiles circuit stimulus (Bench fault) =
+    (pair : CircuitAndRows) × AreFilesOf circuit stimulus pair × RefusesBench pair fault
 RefusesFiles circuit stimulus _ = ⊥
 
 -- ---- as they are kept (our own choice)

@@ -1,5 +1,7 @@
 -- What the commands write for a circuit and a certificate for one of its bad state properties: what they write for the
 -- circuit that is strengthened by it.
+-- Example: the same certificate for a property that is not there: `strengthen: property`, and from `cnf` `cnf:
+-- property`.
 use Rattle.std.specs.Prelude.{◌≡◌, ◌⊎◌, ℕ, List, [], Result, Err}
 use Rattle.aig_parts.specs.declared.fault.Fault.{Fault}
 use Rattle.aig_parts.specs.declared.raw.Raw.{Raw}
@@ -14,15 +16,16 @@ use Rattle.aig_run.specs.declared.run_fault.RunFault.TheVariants as run_faults
 use Rattle.aig_commands.specs.declared.certified.Purpose.{Purpose}
 use Rattle.aig_commands.specs.declared.certified.Purpose.TheVariants.{Circuit, Formula}
 
--- The part that is said to refuse a strengthening. Where a formula is asked for, that there is no property or no room is
--- a fault of the formula.
+-- The part that is said to refuse a strengthening. Where a formula is asked for, that there is no property or no room
+-- is a fault of the formula.
 abbrev pub strengthening_fault : Purpose → StrengthenFault → RunFault
 strengthening_fault Formula faults.Property = run_faults.Cnf formulas.Property
 strengthening_fault Formula faults.Limit = run_faults.Cnf formulas.Limit
 strengthening_fault Formula faults.Memory = run_faults.Cnf formulas.Memory
 strengthening_fault purpose fault = run_faults.Strengthen fault
 
--- why there is no strengthened circuit: the circuit's file is refused, or else the certificate's, or else the two together
+-- why there is no strengthened circuit: the circuit's file is refused, or else the certificate's, or else the two
+-- together
 pub data RefusesCertified (purpose : Purpose) (file : List ℕ) (p : ℕ) (certificate : List ℕ) : RunFault → Type 0 where
   no_circuit : (fault : Fault) → RefusesCircuit file fault
       → RefusesCertified purpose file p certificate (run_faults.Circuit fault)

@@ -1,4 +1,6 @@
 -- What `cnf` writes: the formula of a query about a circuit.
+-- Example: input 2 is bad, one frame: `c aig cnf --frames 1 --property 0 /c i 2 0 0 /c b 2 0/p cnf 2 2/-1 0/2 0/`; for
+-- property 1 nothing, with `Property`.
 use Rattle.std.specs.Prelude.{◌≡◌, ℕ, List, [], Result, Ok, Err}
 use Rattle.aig_parts.specs.declared.raw.Raw.{Raw}
 use Rattle.aig_cnf.specs.Answers.{HasFormula, RefusesFormula}

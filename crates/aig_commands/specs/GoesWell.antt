@@ -1,4 +1,5 @@
 -- A run that can be reported as a failed write.
+-- Example: `aag 0 0 0 0 1/` does not go well, so no failed write is reported of it.
 use Rattle.std.specs.Prelude.{ℕ, List, Result, Ok}
 use Rattle.aig_run.specs.declared.run_fault.RunFault.{RunFault}
 

@@ -1,5 +1,8 @@
--- What `info` writes: a line for each fact about a circuit file, its name and its value. Which they are is our own choice.
-use Rattle.std.specs.Prelude.{◌≡◌, ◌↔◌, ℕ, Bool, true, false, IsTrue, List, [], ◌∷◌, ◌++◌, length, codes, count_by, ◌==◌}
+-- What `info` writes: a line for each fact about a circuit file, its name and its value. Which they are is our own
+-- choice.
+-- Example: `aig 3 2 0 1 1/6/` and its two deltas: `format aig/variables 3/inputs 2/` and so on.
+use Rattle.std.specs.Prelude.{◌≡◌, ◌↔◌, ℕ, Bool, true, false, IsTrue, List, [], ◌∷◌, ◌++◌, length, codes, count_by}
+use Rattle.std.specs.Prelude.{◌==◌}
 use Rattle.std.specs.Prelude.{Option, None, Some, Result, Ok, Err, IfSome}
 use Rattle.std.specs.List.{flat_map}
 use Rattle.std.specs.Fmt.{decimal}
@@ -74,8 +77,8 @@ info_text raw facts =
     fact_line (codes "format") (format_name facts.format)
     ++ (number_lines raw facts ++ fact_line (codes "ready") (yes_or_no facts.is_ready))
 
--- what `info` writes for the file of a circuit, whose bytes may be known; nothing where no memory was found for levels or
--- fan-outs
+-- what `info` writes for the file of a circuit, whose bytes may be known; nothing where no memory was found for levels
+-- or fan-outs
 abbrev pub ListsFacts : Option (List ℕ) → Raw → Result (Unit {0}) RunFault → List ℕ → Type 0
 ListsFacts file raw (Ok done) text = (facts : Facts) × AreFacts file raw facts × (text ≡ info_text raw facts)
 ListsFacts file raw (Err run_faults.Memory) text = text ≡ []

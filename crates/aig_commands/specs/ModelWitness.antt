@@ -1,4 +1,5 @@
 -- What `witness` writes for a solver's model: the witness of the run that the model names.
+-- Example: input 2 is bad: for two frames and `-2 3 0/` it is `1/b0//0/1/./`.
 use Rattle.std.specs.Prelude.{◌≡◌, ℕ, ◌+◌, ◌*◌, List, [], Some, Result, Ok, Err}
 use Rattle.aig_parts.specs.declared.raw.Raw.{Raw}
 use Rattle.aig_parts.specs.declared.ternary.Tern.{Tern}
@@ -42,7 +43,8 @@ WritesNamed k p values raw (Err _) text = ⊥
 -- What it writes for a model of the formula of a query: that of the values which the model gives to the variables;
 -- nothing where there is no such formula, or the model is refused.
 pub data WritesModel (query : Query) (model : List ℕ) (raw : Raw) : Result (Unit {0}) RunFault → List ℕ → Type 0 where
-  no_formula : (fault : CnfFault) → RefusesFormula raw query fault → WritesModel query model raw (Err (run_faults.Cnf fault)) []
+  no_formula : (fault : CnfFault) → RefusesFormula raw query fault
+      → WritesModel query model raw (Err (run_faults.Cnf fault)) []
   no_model : (fault : ModelFault) → HasFormula raw query
       → RefusesModel (variable_count (subject query.goal raw) (depth query)) model fault
       → WritesModel query model raw (Err (run_faults.Model fault)) []

@@ -1,4 +1,6 @@
--- What `info --names` writes: a line for each entry of a circuit, with its name. How a line is written is our own choice.
+-- What `info --names` writes: a line for each entry of a circuit, with its name. How a line is written is our own
+-- choice.
+-- Example: `aag 1 1 0 0 0 1/2/3/b0 stuck/`: `i 0 2 /b 0 3 stuck/`.
 use Rattle.std.specs.Prelude.{◌≡◌, ℕ, ◌+◌, List, [], ◌∷◌, ◌++◌, Result, Ok, Err, codes}
 use Rattle.std.specs.Fmt.{decimal}
 use Rattle.aig_parts.specs.declared.raw.Raw.{Raw}

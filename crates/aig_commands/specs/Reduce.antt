@@ -1,5 +1,6 @@
 -- What `reduce` answers and writes: a witness with x in place of each value that its failure does not need (our own
 -- choice).
+-- Example: input 2 is bad: for `1/b0//0/1/./` it is `1/b0//x/1/./`; for `1/b0//0/./` `not bad/`.
 use Rattle.std.specs.Prelude.{◌≡◌, ℕ, List, [], Result, Ok, Err}
 use Rattle.std.specs.Fmt.{decimal}
 use Rattle.aig_parts.specs.declared.raw.Raw.{Raw}

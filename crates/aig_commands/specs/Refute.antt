@@ -1,5 +1,7 @@
--- What `refute` answers: that no run reaches a bad state within some frames, or with a proof of the induction step, that
--- no run of any length does.
+-- What `refute` answers: that no run reaches a bad state within some frames, or with a proof of the induction step,
+-- that no run of any length does.
+-- Examples: `aag 1 1 0 0 0 1/2/2/`: neither, of property 0; for 3 frames: `unreachable within 3/`; with a proof of the
+-- step `unreachable/`.
 use Rattle.std.specs.Prelude.{◌≡◌, ◌⊎◌, ℕ, List, [], ◌++◌, codes, decimal, Result, Ok, Err}
 use Rattle.aig_parts.specs.declared.raw.Raw.{Raw}
 use Rattle.aig_cnf.specs.Answers.{HasFormula, RefusesFormula}
@@ -14,8 +16,8 @@ use Rattle.aig_run.specs.declared.run_fault.RunFault.{RunFault}
 use Rattle.aig_run.specs.declared.run_fault.RunFault.TheVariants as run_faults
 use Rattle.aig_run.specs.Command.{IsFileOf}
 
--- What the check of a proof about the formula of a query shows of a circuit, where it is one; or there is no formula, or
--- the proof is refused.
+-- What the check of a proof about the formula of a query shows of a circuit, where it is one; or there is no formula,
+-- or the proof is refused.
 abbrev pub ChecksProof : Query → (Raw → Type 0) → Raw → Result (Unit {0}) RunFault → Type 0
 ChecksProof query Shows raw (Ok done) = HasFormula raw query × Shows raw
 ChecksProof query Shows raw (Err (run_faults.Cnf fault)) = RefusesFormula raw query fault
@@ -34,8 +36,8 @@ ChecksInduction = ChecksProof (induction 1 0) (λ raw. IsUnreachable raw 0)
 abbrev pub HasFormulas : ℕ → ℕ → Raw → Type 0
 HasFormulas k p raw = HasFormula raw (within k p) × HasFormula raw (step k p)
 
--- What the check of two proofs says: no run of any length reaches bad p; or one of the formulas is not there, or a proof
--- is refused.
+-- What the check of two proofs says: no run of any length reaches bad p; or one of the formulas is not there, or a
+-- proof is refused.
 abbrev pub ChecksStep : ℕ → ℕ → Raw → Result (Unit {0}) RunFault → Type 0
 ChecksStep k p raw (Ok done) = HasFormulas k p raw × IsUnreachable raw p
 ChecksStep k p raw (Err (run_faults.Cnf fault)) =
@@ -64,7 +66,8 @@ abbrev pub RefutesStep : ℕ → ℕ → Raw → Result (Unit {0}) RunFault → 
 RefutesStep k p raw answer text = ChecksStep k p raw answer × (text ≡ answer_text (answer_line goals.Step k) answer)
 
 abbrev pub RefutesInduction : Raw → Result (Unit {0}) RunFault → List ℕ → Type 0
-RefutesInduction raw answer text = ChecksInduction raw answer × (text ≡ answer_text (answer_line goals.Induction 1) answer)
+RefutesInduction raw answer text =
+    ChecksInduction raw answer × (text ≡ answer_text (answer_line goals.Induction 1) answer)
 
 -- the file is one of a circuit in which no run reaches bad p within k frames
 abbrev pub IsFileUnreachable : List ℕ → ℕ → ℕ → Type 0

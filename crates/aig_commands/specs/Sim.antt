@@ -1,4 +1,5 @@
 -- What `sim` writes: the trace of a run. The text of stimulus and trace is our own choice.
+-- Example: stimulus `11/1/`: the trace of the row `11`, and `Length(2)`.
 use Rattle.std.specs.Prelude.{◌≡◌, ℕ, ◌-◌, ◌^◌, min, IsTrue, List, [], length, Result, Ok, Err}
 use Rattle.aig_parts.specs.declared.ternary.Tern.{Tern}
 use Rattle.aig_parts.specs.declared.raw.Raw.{Raw}

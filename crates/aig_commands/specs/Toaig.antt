@@ -1,4 +1,5 @@
 -- What `toaig` writes: a circuit in another format. Where the standard is silent, what it leaves out is our own choice.
+-- Example: `examples/two_gates.aag` to binary: `aig 4 2 0 1 2/8/`, then `02 02 02 04`.
 use Rattle.std.specs.Prelude.{◌≡◌, ◌⊎◌, ℕ, List, [], Result, Ok, Err}
 use Rattle.aig_parts.specs.declared.raw.Raw.{Raw}
 use Rattle.aig_base.specs.Order.{IsCanonicalOrder}
@@ -14,7 +15,8 @@ abbrev pub IsConverted : Raw → Format → List ℕ → Type 0
 IsConverted raw Ascii text = text ≡ short_ascii raw
 IsConverted raw Binary text =
     (IsBinaryReady raw × (text ≡ short_binary raw))
-    ⊎ ((IsBinaryReady raw → ⊥) × ((order : List ℕ) × IsCanonicalOrder raw order × (text ≡ short_binary (renumbered raw order))))
+    ⊎ ((IsBinaryReady raw → ⊥) × ((order : List ℕ) × IsCanonicalOrder raw order
+    × (text ≡ short_binary (renumbered raw order))))
 
 -- a file of the format cannot hold the circuit as it stands
 abbrev pub HasToBeRenumbered : Format → Raw → Type 0

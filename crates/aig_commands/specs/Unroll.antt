@@ -1,4 +1,5 @@
 -- What `unroll` writes: a circuit unrolled for some frames.
+-- Example: a latch that negates itself, with outputs 2 and 3, for 3 frames: `aag 0 0 0 6 0/0/1/1/0/0/1/`.
 use Rattle.std.specs.Prelude.{◌≡◌, ℕ, List, [], Result, Ok, Err}
 use Rattle.aig_parts.specs.declared.raw.Raw.{Raw}
 use Rattle.aig_format.specs.declared.reader.header.Format.{Format}
@@ -19,8 +20,8 @@ abbrev pub IsUnrolledText : Raw → ℕ → Format → List ℕ → Type 0
 IsUnrolledText raw k to text =
     (new : Raw) × AnswersUnrolling raw k (Ok new) × (text ≡ short_spelling to new)
 
--- what `unroll` writes for a circuit: the unrolled circuit; nothing where there is none, or where no memory was found for
--- levels
+-- what `unroll` writes for a circuit: the unrolled circuit; nothing where there is none, or where no memory was found
+-- for levels
 abbrev pub Unrolls : ℕ → Format → Raw → Result (Unit {0}) RunFault → List ℕ → Type 0
 Unrolls k to raw (Ok done) text = IsUnrolledText raw k to text
 Unrolls k to raw (Err (run_faults.Unroll fault)) text = AnswersUnrolling raw k (Err fault) × (text ≡ [])

@@ -1,4 +1,6 @@
 -- What `wave` writes: a value change dump (IEEE 1364) of a run. Which runs it shows is our own choice.
+-- Examples: with a faulty line 2: the header and the first frame, without the line that ends a dump; on a device that
+-- takes 10 bytes, all of the stimulus is left.
 use Rattle.std.specs.Prelude.{◌≡◌, ◌⊎◌, ℕ, List, [], ◌++◌, length, Result, Ok, Err}
 use Rattle.aig_parts.specs.declared.ternary.Tern.{Tern}
 use Rattle.aig_parts.specs.declared.raw.Raw.{Raw}
@@ -38,5 +40,6 @@ HeaderFirst stimulus out raw =
 
 -- what `wave --witness` writes for a witness of a circuit: the dump of its run
 abbrev pub DumpsRun : List ℕ → Raw → Result (Unit {0}) RunFault → List ℕ → Type 0
-DumpsRun text raw (Ok done) written = ReportsRun (λ raw start rows reported. IsDump raw start rows reported) raw text written
+DumpsRun text raw (Ok done) written =
+    ReportsRun (λ raw start rows reported. IsDump raw start rows reported) raw text written
 DumpsRun text raw (Err fault) written = RefusesWitness text raw fault written

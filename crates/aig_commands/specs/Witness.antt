@@ -1,4 +1,5 @@
 -- What `witness` writes: the witness that a run reaches a bad state.
+-- Example: input 2 is bad: for `0/1/1/` it is `1/b0//0/1/./`.
 use Rattle.std.specs.Prelude.{◌≡◌, ℕ, ◌<◌, ◌≤◌, List, [], length, Option, Some, IfSome, Result, Ok, Err}
 use Rattle.aig_parts.specs.declared.raw.Raw.{Raw}
 use Rattle.aig_parts.specs.declared.ternary.Tern.{Tern}
@@ -36,7 +37,8 @@ WritesWitness asked stimulus raw (Err (run_faults.Stimulus fault)) text =
     HasAsked raw asked × RefusesStimulus (length raw.inputs) stimulus fault × (text ≡ [])
 WritesWitness asked stimulus raw (Err (run_faults.Reach reaches.NoRun)) text =
     HasAsked raw asked
-    × ((rows : List (List Tern)) × SpellsRows (length raw.inputs) stimulus rows × ReachesNone raw (start_of raw) rows asked)
+    × ((rows : List (List Tern)) × SpellsRows (length raw.inputs) stimulus rows
+    × ReachesNone raw (start_of raw) rows asked)
     × (text ≡ [])
 WritesWitness asked stimulus raw (Err (run_faults.Reach reaches.Memory)) text = text ≡ []
 WritesWitness asked stimulus raw (Err _) text = ⊥

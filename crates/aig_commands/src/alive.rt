@@ -94,11 +94,11 @@ fn read_and_check<R: Read>(
     check_alive(alloc, &circuit, frames, proof)
 }
 
-/// The command `refute --alive`: reads a circuit and checks a solver's proof that no assignment satisfies the formula that
-/// `cnf --alive` writes for this many frames. If it is one, no run from a start that the resets allow keeps all
+/// The command `refute --alive`: reads a circuit and checks a solver's proof that no assignment satisfies the formula
+/// that `cnf --alive` writes for this many frames. If it is one, no run from a start that the resets allow keeps all
 /// constraints at its first so many frames, whatever values are unknown, and one line says so. So a bad state is
-/// unreachable from there on whatever it says. The proof is never held whole, and is not read if the file is rejected, if
-/// there is no such formula, or if propagation alone refutes it. It flushes the writer before it returns.
+/// unreachable from there on whatever it says. The proof is never held whole, and is not read if the file is rejected,
+/// if there is no such formula, or if propagation alone refutes it. It flushes the writer before it returns.
 pub fn refute_alive<R: Read, W: Write>(
     alloc: Global,
     file: &[u8],

@@ -123,6 +123,7 @@ pub fn keep_stimulus<G: Grid, W: Write>(bench: &Bench<G>, out: &mut W) -> Result
 /// Files are of one circuit and one list of rows, so that a run on the files of a pair begins with that pair (our own
 /// choice).
 pub fn law_of_kept_files()
-    ensures { (circuit stimulus : List ℕ) (p q : CircuitAndRows) → AreFilesOf circuit stimulus p → AreFilesOf circuit stimulus q
+    ensures { (circuit stimulus : List ℕ) (p q : CircuitAndRows) → AreFilesOf circuit stimulus p
+        → AreFilesOf circuit stimulus q
         → p ≡ q }
 {}

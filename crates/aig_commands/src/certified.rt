@@ -55,7 +55,8 @@ impl Purpose {
 /// Reads a certificate's file.
 fn read_certificate(alloc: Global, certificate: &[u8]) -> Result<Circuit, RunFault>
     ensures certificate { IfOk result (IsFileOf certificate.now) }
-    ensures refused { IfErr result (λ part. (fault : Fault) × (part ≡ RunFault.Certificate fault) × RefusesCircuit certificate.now fault) }
+    ensures refused { IfErr result (λ part. (fault : Fault) × (part ≡ RunFault.Certificate fault)
+        × RefusesCircuit certificate.now fault) }
 {
     match read_circuit(alloc, certificate) {
         Ok(certificate) => Ok(certificate),
@@ -68,7 +69,8 @@ impl Certified<'_> {
     pub(crate) fn strengthened(&self, alloc: Global, purpose: Purpose) -> Result<Circuit, RunFault>
         ensures certified { IfOk result (IsCertified self.now.circuit.now self.now.property self.now.certificate.now) }
         ensures extension { IfOk result (IsExtensionOf self.now.circuit.now self.now.property) }
-        ensures refused { IfErr result (RefusesCertified purpose self.now.circuit.now self.now.property self.now.certificate.now) }
+        ensures refused { IfErr result (RefusesCertified purpose self.now.circuit.now self.now.property
+            self.now.certificate.now) }
     {
         let circuit = read_circuit(alloc, self.circuit)?;
         let certificate = read_certificate(alloc, self.certificate)?;

@@ -51,7 +51,8 @@ fn check_circuit<W: Write>(
     witness: &[u8],
     out: &mut W,
 ) -> Result<Verdict, RunFault>
-    ensures ends { CommandEnds (flow W.written W.failures out.old out.new) RunFault.Output (Checks witness.now circuit.now) result }
+    ensures ends { CommandEnds (flow W.written W.failures out.old out.new) RunFault.Output
+        (Checks witness.now circuit.now) result }
     ensures count { W.failures out.new ≤ W.failures out.old + 1 }
     ensures refused { IfErr result (λ fault. fault ≢ RunFault.Output → out.new ≡ out.old) }
     ensures output { result ≡ Err RunFault.Output → GoesWell (Checks witness.now circuit.now) }
@@ -105,7 +106,8 @@ fn write_run<W: Write>(
     witness: &[u8],
     out: &mut W,
 ) -> Result<Verdict, RunFault>
-    ensures { CommandEnds (flow W.written W.failures out.old out.new) RunFault.Output (ChecksAndTraces witness.now circuit.now) result }
+    ensures { CommandEnds (flow W.written W.failures out.old out.new) RunFault.Output
+        (ChecksAndTraces witness.now circuit.now) result }
 {
     let verdict = check_witness(alloc, circuit, witness)?;
     match trace_witness(alloc, circuit, witness, out) {

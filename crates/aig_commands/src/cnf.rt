@@ -61,11 +61,11 @@ fn read_and_write<W: Write>(
 }
 
 /// The command `cnf`: reads a circuit and writes the formula of a query about it in DIMACS, with comment lines that say
-/// what was asked for and what its variables are. Some assignment satisfies the formula of `Goal::Within` exactly where there is a confirmed
-/// witness of at most so many frames (`law_of_formula` of `aig_laws`). Where neither it nor the one of `Goal::Step` has
-/// such an assignment, no run of any length reaches the property (`law_of_induction` of `aig_refute`). Justice and
-/// fairness are ignored. If the file is rejected, or there is no such formula, nothing is written. It flushes the writer
-/// before it returns.
+/// what was asked for and what its variables are. Some assignment satisfies the formula of `Goal::Within` exactly where
+/// there is a confirmed witness of at most so many frames (`law_of_formula` of `aig_laws`). Where neither it nor the
+/// one of `Goal::Step` has such an assignment, no run of any length reaches the property (`law_of_induction` of
+/// `aig_refute`). Justice and fairness are ignored. If the file is rejected, or there is no such formula, nothing is
+/// written. It flushes the writer before it returns.
 pub fn cnf<W: Write>(alloc: Global, file: &[u8], query: Query, out: &mut W) -> Result<(), RunFault>
     ensures ends { CommandEnds (flow W.written W.failures out.old out.new) RunFault.Output
         (OfFile file.now (WritesFormula query)) result }
@@ -82,7 +82,8 @@ fn strengthen_and_write<W: Write>(
     out: &mut W,
 ) -> Result<(), RunFault>
     ensures { CommandEnds (flow W.written W.failures out.old out.new) RunFault.Output
-        (OfCertified purposes.Formula certified.entry.circuit.now certified.entry.property certified.entry.certificate.now
+        (OfCertified purposes.Formula certified.entry.circuit.now certified.entry.property
+        certified.entry.certificate.now
         (WritesCertified certified.entry.property)) result }
 {
     let mut circuit = certified.strengthened(alloc, Purpose::Formula)?;
@@ -91,16 +92,17 @@ fn strengthen_and_write<W: Write>(
 }
 
 /// The command `cnf --certificate`: reads a circuit and a certificate, and writes the formula of the induction over one
-/// frame for the strengthened circuit (`aig_certificate::strengthened`). Where no assignment satisfies it, no run of any
-/// length of the circuit reaches the property (`law_of_one_formula` and `law_of_extension` of `aig_refute`). If a file is
-/// rejected, or there is no such formula, nothing is written. It flushes the writer before it returns.
+/// frame for the strengthened circuit (`aig_certificate::strengthened`). Where no assignment satisfies it, no run of
+/// any length of the circuit reaches the property (`law_of_one_formula` and `law_of_extension` of `aig_refute`). If a
+/// file is rejected, or there is no such formula, nothing is written. It flushes the writer before it returns.
 pub fn cnf_certified<W: Write>(
     alloc: Global,
     certified: Certified<'_>,
     out: &mut W,
 ) -> Result<(), RunFault>
     ensures ends { CommandEnds (flow W.written W.failures out.old out.new) RunFault.Output
-        (OfCertified purposes.Formula certified.entry.circuit.now certified.entry.property certified.entry.certificate.now
+        (OfCertified purposes.Formula certified.entry.circuit.now certified.entry.property
+        certified.entry.certificate.now
         (WritesCertified certified.entry.property)) result }
     ensures flushed { W.failures out.new ≡ W.failures out.old → W.is_flushed out.new }
 {

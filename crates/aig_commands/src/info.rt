@@ -199,10 +199,10 @@ fn read_and_list<R: Read, W: Write>(
 
 /// The command `info`: reads a circuit and writes what it is, a line for each fact, `name value`. The facts are its
 /// format and the counts of its parts, the bad state properties that are constants, the constraints that no run keeps,
-/// the latches that start at no known value and those that start at 1, its greatest level and fan-out, its names and the bytes of its comment. The last
-/// one is whether the binary format can hold it as it stands. For every circuit file that is accepted, the text is that
-/// of its circuit. The file is never held whole. Where it is refused, or no memory was found for levels or fan-outs,
-/// nothing is written. It flushes the writer before it answers.
+/// the latches that start at no known value and those that start at 1, its greatest level and fan-out, its names and
+/// the bytes of its comment. The last one is whether the binary format can hold it as it stands. For every circuit file
+/// that is accepted, the text is that of its circuit. The file is never held whole. Where it is refused, or no memory
+/// was found for levels or fan-outs, nothing is written. It flushes the writer before it answers.
 pub fn info<R: Read, W: Write>(alloc: Global, circuit: &mut R, out: &mut W) -> Result<(), RunFault>
     ensures ends { CommandEnds (flow W.written W.failures out.old out.new) RunFault.Output
         (OfReader (flow R.left R.failures circuit.old circuit.new) (ListsFacts (R.left circuit.old))) result }

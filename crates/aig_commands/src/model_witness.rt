@@ -1,5 +1,5 @@
-//! `witness --model`: the witness of the run that a solver's model names; with `--step` the run by which an induction step
-//! fails, with `--certificate` the one by which a certificate does.
+//! `witness --model`: the witness of the run that a solver's model names; with `--step` the run by which an induction
+//! step fails, with `--certificate` the one by which a certificate does.
 ghost use Rattle.std.specs.Prelude.{◌≡◌, ◌<◌, ◌≤◌, IfOk, IfErr, OnOk, length};
 ghost use Rattle.aig_bytes.specs.Flow.{flow};
 ghost use Rattle.aig_cnf.specs.Answers.{HasFormula, RefusesFormula};
@@ -110,13 +110,13 @@ fn read_and_write<W: Write>(
     read_model_and_write(alloc, &mut circuit, query, model, out)
 }
 
-/// The command `witness --model`: reads a circuit and a SAT solver's model of the formula that `cnf` writes for a query.
-/// The model names a run: a start, where an uninitialised latch has the value of its variable, for an induction step each
-/// latch; and rows. What no literal names is x. It writes the witness of the first frame at which this run reaches the
-/// property. `check` confirms it, for an induction step only if the resets allow its start: else it is the run by which
-/// the step fails. Nothing is written if the circuit or the model is rejected, there is no such formula, or no frame
-/// reaches the property. One does if the model makes a literal of each clause of the formula of `Goal::Within` true
-/// (`law_of_partial_models` of `aig_laws`). It flushes the writer before it returns.
+/// The command `witness --model`: reads a circuit and a SAT solver's model of the formula that `cnf` writes for a
+/// query. The model names a run: a start, where an uninitialised latch has the value of its variable, for an induction
+/// step each latch; and rows. What no literal names is x. It writes the witness of the first frame at which this run
+/// reaches the property. `check` confirms it, for an induction step only if the resets allow its start: else it is the
+/// run by which the step fails. Nothing is written if the circuit or the model is rejected, there is no such formula,
+/// or no frame reaches the property. One does if the model makes a literal of each clause of the formula of
+/// `Goal::Within` true (`law_of_partial_models` of `aig_laws`). It flushes the writer before it returns.
 pub fn model_witness<W: Write>(
     alloc: Global,
     file: &[u8],
@@ -140,18 +140,19 @@ fn strengthen_and_write<W: Write>(
     out: &mut W,
 ) -> Result<(), RunFault>
     ensures { CommandEnds (flow W.written W.failures out.old out.new) RunFault.Output
-        (OfCertified purposes.Formula certified.entry.circuit.now certified.entry.property certified.entry.certificate.now
+        (OfCertified purposes.Formula certified.entry.circuit.now certified.entry.property
+        certified.entry.certificate.now
         (WritesModel (induction 1 0) model.now)) result }
 {
     let mut circuit = certified.strengthened(alloc, Purpose::Formula)?;
     read_model_and_write(alloc, &mut circuit, ONE_FORMULA, model, out)
 }
 
-/// The command `witness --certificate --model`: reads a circuit, a certificate and a SAT solver's model of the formula of
-/// `cnf --certificate`. The model names a run of the strengthened circuit, of one row where the start fails and of two
-/// where the step does, and it writes the witness of the first frame at which a claim is broken. `check` on the
-/// strengthened circuit confirms it where the resets allow its start. Nothing is written if a file is rejected, there is
-/// no such formula, or no frame breaks a claim. It flushes the writer before it returns.
+/// The command `witness --certificate --model`: reads a circuit, a certificate and a SAT solver's model of the formula
+/// of `cnf --certificate`. The model names a run of the strengthened circuit, of one row where the start fails and of
+/// two where the step does, and it writes the witness of the first frame at which a claim is broken. `check` on the
+/// strengthened circuit confirms it where the resets allow its start. Nothing is written if a file is rejected, there
+/// is no such formula, or no frame breaks a claim. It flushes the writer before it returns.
 pub fn certified_model_witness<W: Write>(
     alloc: Global,
     certified: Certified<'_>,
@@ -159,7 +160,8 @@ pub fn certified_model_witness<W: Write>(
     out: &mut W,
 ) -> Result<(), RunFault>
     ensures ends { CommandEnds (flow W.written W.failures out.old out.new) RunFault.Output
-        (OfCertified purposes.Formula certified.entry.circuit.now certified.entry.property certified.entry.certificate.now
+        (OfCertified purposes.Formula certified.entry.circuit.now certified.entry.property
+        certified.entry.certificate.now
         (WritesModel (induction 1 0) model.now)) result }
     ensures flushed { W.failures out.new ≡ W.failures out.old → W.is_flushed out.new }
 {

@@ -90,7 +90,8 @@ fn find_in_row(
     ensures reached { IfOk result (λ run. IsFirstReached circuit.now run.start.items run.rows.rows (Some property)
         run.reached.frame run.reached.property) }
     ensures none { result ≡ Err ReachFault.NoRun →
-        ReachesNone circuit.now (start_in circuit.now frames row.now) (rows_in circuit.now frames row.now) (Some property) }
+        ReachesNone circuit.now (start_in circuit.now frames row.now) (rows_in circuit.now frames row.now)
+        (Some property) }
     ensures property { result ≡ Err ReachFault.Property → ⊥ }
 {
     let width = circuit.inputs().len();
@@ -120,7 +121,8 @@ pub(crate) fn find_named(
     ensures rows { IfOk result (λ run. run.rows.rows ≡ named_rows circuit.now frames values.now) }
     ensures reached { IfOk result (λ run. IsFirstReached circuit.now run.start.items run.rows.rows (Some property)
         run.reached.frame run.reached.property) }
-    ensures none { IfErr result (λ fault. WritesNamed frames property values.now circuit.now (Err (RunFault.Reach fault)) []) }
+    ensures none { IfErr result (λ fault. WritesNamed frames property values.now circuit.now
+        (Err (RunFault.Reach fault)) []) }
 {
     circuit.facts();
     let inputs = unrolled_inputs(circuit, frames);

@@ -8,8 +8,10 @@ ghost use Rattle.aig_sat.specs.proof.Proofs.{IsProof};
 ghost use Rattle.aig_run.specs.Command.{CommandEnds, OfFile};
 ghost use Rattle.aig_commands.specs.Certified.{OfCertified};
 ghost use Rattle.aig_commands.specs.declared.certified.Purpose.TheVariants as purposes;
-ghost use Rattle.aig_commands.specs.Refute.{ChecksProof, ChecksStep, ChecksWithin, IsFileNeverReached, IsFileUnreachable};
-ghost use Rattle.aig_commands.specs.Refute.{Refutes, RefutesInduction, RefutesStep, answer_line, proof_reads_failed, step_reads_failed};
+ghost use Rattle.aig_commands.specs.Refute.{ChecksProof, ChecksStep, ChecksWithin, IsFileNeverReached};
+ghost use Rattle.aig_commands.specs.Refute.{IsFileUnreachable};
+ghost use Rattle.aig_commands.specs.Refute.{Refutes, RefutesInduction, RefutesStep, answer_line, proof_reads_failed};
+ghost use Rattle.aig_commands.specs.Refute.{step_reads_failed};
 ghost use Rattle.aig_commands.specs.state.Answered.{Answers, IsCertifiedChecked, IsChecked, IsOfStepProof, IsRefuted};
 
 use crate::certified::{Certified, ONE_FORMULA, Purpose};
@@ -135,7 +137,8 @@ fn strengthen_and_check<R: Read>(
     certified: Certified<'_>,
     proof: &mut R,
 ) -> Result<(), RunFault>
-    ensures checks { IsCertifiedChecked certified.entry.circuit.now certified.entry.property certified.entry.certificate.now result }
+    ensures checks { IsCertifiedChecked certified.entry.circuit.now certified.entry.property
+        certified.entry.certificate.now result }
     ensures unreachable { OnOk result (IsFileNeverReached certified.entry.circuit.now certified.entry.property) }
     ensures reads { R.failures proof.new ≡ R.failures proof.old + proof_reads_failed result }
     ensures whole { result ≡ Err (RunFault.Proof ProofFault.NoRefutation) → IfSome (R.left proof.old) IsProof }
@@ -207,11 +210,11 @@ pub(crate) fn write_answer<W: Write>(
     flushed(written, out, RunFault::Output)
 }
 
-/// The command `refute`: reads a circuit and checks a solver's proof that no assignment satisfies the formula that `cnf`
-/// writes for the bad state property at this position and this many frames. If it is one, no run from a start that the
-/// resets allow reaches the property within the frames, whatever values are unknown, and one line says so. The proof is
-/// never held whole, and is not read if the file is rejected, if there is no such formula, or if propagation alone refutes
-/// it. It flushes the writer before it returns.
+/// The command `refute`: reads a circuit and checks a solver's proof that no assignment satisfies the formula that
+/// `cnf` writes for the bad state property at this position and this many frames. If it is one, no run from a start
+/// that the resets allow reaches the property within the frames, whatever values are unknown, and one line says so. The
+/// proof is never held whole, and is not read if the file is rejected, if there is no such formula, or if propagation
+/// alone refutes it. It flushes the writer before it returns.
 pub fn refute<R: Read, W: Write>(
     alloc: Global,
     file: &[u8],
@@ -232,11 +235,11 @@ pub fn refute<R: Read, W: Write>(
     write_answer(checked, Goal::Within, frames, out)
 }
 
-/// The command `refute --step`: reads a circuit and checks two proofs of a solver, first that no assignment satisfies the
-/// formula that `cnf` writes for the bad state property at this position and this many frames, then that none satisfies
-/// the one of `cnf --step`. If they are proofs, no run of any length from a start that the resets allow reaches the
-/// property, whatever values are unknown, and one line says so. Neither proof is read before it is known that there are
-/// both formulas. It flushes the writer before it returns.
+/// The command `refute --step`: reads a circuit and checks two proofs of a solver, first that no assignment satisfies
+/// the formula that `cnf` writes for the bad state property at this position and this many frames, then that none
+/// satisfies the one of `cnf --step`. If they are proofs, no run of any length from a start that the resets allow
+/// reaches the property, whatever values are unknown, and one line says so. Neither proof is read before it is known
+/// that there are both formulas. It flushes the writer before it returns.
 pub fn refute_step<R: Read, W: Write>(
     alloc: Global,
     file: &[u8],
@@ -261,11 +264,11 @@ pub fn refute_step<R: Read, W: Write>(
     write_answer(checked, Goal::Step, frames, out)
 }
 
-/// The command `refute --certificate`: reads a circuit and a certificate, and checks a solver's proof that no assignment
-/// satisfies the formula of `cnf --certificate`. If it is one, no run of any length from a start that the resets allow
-/// reaches the property of the circuit, whatever values are unknown, and one line says so. Nothing is believed of the
-/// certificate or of the proof. The proof is never held whole, and is not read if a file is rejected, if there is no such
-/// formula, or if propagation alone refutes it. It flushes the writer before it returns.
+/// The command `refute --certificate`: reads a circuit and a certificate, and checks a solver's proof that no
+/// assignment satisfies the formula of `cnf --certificate`. If it is one, no run of any length from a start that the
+/// resets allow reaches the property of the circuit, whatever values are unknown, and one line says so. Nothing is
+/// believed of the certificate or of the proof. The proof is never held whole, and is not read if a file is rejected,
+/// if there is no such formula, or if propagation alone refutes it. It flushes the writer before it returns.
 pub fn refute_certified<R: Read, W: Write>(
     alloc: Global,
     certified: Certified<'_>,
@@ -274,7 +277,8 @@ pub fn refute_certified<R: Read, W: Write>(
 ) -> Result<(), RunFault>
     ensures unreachable { OnOk result (IsFileNeverReached certified.entry.circuit.now certified.entry.property) }
     ensures ends { CommandEnds (flow W.written W.failures out.old out.new) RunFault.Output
-        (OfCertified purposes.Formula certified.entry.circuit.now certified.entry.property certified.entry.certificate.now RefutesInduction)
+        (OfCertified purposes.Formula certified.entry.circuit.now certified.entry.property
+        certified.entry.certificate.now RefutesInduction)
         result }
     ensures reads { result ≢ Err RunFault.Output →
         R.failures proof.new ≡ R.failures proof.old + proof_reads_failed result }

@@ -19,7 +19,8 @@ fn run<R: Read, W: Write>(
     stimulus: &mut R,
     out: &mut W,
 ) -> Result<u64, RunFault>
-    ensures ends { EndsReading (flow R.left R.failures stimulus.old stimulus.new) (flow W.written W.failures out.old out.new)
+    ensures ends { EndsReading (flow R.left R.failures stimulus.old stimulus.new)
+        (flow W.written W.failures out.old out.new)
         (RunFault.Stimulus StimFault.Io) (λ text. WritesSimulation text circuit.now) result }
     ensures part { IfErr result IsOfStimulus }
 {
@@ -36,7 +37,8 @@ fn read_and_run<C: Read, R: Read, W: Write>(
     stimulus: &mut R,
     out: &mut W,
 ) -> Result<u64, RunFault>
-    ensures ends { EndsReading (flow R.left R.failures stimulus.old stimulus.new) (flow W.written W.failures out.old out.new)
+    ensures ends { EndsReading (flow R.left R.failures stimulus.old stimulus.new)
+        (flow W.written W.failures out.old out.new)
         (RunFault.Stimulus StimFault.Io)
         (λ text. OfReader (flow C.left C.failures circuit.old circuit.new) (WritesSimulation text)) result }
     ensures unread { (fault : Fault) → result ≡ Err (RunFault.Circuit fault) → stimulus.new ≡ stimulus.old }
@@ -57,7 +59,8 @@ pub fn sim<C: Read, R: Read, W: Write>(
     stimulus: &mut R,
     out: &mut W,
 ) -> Result<u64, RunFault>
-    ensures ends { EndsReading (flow R.left R.failures stimulus.old stimulus.new) (flow W.written W.failures out.old out.new)
+    ensures ends { EndsReading (flow R.left R.failures stimulus.old stimulus.new)
+        (flow W.written W.failures out.old out.new)
         (RunFault.Stimulus StimFault.Io)
         (λ text. OfReader (flow C.left C.failures circuit.old circuit.new) (WritesSimulation text)) result }
     ensures unread { (fault : Fault) → result ≡ Err (RunFault.Circuit fault) → stimulus.new ≡ stimulus.old }

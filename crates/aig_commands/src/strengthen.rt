@@ -21,7 +21,8 @@ fn strengthen_and_write<W: Write>(
     out: &mut W,
 ) -> Result<(), RunFault>
     ensures { CommandEnds (flow W.written W.failures out.old out.new) RunFault.Output
-        (OfCertified Circuit certified.entry.circuit.now certified.entry.property certified.entry.certificate.now (Converts to)) result }
+        (OfCertified Circuit certified.entry.circuit.now certified.entry.property certified.entry.certificate.now
+        (Converts to)) result }
 {
     let circuit = certified.strengthened(alloc, Purpose::Circuit)?;
     write_converted(alloc, &circuit, to, out)
@@ -29,9 +30,9 @@ fn strengthen_and_write<W: Write>(
 
 /// The command `strengthen`: reads a circuit and a certificate, and writes the strengthened circuit in a format, as
 /// `toaig` does. Its one bad state property is 1 where the property of the circuit is, or where a claim of the
-/// certificate is broken; its outputs are these parts. The circuit is an extension of the one that was read: where no run
-/// reaches its property, none of the circuit reaches its own (`law_of_extension` of `aig_refute`). If a file is rejected,
-/// or the two do not go together, nothing is written. It flushes the writer before it returns.
+/// certificate is broken; its outputs are these parts. The circuit is an extension of the one that was read: where no
+/// run reaches its property, none of the circuit reaches its own (`law_of_extension` of `aig_refute`). If a file is
+/// rejected, or the two do not go together, nothing is written. It flushes the writer before it returns.
 pub fn strengthen<W: Write>(
     alloc: Global,
     certified: Certified<'_>,
@@ -39,7 +40,8 @@ pub fn strengthen<W: Write>(
     out: &mut W,
 ) -> Result<(), RunFault>
     ensures ends { CommandEnds (flow W.written W.failures out.old out.new) RunFault.Output
-        (OfCertified Circuit certified.entry.circuit.now certified.entry.property certified.entry.certificate.now (Converts to)) result }
+        (OfCertified Circuit certified.entry.circuit.now certified.entry.property certified.entry.certificate.now
+        (Converts to)) result }
     ensures flushed { W.failures out.new ≡ W.failures out.old → W.is_flushed out.new }
 {
     let done = strengthen_and_write(alloc, certified, to, out);

@@ -14,7 +14,8 @@ use std::alloc::Global;
 
 /// Writes a circuit as a binary file: a ready one as it stands, any other renumbered.
 fn write_ready<W: Write>(alloc: Global, circuit: &Circuit, out: &mut W) -> Result<(), RunFault>
-    ensures ends { CommandEnds (flow W.written W.failures out.old out.new) RunFault.Output (Converts Binary circuit.now) result }
+    ensures ends { CommandEnds (flow W.written W.failures out.old out.new) RunFault.Output (Converts Binary circuit.now)
+        result }
     ensures count { W.failures out.new ≤ W.failures out.old + 1 }
     ensures refused { IfErr result (λ fault. fault ≢ RunFault.Output → out.new ≡ out.old) }
     ensures output { result ≡ Err RunFault.Output → GoesWell (Converts Binary circuit.now) }
@@ -36,7 +37,8 @@ pub(crate) fn write_converted<W: Write>(
     to: Format,
     out: &mut W,
 ) -> Result<(), RunFault>
-    ensures ends { CommandEnds (flow W.written W.failures out.old out.new) RunFault.Output (Converts to circuit.now) result }
+    ensures ends { CommandEnds (flow W.written W.failures out.old out.new) RunFault.Output (Converts to circuit.now)
+        result }
     ensures count { W.failures out.new ≤ W.failures out.old + 1 }
     ensures refused { IfErr result (λ fault. fault ≢ RunFault.Output → out.new ≡ out.old) }
     ensures output { result ≡ Err RunFault.Output → GoesWell (Converts to circuit.now) }
@@ -57,7 +59,8 @@ pub fn convert<W: Write>(
     to: Format,
     out: &mut W,
 ) -> Result<(), RunFault>
-    ensures ends { CommandEnds (flow W.written W.failures out.old out.new) RunFault.Output (OfFile file.now (Converts to)) result }
+    ensures ends { CommandEnds (flow W.written W.failures out.old out.new) RunFault.Output
+        (OfFile file.now (Converts to)) result }
     ensures count { W.failures out.new ≤ W.failures out.old + 1 }
     ensures refused { IfErr result (λ fault. fault ≢ RunFault.Output → out.new ≡ out.old) }
     ensures output { result ≡ Err RunFault.Output → GoesWell (OfFile file.now (Converts to)) }

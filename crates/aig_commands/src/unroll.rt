@@ -35,7 +35,8 @@ fn unroll_circuit<W: Write>(
     to: Format,
     out: &mut W,
 ) -> Result<(), RunFault>
-    ensures ends { CommandEnds (flow W.written W.failures out.old out.new) RunFault.Output (Unrolls frames to circuit.now) result }
+    ensures ends { CommandEnds (flow W.written W.failures out.old out.new) RunFault.Output
+        (Unrolls frames to circuit.now) result }
     ensures count { W.failures out.new ≤ W.failures out.old + 1 }
     ensures refused { IfErr result (λ fault. fault ≢ RunFault.Output → out.new ≡ out.old) }
     ensures output { result ≡ Err RunFault.Output → GoesWell (Unrolls frames to circuit.now) }
@@ -103,7 +104,8 @@ pub fn unroll<W: Write>(
 
 /// Writes the map of the inputs, without a flush at the end.
 fn write_map<W: Write>(circuit: &Circuit, frames: u32, out: &mut W) -> Result<(), RunFault>
-    ensures { CommandEnds (flow W.written W.failures out.old out.new) RunFault.Output (IsMap frames circuit.now) result }
+    ensures { CommandEnds (flow W.written W.failures out.old out.new) RunFault.Output (IsMap frames circuit.now)
+        result }
 {
     match write_input_map(circuit, frames, out) {
         Ok(()) => Ok(()),
@@ -114,7 +116,8 @@ fn write_map<W: Write>(circuit: &Circuit, frames: u32, out: &mut W) -> Result<()
 /// The map of `unroll --map`: writes what each input of the circuit unrolled for this many frames is, a line each, and
 /// flushes the writer before it answers. Only a write can fail.
 pub fn unroll_map<W: Write>(circuit: &Circuit, frames: u32, out: &mut W) -> Result<(), RunFault>
-    ensures ends { CommandEnds (flow W.written W.failures out.old out.new) RunFault.Output (IsMap frames circuit.now) result }
+    ensures ends { CommandEnds (flow W.written W.failures out.old out.new) RunFault.Output (IsMap frames circuit.now)
+        result }
     ensures flushed { W.failures out.new ≡ W.failures out.old → W.is_flushed out.new }
 {
     let done = write_map(circuit, frames, out);

@@ -20,7 +20,8 @@ fn run<R: Read, W: Write>(
     stimulus: &mut R,
     out: &mut W,
 ) -> Result<u64, RunFault>
-    ensures ends { EndsReading (flow R.left R.failures stimulus.old stimulus.new) (flow W.written W.failures out.old out.new)
+    ensures ends { EndsReading (flow R.left R.failures stimulus.old stimulus.new)
+        (flow W.written W.failures out.old out.new)
         (RunFault.Stimulus StimFault.Io) (λ text. WritesWave text circuit.now) result }
     ensures part { IfErr result IsOfStimulus }
     ensures header { HeaderFirst (flow R.left R.failures stimulus.old stimulus.new)
@@ -39,12 +40,14 @@ fn read_and_run<C: Read, R: Read, W: Write>(
     stimulus: &mut R,
     out: &mut W,
 ) -> Result<u64, RunFault>
-    ensures ends { EndsReading (flow R.left R.failures stimulus.old stimulus.new) (flow W.written W.failures out.old out.new)
+    ensures ends { EndsReading (flow R.left R.failures stimulus.old stimulus.new)
+        (flow W.written W.failures out.old out.new)
         (RunFault.Stimulus StimFault.Io)
         (λ text. OfReader (flow C.left C.failures circuit.old circuit.new) (WritesWave text)) result }
     ensures unread { (fault : Fault) → result ≡ Err (RunFault.Circuit fault) → stimulus.new ≡ stimulus.old }
     ensures header { (file : List ℕ) (raw : Raw) → C.left circuit.old ≡ Some file → IsFileOf file raw
-        → HeaderFirst (flow R.left R.failures stimulus.old stimulus.new) (flow W.written W.failures out.old out.new) raw }
+        → HeaderFirst (flow R.left R.failures stimulus.old stimulus.new) (flow W.written W.failures out.old out.new)
+        raw }
 {
     match read_from(alloc, circuit) {
         Ok(circuit) => run(alloc, &circuit, stimulus, out),
@@ -62,12 +65,14 @@ pub fn wave<C: Read, R: Read, W: Write>(
     stimulus: &mut R,
     out: &mut W,
 ) -> Result<u64, RunFault>
-    ensures ends { EndsReading (flow R.left R.failures stimulus.old stimulus.new) (flow W.written W.failures out.old out.new)
+    ensures ends { EndsReading (flow R.left R.failures stimulus.old stimulus.new)
+        (flow W.written W.failures out.old out.new)
         (RunFault.Stimulus StimFault.Io)
         (λ text. OfReader (flow C.left C.failures circuit.old circuit.new) (WritesWave text)) result }
     ensures unread { (fault : Fault) → result ≡ Err (RunFault.Circuit fault) → stimulus.new ≡ stimulus.old }
     ensures header { (file : List ℕ) (raw : Raw) → C.left circuit.old ≡ Some file → IsFileOf file raw
-        → HeaderFirst (flow R.left R.failures stimulus.old stimulus.new) (flow W.written W.failures out.old out.new) raw }
+        → HeaderFirst (flow R.left R.failures stimulus.old stimulus.new) (flow W.written W.failures out.old out.new)
+        raw }
     ensures flushed { W.failures out.new ≡ W.failures out.old → W.is_flushed out.new }
 {
     let done = read_and_run(alloc, circuit, stimulus, out);
@@ -81,7 +86,8 @@ fn replay<W: Write>(
     witness: &[u8],
     out: &mut W,
 ) -> Result<(), RunFault>
-    ensures { CommandEnds (flow W.written W.failures out.old out.new) RunFault.Output (DumpsRun witness.now circuit.now) result }
+    ensures { CommandEnds (flow W.written W.failures out.old out.new) RunFault.Output (DumpsRun witness.now circuit.now)
+        result }
 {
     match dump_witness(alloc, circuit, witness, out) {
         Ok(()) => Ok(()),

@@ -1,8 +1,10 @@
 -- What a reader finds in the lines of a header.
-use Rattle.std.proofs.Common.{◌≡◌, ℕ, zero, suc, ◌+◌, ◌-◌, ◌≤◌, Bool, true, false, List, [], ◌∷◌, ◌++◌, length, map, take, drop, refl, sym, ap, ◌∙◌, arith, append_assoc, append-nil, add-one}
+use Rattle.std.proofs.Common.{◌≡◌, ℕ, zero, suc, ◌+◌, ◌-◌, ◌≤◌, Bool, true, false, List, [], ◌∷◌, ◌++◌, length, map}
+use Rattle.std.proofs.Common.{take, drop, refl, sym, ap, ◌∙◌, arith, append_assoc, append-nil, add-one}
 use Rattle.std.specs.Prelude.{if◌then◌else◌, codes, bytes_eq}
 use Rattle.std.proofs.lemmas.Slice.Eq.{bytes_eq-Decides}
-use Rattle.std.proofs.lemmas.List.{take-append-drop, take-take, take_at, take_all, length-append, length-take, map-append}
+use Rattle.std.proofs.lemmas.List.{take-append-drop, take-take, take_at, take_all, length-append, length-take}
+use Rattle.std.proofs.lemmas.List.{map-append}
 use Rattle.std.proofs.Math.Seq.{take-append-add}
 use Rattle.aig_parts.specs.declared.symbols.Kind.{Kind}
 use Rattle.aig_parts.specs.declared.symbols.Kind.TheVariants.{Input, Latch, Output, Bad, Constraint}
@@ -14,7 +16,9 @@ use Rattle.aig_dump_header.specs.Names.{identifier_code}
 use Rattle.aig_dump_header.specs.Paths.{path_of, scopes_of, leaf_of}
 use Rattle.aig_dump_header.specs.Signals.{section_names}
 use Rattle.aig_dump_header.proofs.DeclaredNames.{no_names}
-use Rattle.aig_dump_header.proofs.HeaderLines.{whole, scope_words, up_words, signal_words, closing_words, move_words, name_words, section_words, sections_words, version_words, timescale_words, last_words, header_words, header_cut}
+use Rattle.aig_dump_header.proofs.HeaderLines.{whole, scope_words, up_words, signal_words, closing_words, move_words}
+use Rattle.aig_dump_header.proofs.HeaderLines.{name_words, section_words, sections_words, version_words}
+use Rattle.aig_dump_header.proofs.HeaderLines.{timescale_words, last_words, header_words, header_cut}
 use Rattle.aig_dump_header.proofs.NamePieces.{path_parts}
 
 -- ---- shared scopes

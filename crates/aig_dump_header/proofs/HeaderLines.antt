@@ -1,16 +1,21 @@
 -- The lines of a header, and their words.
-use Rattle.std.proofs.Common.{◌≡◌, ◌≢◌, ℕ, zero, suc, ◌+◌, ◌-◌, ◌<◌, Bool, true, false, List, [], ◌∷◌, ◌++◌, length, map, drop, get_or, slice_get, Some, All, refl, sym, ap, ◌∙◌, subst, arith, append_assoc, append-nil}
+use Rattle.std.proofs.Common.{◌≡◌, ◌≢◌, ℕ, zero, suc, ◌+◌, ◌-◌, ◌<◌, Bool, true, false, List, [], ◌∷◌, ◌++◌, length}
+use Rattle.std.proofs.Common.{map, drop, get_or, slice_get, Some, All, refl, sym, ap, ◌∙◌, subst, arith, append_assoc}
+use Rattle.std.proofs.Common.{append-nil}
 use Rattle.std.specs.Prelude.{◌==◌, nat_le, ◌&&◌, codes, flat_map}
 use Rattle.std.proofs.lemmas.Bool.{ne_eqb, and_parts, leb-true}
 use Rattle.std.proofs.lemmas.List.{map-append}
 use Rattle.std.proofs.lemmas.List.Concat.{flat_map-append}
-use Rattle.std.proofs.lemmas.List.Elements.{All-from_recursion, All-nil, All-cons, All-head, All-tail, All-append, All-push, All-map, All-drop, All-take, All-weaker, All-contains, All-get_or, Contains-get_or}
+use Rattle.std.proofs.lemmas.List.Elements.{All-from_recursion, All-nil, All-cons, All-head, All-tail, All-append}
+use Rattle.std.proofs.lemmas.List.Elements.{All-push, All-map, All-drop, All-take, All-weaker, All-contains, All-get_or}
+use Rattle.std.proofs.lemmas.List.Elements.{Contains-get_or}
 use Rattle.std.proofs.lemmas.List.Splits.{slice_split_at, slice_split_none}
 use Rattle.aig_parts.specs.declared.symbols.Kind.{Kind}
 use Rattle.aig_parts.specs.declared.symbols.Kind.TheVariants.{Input, Latch, Output, Bad, Constraint}
 use Rattle.aig_parts.specs.SymbolPlaces.{Key}
 use Rattle.aig_dump_header.specs.declared.header.SignalCounts.{SignalCounts}
-use Rattle.aig_dump_header.specs.Header.{signal_line, scope_line, closings, shared, moves, name_lines, section_scope, sections, header}
+use Rattle.aig_dump_header.specs.Header.{signal_line, scope_line, closings, shared, moves, name_lines, section_scope}
+use Rattle.aig_dump_header.specs.Header.{sections, header}
 use Rattle.aig_dump_header.specs.Names.{cut_at, identifier_code, names_of}
 use Rattle.aig_dump_header.specs.Paths.{path_of, scopes_of, leaf_of}
 use Rattle.aig_dump_header.specs.Signals.{section_names}

@@ -1,10 +1,13 @@
 -- Paths of names, and the lines of scopes.
-use Rattle.std.proofs.Common.{◌≡◌, ◌≢◌, ℕ, zero, suc, ◌+◌, ◌-◌, ◌<◌, ◌≤◌, true, false, List, [], ◌∷◌, ◌++◌, length, get_or, take, drop, map, All, inl, inr, refl, sym, ap, ◌∙◌, arith, take-append-drop, length-take, length-drop, append_assoc, get_or-take, get_or-drop, add-one}
+use Rattle.std.proofs.Common.{◌≡◌, ◌≢◌, ℕ, zero, suc, ◌+◌, ◌-◌, ◌<◌, ◌≤◌, true, false, List, [], ◌∷◌, ◌++◌, length}
+use Rattle.std.proofs.Common.{get_or, take, drop, map, All, inl, inr, refl, sym, ap, ◌∙◌, arith, take-append-drop}
+use Rattle.std.proofs.Common.{length-take, length-drop, append_assoc, get_or-take, get_or-drop, add-one}
 use Rattle.std.specs.Prelude.{Bool, ◌==◌, ◌||◌, codes}
 use Rattle.std.specs.Str.{bytes_eq}
 use Rattle.std.specs.List.{flat_map}
 use Rattle.std.proofs.lemmas.Bool.{ne_eqb, cases_lt}
-use Rattle.std.proofs.lemmas.List.{drop_more, drop_all, drop-drop, get_or-map, length-map, map-append, get_or_default, take-map, drop-map, take_all}
+use Rattle.std.proofs.lemmas.List.{drop_more, drop_all, drop-drop, get_or-map, length-map, map-append, get_or_default}
+use Rattle.std.proofs.lemmas.List.{take-map, drop-map, take_all}
 use Rattle.std.proofs.lemmas.List.Splits.{slice_split_at, slice_split_none, length-slice_split}
 use Rattle.aig_dump_header.specs.Names.{cut_at}
 use Rattle.aig_dump_header.specs.Paths.{has_empty, path_of, scopes_of, leaf_of}

@@ -1,5 +1,8 @@
 -- Words of symbols.
-use Rattle.std.proofs.Common.{◌≡◌, ◌≢◌, ℕ, zero, suc, ◌+◌, ◌-◌, ◌<◌, ◌≤◌, true, false, List, [], ◌∷◌, ◌++◌, length, get_or, take, drop, map, filter, All, inl, inr, refl, sym, ap, ◌∙◌, arith, take-append-drop, length-take, length-drop, append_assoc, append-nil, get_or-take, get_or-drop}
+use Rattle.std.proofs.Common.{◌≡◌, ◌≢◌, ℕ, zero, suc, ◌+◌, ◌-◌, ◌<◌, ◌≤◌, true, false, List, [], ◌∷◌, ◌++◌, length}
+use Rattle.std.proofs.Common.{get_or, take, drop, map, filter, All, inl, inr, refl, sym, ap, ◌∙◌, arith}
+use Rattle.std.proofs.Common.{take-append-drop, length-take, length-drop, append_assoc, append-nil, get_or-take}
+use Rattle.std.proofs.Common.{get_or-drop}
 use Rattle.std.proofs.lemmas.List.{get_or_default, take_all, drop_more, drop_all}
 use Rattle.std.specs.Prelude.{nat_lt, ◌==◌, decimal}
 use Rattle.std.proofs.lemmas.Bool.{ne_eqb, lt-ltb, cases_lt}

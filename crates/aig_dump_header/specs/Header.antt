@@ -1,5 +1,6 @@
 -- The header of a value change dump: one scope per section, one line per name (IEEE 1364, value change dump). Where the
 -- standard is silent, which signals and scopes there are is our own choice.
+-- Example: from the scopes `u1` to `u2`: `$upscope $end`, `$scope module u2 $end`.
 use Rattle.std.specs.Prelude.{ℕ, zero, suc, ◌+◌, ◌-◌, if◌then◌else◌, List, [], ◌∷◌, ◌++◌, length, drop, flat_map, codes}
 use Rattle.std.specs.Str.{bytes_eq}
 use Rattle.aig_parts.specs.declared.symbols.Kind.{Kind}

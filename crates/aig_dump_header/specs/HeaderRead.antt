@@ -1,6 +1,8 @@
 -- What a reader of headers finds in a value change dump: names in their scopes, each with a code (IEEE 1364, `$scope`,
 -- `$upscope` and `$var`). Where the standard is silent, reading line by line, words between blanks, is our own choice.
-use Rattle.std.specs.Prelude.{◌≡◌, ℕ, ◌+◌, ◌-◌, ◌<◌, if◌then◌else◌, List, [], ◌∷◌, ◌++◌, length, map, take, slice_index_or, codes, Contains}
+-- Example: the line `$var wire 1 ! en $end` in the scope `inputs` gives the path `inputs`, `en` with the code `!`.
+use Rattle.std.specs.Prelude.{◌≡◌, ℕ, ◌+◌, ◌-◌, ◌<◌, if◌then◌else◌, List, [], ◌∷◌, ◌++◌, length, map, take}
+use Rattle.std.specs.Prelude.{slice_index_or, codes, Contains}
 use Rattle.std.specs.Str.{bytes_eq}
 use Rattle.aig_parts.specs.declared.symbols.Kind.{Kind}
 use Rattle.aig_parts.specs.declared.symbols.Kind.TheVariants.{Input, Latch, Output, Bad, Constraint, Justice, Fairness}
@@ -54,7 +56,8 @@ section_scope_name Constraint = codes "constraints"
 section_scope_name other = []
 
 -- a path is the scope of a section and a name of an entry there, and a code is that of the entry
-pub record NamesSignal (symbols : List (Key × List ℕ)) (counts : SignalCounts) (path : List (List ℕ)) (code : List ℕ) : Type 0 where
+pub record NamesSignal (symbols : List (Key × List ℕ)) (counts : SignalCounts) (path : List (List ℕ))
+    (code : List ℕ) : Type 0 where
   pub kind : Kind
   pub position : ℕ
   pub name : List ℕ

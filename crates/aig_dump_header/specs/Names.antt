@@ -1,6 +1,8 @@
 -- Identifier codes and names in a value change dump (IEEE 1364, value change dump). Which names a signal has is our own
 -- choice, after the symbols that yosys writes.
-use Rattle.std.specs.Prelude.{ℕ, zero, suc, ◌+◌, ◌%◌, ◌/◌, ◌==◌, ◌&&◌, ◌||◌, nat_lt, if◌then◌else◌, List, [], ◌∷◌, length, map, decimal}
+-- Example: the code of signal 94 is `!"`; `u1.q[0] x[0]` gives two names; a latch 3 without a symbol is `l3`.
+use Rattle.std.specs.Prelude.{ℕ, zero, suc, ◌+◌, ◌%◌, ◌/◌, ◌==◌, ◌&&◌, ◌||◌, nat_lt, if◌then◌else◌, List, [], ◌∷◌}
+use Rattle.std.specs.Prelude.{length, map, decimal}
 use Rattle.std.specs.List.{filter, slice_split}
 use Rattle.aig_parts.specs.declared.symbols.Kind.{Kind}
 use Rattle.aig_parts.specs.Letters.{letter}
@@ -29,8 +31,8 @@ cut_at cut text = slice_split (λ b. b == cut) text
 unfoldable pub words : List ℕ → List (List ℕ)
 words symbol = filter (λ word. nat_lt 0 (length word)) (cut_at 32 symbol)
 
--- white space, control bytes and all that is no ASCII become `_`, and so do a `:`, which viewers take for a range of bits,
--- and a `$` after a dot: no name is a keyword
+-- white space, control bytes and all that is no ASCII become `_`, and so do a `:`, which viewers take for a range of
+-- bits, and a `$` after a dot: no name is a keyword
 abbrev pub shown_byte : ℕ → ℕ → ℕ
 shown_byte before b = if nat_lt b 33 || (nat_lt 126 b || (b == 58 || (before == 46 && b == 36))) then 95 else b
 

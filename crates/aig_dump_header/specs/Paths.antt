@@ -1,5 +1,6 @@
 -- A name in scopes (IEEE 1364, value change dump: `$scope`, `$var`). Where the standard is silent, dots that
 -- separate scopes are our own choice, after the names that yosys writes.
+-- Example: `u1.q[0]` is `q[0]` in the scope `u1`; `a..b` is in no scope.
 use Rattle.std.specs.Prelude.{ℕ, ◌-◌, ◌==◌, if◌then◌else◌, Bool, List, [], ◌∷◌, length, take, slice_index_or}
 use Rattle.std.specs.List.{list_any}
 use Rattle.aig_dump_header.specs.Names.{cut_at}

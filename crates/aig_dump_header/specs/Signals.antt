@@ -1,6 +1,7 @@
 -- The names of a section's signals in the order of their lines: the first names of its entries, then the second ones of
 -- those that have one, and so on. Each run of bits of a vector is from its last to its first. Where the standard is
 -- silent, this order is our own choice.
+-- Example: symbols `a b` and `c`: `a c b`.
 use Rattle.std.specs.Prelude.{ℕ, zero, suc, ◌+◌, List, [], ◌∷◌, ◌++◌, map, flat_map}
 use Rattle.aig_parts.specs.declared.symbols.Kind.{Kind}
 use Rattle.aig_parts.specs.SymbolPlaces.{Key}

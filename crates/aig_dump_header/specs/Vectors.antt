@@ -1,6 +1,8 @@
 -- Bits of vectors: viewers join neighbouring lines X[n], X[n+1], .. and take the first as the most significant bit. So
 -- a run of such names is declared from its last to its first. Where the standard is silent, this is our own choice.
-use Rattle.std.specs.Prelude.{ℕ, ◌+◌, ◌-◌, ◌==◌, ◌&&◌, ◌||◌, not, Bool, false, nat_lt, nat_le, if◌then◌else◌, List, [], ◌∷◌, ◌++◌, length, take, slice_index_or, decimal, Option, None, Some, option_map}
+-- Example: `a[0] a[1] b` becomes `a[1] a[0] b`.
+use Rattle.std.specs.Prelude.{ℕ, ◌+◌, ◌-◌, ◌==◌, ◌&&◌, ◌||◌, not, Bool, false, nat_lt, nat_le, if◌then◌else◌, List, []}
+use Rattle.std.specs.Prelude.{◌∷◌, ◌++◌, length, take, slice_index_or, decimal, Option, None, Some, option_map}
 use Rattle.std.specs.Str.{all_ascii_digits, bytes_eq}
 use Rattle.std.specs.Str.Parse.{digits_value}
 

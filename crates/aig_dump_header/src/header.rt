@@ -108,7 +108,8 @@ fn push_section(
 ) -> Result<(), Memory>
     requires once { AllPairs (λ x y. x ≢ y) (keys_of symbols.now) }
     requires few { section.now.first + section.now.count < 2 ^ 32 }
-    ensures { OnOk result (text.new.items ≡ text.old.items ++ section_scope symbols.now section.now.kind scope.now shape.now
+    ensures { OnOk result (text.new.items ≡ text.old.items
+        ++ section_scope symbols.now section.now.kind scope.now shape.now
         section.now.first section.now.count) }
 {
     if section.count == 0 {

@@ -1,5 +1,6 @@
 //! Names of signals, as a circuit has them and as a dump shows them.
-ghost use Rattle.std.specs.Prelude.{◌≡◌, ◌≢◌, ℕ, ◌++◌, ◌<◌, ◌≤◌, [], ◌∷◌, length, slice_index, MatchOption, OnOk, AllPairs, decimal};
+ghost use Rattle.std.specs.Prelude.{◌≡◌, ◌≢◌, ℕ, ◌++◌, ◌<◌, ◌≤◌, [], ◌∷◌, length, slice_index, MatchOption, OnOk};
+ghost use Rattle.std.specs.Prelude.{AllPairs, decimal};
 ghost use Rattle.std.specs.Map.{keys_of};
 ghost use Rattle.aig_parts.specs.Letters.{letter};
 ghost use Rattle.aig_dump_header.specs.Names.{words, shown, shown_byte, names_of, symbol_of};
@@ -71,7 +72,8 @@ fn count_word(text: &[u8]) -> usize
 
 /// The first word of a symbol, or of the text after one of its words. A symbol of blanks has none.
 pub fn first_word(text: &[u8]) -> Option<FirstWord<'_>>
-    ensures { MatchOption result (words text.now ≡ []) (λ first. (words text.now ≡ first.word.now ∷ words first.rest.now)
+    ensures { MatchOption result (words text.now ≡ [])
+        (λ first. (words text.now ≡ first.word.now ∷ words first.rest.now)
         × (length first.rest.now < length text.now)) }
 {
     let word = &text[count_blanks(text)..];
@@ -111,7 +113,8 @@ pub fn names_at(symbols: &Symbols, kind: Kind, position: u32) -> Names<'_>
 /// The first of these names.
 pub fn first_name(names: Names<'_>) -> Option<FirstName<'_>>
     ensures { MatchOption result (names_left names.entry ≡ []) (λ first.
-        (names_left names.entry ≡ name_text first.name ∷ names_left first.rest) × (names_size first.rest < names_size names.entry)) }
+        (names_left names.entry ≡ name_text first.name ∷ names_left first.rest)
+        × (names_size first.rest < names_size names.entry)) }
 {
     match names {
         Names::Position(kind, position) => Some(FirstName {

@@ -110,7 +110,8 @@ pub fn push_scope(text: &mut Vec<u8>, name: &[u8]) -> Result<(), Memory>
 
 // Adds the lines that open scopes.
 fn push_scopes(text: &mut Vec<u8>, scopes: &[&[u8]]) -> Result<(), Memory>
-    ensures { OnOk result (text.new.items ≡ text.old.items ++ flat_map scope_line (map (λ scope. scope.now) scopes.now)) }
+    ensures { OnOk result (text.new.items ≡ text.old.items
+        ++ flat_map scope_line (map (λ scope. scope.now) scopes.now)) }
 {
     for scope in scopes {
         push_scope(text, scope)?;

@@ -1,5 +1,6 @@
 //! Runs of names that are the bits of a vector.
-ghost use Rattle.std.specs.Prelude.{◌≡◌, ◌≢◌, ◌++◌, ◌-◌, ◌<◌, ◌≤◌, ◌^◌, false, [], length, take, drop, map, reverse, All, IsTrue, IfSome, IfNone, OnOk, slice_index_or, option_map};
+ghost use Rattle.std.specs.Prelude.{◌≡◌, ◌≢◌, ◌++◌, ◌-◌, ◌<◌, ◌≤◌, ◌^◌, false, [], length, take, drop, map, reverse};
+ghost use Rattle.std.specs.Prelude.{All, IsTrue, IfSome, IfNone, OnOk, slice_index_or, option_map};
 ghost use Rattle.std.specs.Str.{all_ascii_digits};
 ghost use Rattle.std.specs.Str.Parse.{digits_value};
 ghost use Rattle.aig_dump_header.specs.Vectors as spec;
@@ -47,7 +48,8 @@ fn number_of(digits: &[u8]) -> u64
 
 // The place after the last `[`.
 fn after_bracket(name: &[u8]) -> Option<usize>
-    ensures some { IfSome result (λ place. (0 < place) × (place ≤ length name.now) × (slice_index_or name.now (place - 1) 0 ≡ 91)
+    ensures some { IfSome result (λ place. (0 < place) × (place ≤ length name.now)
+        × (slice_index_or name.now (place - 1) 0 ≡ 91)
         × All (λ b. b ≢ 91) (drop place name.now)) }
     ensures none { IfNone result (All (λ b. b ≢ 91) name.now) }
 {
@@ -63,7 +65,8 @@ fn after_bracket(name: &[u8]) -> Option<usize>
 
 // The digits before a last `]`.
 fn index_of(text: &[u8]) -> Option<&[u8]>
-    ensures some { IfSome result (λ digits. IsTrue (is_index_end text.now) × (digits.now ≡ take (length text.now - 1) text.now)
+    ensures some { IfSome result (λ digits. IsTrue (is_index_end text.now)
+        × (digits.now ≡ take (length text.now - 1) text.now)
         × IsTrue (is_index digits.now)) }
     ensures none { IfNone result (is_index_end text.now ≡ false) }
 {

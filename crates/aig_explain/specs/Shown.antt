@@ -1,4 +1,5 @@
 -- What an explanation may print: lines of escaped bytes.
+-- Example: the line that shows `a`, ESC, `b` is `  a\x1bb/`.
 use Rattle.std.specs.Prelude.{ℕ, ◌≡◌, List, [], ◌∷◌, ◌++◌, All}
 use Rattle.aig_terminal.specs.Shown.{ArePrintable, escaped}
 

@@ -6,8 +6,8 @@ use std::io;
 use std::marker::Model;
 use std::snapshot::Snapshot;
 
-/// Reads as `Std` does, and says which bytes are left, where the type of the reader below does. That type may not say so
-/// at first and say so later, so clauses look at the reader as it was at first too.
+/// Reads as `Std` does, and says which bytes are left, where the type of the reader below does. That type may not say
+/// so at first and say so later, so clauses look at the reader as it was at first too.
 #[derive(Drop)]
 pub struct Known<T: io::Read> {
     // It takes no bytes.

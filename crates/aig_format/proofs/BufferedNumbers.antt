@@ -1,9 +1,11 @@
 -- Numbers that are read from the buffered bytes.
-use Rattle.std.proofs.Common.{◌≡◌, ℕ, zero, suc, ◌+◌, ◌-◌, ◌*◌, ◌<◌, ◌≤◌, true, false, List, ◌∷◌, ◌++◌, length, get_or, drop}
+use Rattle.std.proofs.Common.{◌≡◌, ℕ, zero, suc, ◌+◌, ◌-◌, ◌*◌, ◌<◌, ◌≤◌, true, false, List, ◌∷◌, ◌++◌, length, get_or}
+use Rattle.std.proofs.Common.{drop}
 use Rattle.std.proofs.Common.{Some, None, Ok, refl, sym, ap, ◌∙◌, append_assoc, arith}
 use Rattle.std.proofs.lemmas.Bool.Decides.{nat_tests}
 use Rattle.std.proofs.lemmas.List.{drop_more, drop-append-le}
-use Rattle.aig_format.specs.state.Reading.{Read, EndsItself, is_digit, digit_at, digits_at, number_then, number_at, field_at, groups_at}
+use Rattle.aig_format.specs.state.Reading.{Read, EndsItself, is_digit, digit_at, digits_at, number_then, number_at}
+use Rattle.aig_format.specs.state.Reading.{field_at, groups_at}
 use Rattle.aig_format.proofs.Steps.{digits_on, digits_done}
 use Rattle.aig_format.proofs.Numbers.{byte_again}
 use Rattle.aig_format.proofs.Deltas.{last_group, more_group}

@@ -7,7 +7,8 @@ use Rattle.aig_format.specs.declared.reader.header.Format.{Format}
 use Rattle.aig_format.specs.declared.reader.header.Format.TheVariants.{Ascii, Binary}
 use Rattle.aig_format.specs.declared.reader.header.Counts.{Counts}
 use Rattle.aig_format.specs.Header.{are_wrong, counts_of, header_line}
-use Rattle.aig_format.specs.Spelling.{WrittenZeros, ascii, binary, literal_line, latch_line, implicit_latch_line, gate_line}
+use Rattle.aig_format.specs.Spelling.{WrittenZeros, ascii, binary, literal_line, latch_line, implicit_latch_line}
+use Rattle.aig_format.specs.Spelling.{gate_line}
 use Rattle.aig_format.specs.Spelling.{gate_deltas, lines, properties_of, names_text}
 use Rattle.aig_format.specs.Spells.{SpellsAscii, SpellsBinary, Spells, HasWrongCounts}
 use Rattle.aig_format.specs.state.Reading.{Refusal}

@@ -1,5 +1,6 @@
 -- Lists that grow as they are read: their lengths and sums.
-use Rattle.std.proofs.Common.{◌≡◌, ℕ, ◌+◌, ◌<◌, List, [], ◌∷◌, ◌++◌, length, get_or, take, map, refl, sym, ap, subst, ◌∙◌, ◌↔◌, arith, Contains, Bool, true, false, IsTrue}
+use Rattle.std.proofs.Common.{◌≡◌, ℕ, ◌+◌, ◌<◌, List, [], ◌∷◌, ◌++◌, length, get_or, take, map, refl, sym, ap, subst}
+use Rattle.std.proofs.Common.{◌∙◌, ◌↔◌, arith, Contains, Bool, true, false, IsTrue}
 use Rattle.std.specs.Prelude.{sum, sum_by, All}
 use Rattle.std.specs.Map.{keys_of}
 use Rattle.std.proofs.lemmas.List.{map-append, take_more}

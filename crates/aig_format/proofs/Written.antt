@@ -1,5 +1,6 @@
 -- What is written where nothing that may be left out is.
-use Rattle.std.proofs.Common.{◌<◌, ◌^◌, true, All, map, get_or, take, drop, length, ◌≡◌, ℕ, ◌-◌, arith, List, [], ◌∷◌, ◌++◌, Bool, false, cond, refl, sym, ap, ◌∙◌}
+use Rattle.std.proofs.Common.{◌<◌, ◌^◌, true, All, map, get_or, take, drop, length, ◌≡◌, ℕ, ◌-◌, arith, List, [], ◌∷◌}
+use Rattle.std.proofs.Common.{◌++◌, Bool, false, cond, refl, sym, ap, ◌∙◌}
 use Rattle.std.specs.Prelude.{not, ◌==◌, ◌&&◌}
 use Rattle.std.specs.List.{flat_map, list_all}
 use Rattle.std.specs.Fmt.{decimal}

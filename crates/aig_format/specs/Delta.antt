@@ -1,5 +1,6 @@
 -- A number in groups of seven bits (AIGER 1.0, binary format). A number below 128 is one byte; any greater n is the
 -- byte 128 + n mod 128, followed by the spelling of n / 128.
+-- Example: 300 is `ac 02`.
 use Rattle.std.specs.Prelude.{ℕ, zero, suc, ◌+◌, ◌/◌, ◌%◌, List, [], ◌∷◌, nat_lt, if◌then◌else◌}
 
 -- at most this many groups and one more

@@ -1,4 +1,5 @@
 -- What reading a file answers.
+-- Example: `aag 1 1 0 1 0/2/4/` is spelled, and `Range` is its first fault.
 use Rattle.std.specs.Prelude.{◌≡◌, ◌≢◌, ℕ, ◌+◌, ◌<◌, List, Result, Ok, Err, IfOk, IfErr}
 use Rattle.aig_parts.specs.declared.fault.Fault.{Fault}
 use Rattle.aig_parts.specs.declared.fault.Fault.TheVariants as faults

@@ -1,4 +1,5 @@
 -- In which format bytes spell parts.
+-- Example: `aag 0 0 0 0 0/` is in the text format.
 use Rattle.std.specs.Prelude.{ℕ, List, Result, Ok, Err}
 use Rattle.aig_parts.specs.declared.fault.Fault.{Fault}
 use Rattle.aig_parts.specs.declared.raw.Raw.{Raw}

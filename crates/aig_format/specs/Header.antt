@@ -1,5 +1,6 @@
 -- The header line (AIGER 1.0, header; AIGER 1.9 adds four counts). Where the standard is silent, as about limits, this
 -- is our own choice.
+-- Example: `aag 1 2 0 0 0/` is wrong: two inputs want two variables.
 use Rattle.std.specs.Prelude.{ℕ, ◌+◌, ◌-◌, ◌≤◌, Bool, true, List, [], ◌∷◌, ◌++◌, length, ◌==◌, ◌&&◌, not}
 use Rattle.std.specs.Prelude.{if◌then◌else◌, nat_lt}
 use Rattle.std.specs.Fmt.{decimal}

@@ -1,4 +1,5 @@
 -- The bytes of a circuit's parts in the two formats (AIGER 1.0; AIGER 1.9 for resets and properties).
+-- Example: `aag 1 0 1 0 0 0 0/2 2 0/` has the short spelling `aag 1 0 1 0 0/2 2/`.
 use Rattle.std.specs.Prelude.{ℕ, ◌-◌, Bool, false, List, [], ◌∷◌, ◌++◌, length, Option, None, Some, ◌==◌, ◌||◌}
 use Rattle.std.specs.Prelude.{not, if◌then◌else◌}
 use Rattle.std.specs.List.{flat_map}

@@ -1,5 +1,6 @@
 -- What bytes spell. What makes parts a circuit, such as the range of literals and what a reset may be, is no part of
 -- it. Where the standard is silent, the greatest number is our own choice.
+-- Example: both files above spell the same latch.
 use Rattle.std.specs.Prelude.{◌≡◌, ◌⊎◌, ℕ, ◌+◌, ◌≤◌, List, ◌++◌, length, true, All}
 use Rattle.aig_parts.specs.declared.raw.Raw.{Raw}
 use Rattle.aig_parts.specs.Formed.{IsFormed}

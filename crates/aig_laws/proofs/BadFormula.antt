@@ -1,5 +1,6 @@
 -- The formula of a bad state: its models, and the rows that are in them.
-use Rattle.std.proofs.Common.{◌≡◌, ◌≢◌, ◌⊎◌, inl, inr, ℕ, zero, suc, ◌+◌, ◌-◌, ◌*◌, ◌%◌, ◌<◌, ◌≤◌, Bool, true, false, not, ◌&&◌, ◌||◌}
+use Rattle.std.proofs.Common.{◌≡◌, ◌≢◌, ◌⊎◌, inl, inr, ℕ, zero, suc, ◌+◌, ◌-◌, ◌*◌, ◌%◌, ◌<◌, ◌≤◌, Bool, true, false}
+use Rattle.std.proofs.Common.{not, ◌&&◌, ◌||◌}
 use Rattle.std.proofs.Common.{List, [], ◌∷◌, ◌++◌, length, flat_map, Some, slice_get, slice_index, get_or, All}
 use Rattle.std.proofs.Common.{refl, sym, ◌∙◌, ap, ap₂, subst, arith}
 use Rattle.std.specs.List.{list_all, range_with_len}
@@ -41,7 +42,8 @@ use Rattle.aig_cnf.specs.Query.{within}
 use Rattle.aig_sat.specs.checker.Clause.{is_true, meets, Satisfies}
 use Rattle.aig_laws.specs.Models.{tern_of, values_of, AreKnown, NamesWitness, IsInModel}
 use Rattle.aig_cnf.proofs.SignLemmas.{signs}
-use Rattle.aig_laws.proofs.Tseitin.{and_both, both_and, assigned, known, gates_met, meets_gates, one_met, meets_one, true_even, true_below}
+use Rattle.aig_laws.proofs.Tseitin.{and_both, both_and, assigned, known, gates_met, meets_gates, one_met, meets_one}
+use Rattle.aig_laws.proofs.Tseitin.{true_even, true_below}
 
 -- ---- the unrolled circuit
 

@@ -1,6 +1,7 @@
 -- Some assignment satisfies the formula of an induction where a run disproves the induction: one from a start that the
 -- resets allow reaches the property within the frames, or one breaks the step.
-use Rattle.std.proofs.Common.{◌≡◌, ◌⊎◌, inl, inr, ℕ, zero, suc, ◌+◌, ◌-◌, ◌*◌, ◌%◌, ◌<◌, Bool, true, false, not, if◌then◌else◌, List, [], ◌∷◌, ◌++◌, length, map, flat_map}
+use Rattle.std.proofs.Common.{◌≡◌, ◌⊎◌, inl, inr, ℕ, zero, suc, ◌+◌, ◌-◌, ◌*◌, ◌%◌, ◌<◌, Bool, true, false, not}
+use Rattle.std.proofs.Common.{if◌then◌else◌, List, [], ◌∷◌, ◌++◌, length, map, flat_map}
 use Rattle.std.proofs.Common.{Some, slice_get, slice_index, option_map, All, refl, sym, ◌∙◌, ap, subst, arith, add-one}
 use Rattle.std.specs.List.{list_all}
 use Rattle.std.proofs.lemmas.Bool.Decides.{nat_tests}
@@ -22,7 +23,8 @@ use Rattle.aig_base.specs.Runs.{Allows}
 use Rattle.aig_base.specs.Sound.{IsReset}
 use Rattle.aig_base.specs.Value.{reset_value}
 use Rattle.aig_base.proofs.lists.Positions.{slice_get_right}
-use Rattle.aig_cnf.specs.Formula.{all_but_last, cone, first_reached, formula_of, gate_clauses, goals, implies, reads, reset_literal, reset_literals, start_literals}
+use Rattle.aig_cnf.specs.Formula.{all_but_last, cone, first_reached, formula_of, gate_clauses, goals, implies, reads}
+use Rattle.aig_cnf.specs.Formula.{reset_literal, reset_literals, start_literals}
 use Rattle.aig_cnf.specs.Query.{from_any_state, induction, uninitialised_latch}
 use Rattle.aig_cnf.proofs.AnyCircuit.{from_any_circuit}
 use Rattle.aig_cnf.proofs.FormulaText.{all_but_last-append}
@@ -38,7 +40,8 @@ use Rattle.aig_laws.proofs.FirstReached.{at_reached, both_satisfied, satisfies_b
 use Rattle.aig_laws.proofs.RowValues.{Allowed}
 use Rattle.aig_laws.proofs.SettledRows.{length_settled, makes_settled, settled, settled_known}
 use Rattle.aig_laws.proofs.StepFormula.{each_named}
-use Rattle.aig_laws.proofs.Tseitin.{and_both, both_and, gates_met, meets_gates, meets_one, true_even, true_negation, true_odd}
+use Rattle.aig_laws.proofs.Tseitin.{and_both, both_and, gates_met, meets_gates, meets_one, true_even, true_negation}
+use Rattle.aig_laws.proofs.Tseitin.{true_odd}
 use Rattle.aig_laws.proofs.UnrolledRows.{row_in, run_in}
 use Rattle.aig_laws.proofs.UnrolledWitnesses.{in_row}
 use Rattle.aig_laws.proofs.WithinFormula.{confirmed_at}

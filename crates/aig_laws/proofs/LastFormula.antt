@@ -1,5 +1,6 @@
 -- Some assignment satisfies the formula of a bad state at the last of k frames exactly where a run reaches it there.
-use Rattle.std.proofs.Common.{◌≡◌, ◌↔◌, ℕ, zero, suc, ◌+◌, ◌-◌, ◌*◌, ◌<◌, Bool, true, false, ◌&&◌, ◌||◌, List, [], ◌∷◌, ◌++◌, length, map, drop, flat_map, Some, slice_get, slice_index, get_or}
+use Rattle.std.proofs.Common.{◌≡◌, ◌↔◌, ℕ, zero, suc, ◌+◌, ◌-◌, ◌*◌, ◌<◌, Bool, true, false, ◌&&◌, ◌||◌, List, [], ◌∷◌}
+use Rattle.std.proofs.Common.{◌++◌, length, map, drop, flat_map, Some, slice_get, slice_index, get_or}
 use Rattle.std.proofs.Common.{refl, sym, ◌∙◌, ap, subst, arith, length-append}
 use Rattle.std.specs.List.{list_all}
 use Rattle.std.proofs.Math.Seq.{drop-append_seam}
@@ -19,7 +20,8 @@ use Rattle.aig_sim.specs.WitnessText.{Witness}
 use Rattle.aig_laws.specs.Models.{tern_of, values_of}
 use Rattle.aig_laws.specs.Satisfiable.{IsReachedAt, IsSatisfiable}
 use Rattle.aig_laws.specs.UnrolledWitness.{rows_in, start_in, IsConfirmedWithin, MakesBad}
-use Rattle.aig_laws.proofs.BadFormula.{bad_at, bad_in_range, formula_met, in_model, inputs_are, low_of, valued, wide_values}
+use Rattle.aig_laws.proofs.BadFormula.{bad_at, bad_in_range, formula_met, in_model, inputs_are, low_of, valued}
+use Rattle.aig_laws.proofs.BadFormula.{wide_values}
 use Rattle.aig_laws.proofs.SettledRows.{length_settled, makes_settled, settled, settled_known}
 use Rattle.aig_laws.proofs.Tseitin.{and_both, assigned, both_and, gates_met, meets_one}
 use Rattle.aig_laws.proofs.UnrolledRows.{run_in}

@@ -1,5 +1,6 @@
 -- An assignment that satisfies the formula of an induction names a run that disproves the induction.
-use Rattle.std.proofs.Common.{◌≡◌, ◌≢◌, ◌↔◌, ◌⊎◌, inl, inr, ℕ, zero, suc, ◌+◌, ◌-◌, ◌*◌, ◌%◌, ◌<◌, ◌≤◌, Bool, true, false, not, ◌&&◌, ◌||◌, if◌then◌else◌, List, [], ◌∷◌, ◌++◌, length, flat_map}
+use Rattle.std.proofs.Common.{◌≡◌, ◌≢◌, ◌↔◌, ◌⊎◌, inl, inr, ℕ, zero, suc, ◌+◌, ◌-◌, ◌*◌, ◌%◌, ◌<◌, ◌≤◌, Bool, true}
+use Rattle.std.proofs.Common.{false, not, ◌&&◌, ◌||◌, if◌then◌else◌, List, [], ◌∷◌, ◌++◌, length, flat_map}
 use Rattle.std.proofs.Common.{Some, slice_get, slice_index, get_or, All, refl, sym, ◌∙◌, ap, ap₂, subst, arith}
 use Rattle.std.specs.Prelude.{◌==◌}
 use Rattle.std.specs.List.{list_all, list_any}
@@ -24,18 +25,22 @@ use Rattle.aig_base.specs.Value as value
 use Rattle.aig_base.specs.Value.{Value, reset_value}
 use Rattle.aig_base.proofs.circuits.InOrder.{gate_number}
 use Rattle.aig_base.proofs.lists.Gets.{All-at}
-use Rattle.aig_cnf.specs.Formula.{Cnf, IsFormulaOf, all_but_last, cone, formula_of, gate_clauses, goals, implies, reads, reset_literal, reset_literals, start_literals}
+use Rattle.aig_cnf.specs.Formula.{Cnf, IsFormulaOf, all_but_last, cone, formula_of, gate_clauses, goals, implies, reads}
+use Rattle.aig_cnf.specs.Formula.{reset_literal, reset_literals, start_literals}
 use Rattle.aig_cnf.specs.Query.{from_any_state, induction}
 use Rattle.aig_cnf.proofs.AnyCircuit.{from_any_circuit}
 use Rattle.aig_sat.specs.checker.Clause.{is_true, meets, Satisfies}
 use Rattle.aig_laws.specs.Models.{tern_of, values_of}
-use Rattle.aig_laws.specs.Satisfiable.{BreaksStep, DisprovesInduction, HasBrokenStep, IsReachedWithin, IsSatisfiable, step_rows, step_start}
+use Rattle.aig_laws.specs.Satisfiable.{BreaksStep, DisprovesInduction, HasBrokenStep, IsReachedWithin, IsSatisfiable}
+use Rattle.aig_laws.specs.Satisfiable.{step_rows, step_start}
 use Rattle.aig_laws.specs.UnrolledWitness.{rows_in, start_in, IsRun, MakesBad}
 use Rattle.aig_laws.proofs.AnyState.{fits_from_any, reaches_any, reaches_from_any}
-use Rattle.aig_laws.proofs.BadFormula.{bad_at, bad_in_range, goal_frame, inputs_are, low_of, valued, values_known, wide_values}
+use Rattle.aig_laws.proofs.BadFormula.{bad_at, bad_in_range, goal_frame, inputs_are, low_of, valued, values_known}
+use Rattle.aig_laws.proofs.BadFormula.{wide_values}
 use Rattle.aig_laws.proofs.DisprovedInduction.{broken_satisfies, goals_before, reached_satisfies, start_at}
 use Rattle.aig_laws.proofs.FirstReached.{both_satisfied}
-use Rattle.aig_laws.proofs.Tseitin.{and_both, gates_met, none_of, one_met, only_row, tern_and, tern_not, true_below, true_even, true_negation, true_odd}
+use Rattle.aig_laws.proofs.Tseitin.{and_both, gates_met, none_of, one_met, only_row, tern_and, tern_not, true_below}
+use Rattle.aig_laws.proofs.Tseitin.{true_even, true_negation, true_odd}
 use Rattle.aig_laws.proofs.UnrolledRows.{known_in, run_in}
 use Rattle.aig_laws.proofs.UnrolledWitnesses.{reaches_in_row}
 use Rattle.aig_unroll.specs.FrameLiteral.{input_count, is_uninitialised}

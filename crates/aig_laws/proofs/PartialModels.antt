@@ -28,7 +28,8 @@ use Rattle.aig_laws.proofs.RowValues.{length-cut}
 use Rattle.aig_laws.proofs.Tseitin.{and_both, both_and, none_of, true_even, true_odd}
 use Rattle.aig_laws.proofs.UnrolledWitnesses.{confirms_row}
 use Rattle.aig_laws.specs.Models.{tern_of, values_of}
-use Rattle.aig_laws.specs.PartialModels.{is_one, value_in, literal_in, has_one, SatisfiesInPart, IsFilling, inputs_in, NamesRun}
+use Rattle.aig_laws.specs.PartialModels.{is_one, value_in, literal_in, has_one, SatisfiesInPart, IsFilling, inputs_in}
+use Rattle.aig_laws.specs.PartialModels.{NamesRun}
 use Rattle.aig_laws.specs.UnrolledWitness.{MakesBad, witness_in}
 use Rattle.aig_sim.specs.Verdict.{IsVerdict}
 use Rattle.aig_sim.specs.declared.witness.verdict.Verdict.TheVariants as verdict

@@ -1,5 +1,6 @@
 -- A run has the same verdict for a property and for the one that it was selected from.
-use Rattle.std.proofs.Common.{◌≡◌, ℕ, ◌-◌, ◌<◌, List, [], ◌∷◌, length, map, get_or, Some, slice_get, option_map, refl, sym, ◌∙◌, ap, All}
+use Rattle.std.proofs.Common.{◌≡◌, ℕ, ◌-◌, ◌<◌, List, [], ◌∷◌, length, map, get_or, Some, slice_get, option_map, refl}
+use Rattle.std.proofs.Common.{sym, ◌∙◌, ap, All}
 use Rattle.std.proofs.lemmas.Option.{slice_get-map, slice_get-get_or}
 use Rattle.aig_parts.specs.declared.latch.Latch.{Latch}
 use Rattle.aig_parts.specs.declared.raw.Raw.{Raw}
@@ -7,7 +8,8 @@ use Rattle.aig_parts.specs.declared.ternary.Tern.{Tern}
 use Rattle.aig_parts.specs.SymbolPlaces.{Key}
 use Rattle.aig_base.specs.declared.select.PropertySection.{PropertySection}
 use Rattle.aig_base.specs.declared.select.PropertySection.TheVariants as sections
-use Rattle.aig_base.specs.Selected.{properties_in, bad_in, outputs_in, with_properties, selected, selected_positions, AreProperties}
+use Rattle.aig_base.specs.Selected.{properties_in, bad_in, outputs_in, with_properties, selected, selected_positions}
+use Rattle.aig_base.specs.Selected.{AreProperties}
 use Rattle.aig_base.specs.Value as value
 use Rattle.aig_base.specs.Value.{Value}
 use Rattle.aig_base.proofs.lists.Gets.{All-at}

@@ -1,6 +1,7 @@
--- Some assignment satisfies the formula of the step of k frames exactly where a run from any state reaches the bad state
--- at frame k and at no frame before.
-use Rattle.std.proofs.Common.{◌≡◌, ◌↔◌, ℕ, ◌+◌, ◌*◌, ◌<◌, Bool, true, false, List, [], ◌∷◌, ◌++◌, length, flat_map, Some, slice_get, slice_index, get_or}
+-- Some assignment satisfies the formula of the step of k frames exactly where a run from any state reaches the bad
+-- state at frame k and at no frame before.
+use Rattle.std.proofs.Common.{◌≡◌, ◌↔◌, ℕ, ◌+◌, ◌*◌, ◌<◌, Bool, true, false, List, [], ◌∷◌, ◌++◌, length, flat_map}
+use Rattle.std.proofs.Common.{Some, slice_get, slice_index, get_or}
 use Rattle.std.proofs.Common.{refl, sym, ◌∙◌, ap, subst, arith}
 use Rattle.std.specs.List.{list_all}
 use Rattle.std.proofs.lemmas.Option.{slice_get-get_or, slice_get_within}
@@ -15,11 +16,13 @@ use Rattle.aig_cnf.specs.Formula.{Cnf, IsFormulaOf, first_reached, formula_of, g
 use Rattle.aig_cnf.specs.Query.{from_any_state, step}
 use Rattle.aig_sat.specs.checker.Clause.{is_true, meets, Satisfies}
 use Rattle.aig_laws.specs.Models.{AreKnown, tern_of, values_of}
-use Rattle.aig_laws.specs.Satisfiable.{BreaksStep, HasBrokenStep, IsKnownRun, IsNamedStep, IsSatisfiable, step_rows, step_start}
+use Rattle.aig_laws.specs.Satisfiable.{BreaksStep, HasBrokenStep, IsKnownRun, IsNamedStep, IsSatisfiable, step_rows}
+use Rattle.aig_laws.specs.Satisfiable.{step_start}
 use Rattle.aig_laws.specs.UnrolledWitness.{rows_in, start_in, IsRun, MakesBad}
 use Rattle.aig_cnf.proofs.AnyCircuit.{from_any_circuit}
 use Rattle.aig_laws.proofs.AnyState.{any_allowed, any_fits, fits_from_any, reaches_any, reaches_from_any}
-use Rattle.aig_laws.proofs.BadFormula.{bad_at, bad_in_range, formula_met, in_model, inputs_are, low_of, valued, values_known, wide_values}
+use Rattle.aig_laws.proofs.BadFormula.{bad_at, bad_in_range, formula_met, in_model, inputs_are, low_of, valued}
+use Rattle.aig_laws.proofs.BadFormula.{values_known, wide_values}
 use Rattle.aig_laws.proofs.FirstReached.{at_reached, both_satisfied, reached_at, satisfies_both}
 use Rattle.aig_laws.proofs.Tseitin.{and_both, assigned, both_and, gates_met}
 use Rattle.aig_laws.proofs.UnrolledRows.{known_in, row_known, row_of_run, row_wide, run_in}

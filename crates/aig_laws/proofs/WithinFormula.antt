@@ -1,5 +1,6 @@
 -- Some assignment satisfies the formula of a bad state within k frames exactly where a run reaches it within them.
-use Rattle.std.proofs.Common.{◌≡◌, ◌≢◌, ◌↔◌, ℕ, ◌+◌, ◌-◌, ◌<◌, Bool, List, [], ◌∷◌, length, map, take, Some, slice_get, get_or}
+use Rattle.std.proofs.Common.{◌≡◌, ◌≢◌, ◌↔◌, ℕ, ◌+◌, ◌-◌, ◌<◌, Bool, List, [], ◌∷◌, length, map, take, Some, slice_get}
+use Rattle.std.proofs.Common.{get_or}
 use Rattle.std.proofs.Common.{refl, sym, ◌∙◌, ap, subst, arith}
 use Rattle.std.proofs.lemmas.List.{length-take-le, get_or-take}
 use Rattle.std.proofs.lemmas.List.Elements.{All-take}
@@ -16,7 +17,8 @@ use Rattle.aig_sat.specs.checker.Clause.{Satisfies}
 use Rattle.aig_sim.specs.Reached.{witness_at}
 use Rattle.aig_sim.specs.WitnessText.{Witness}
 use Rattle.aig_laws.specs.Models.{AreKnown, values_of}
-use Rattle.aig_laws.specs.Satisfiable.{HasKnownWitness, IsKnownRun, IsKnownWitness, IsNamedWitness, IsReachedWithin, IsSatisfiable}
+use Rattle.aig_laws.specs.Satisfiable.{HasKnownWitness, IsKnownRun, IsKnownWitness, IsNamedWitness, IsReachedWithin}
+use Rattle.aig_laws.specs.Satisfiable.{IsSatisfiable}
 use Rattle.aig_laws.specs.UnrolledWitness.{rows_in, start_in, witness_in, IsConfirmedWithin}
 use Rattle.aig_laws.proofs.BadFormula.{in_model, reaches, values_known, wide_values}
 use Rattle.aig_laws.proofs.Reached.{confirms_reached}

@@ -1,4 +1,5 @@
 -- What two circuits have in common that show the same: traces, dumps, witnesses and verdicts.
+-- Example: with `11/`, `examples/two_gates.aag` and its renumbered form both have the trace ` 11 1 /`.
 use Rattle.std.specs.Prelude.{◌↔◌, ℕ, List}
 use Rattle.aig_parts.specs.declared.raw.Raw.{Raw}
 use Rattle.aig_parts.specs.declared.ternary.Tern.{Tern}

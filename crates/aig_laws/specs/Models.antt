@@ -1,4 +1,5 @@
 -- What an assignment says of a circuit: the input values of the unrolled circuit, and so a run.
+-- Example: with one input and two frames, variables 1 and 2 are the values of the input.
 use Rattle.std.specs.Prelude.{◌≡◌, ◌≢◌, ℕ, ◌<◌, Bool, true, false, List, map, All}
 use Rattle.std.specs.List.{range_with_len}
 use Rattle.aig_parts.specs.declared.raw.Raw.{Raw}

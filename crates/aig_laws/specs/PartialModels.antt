@@ -1,6 +1,8 @@
--- What values of variables say of a circuit where some are unknown: whether they make a formula true, and which run they
--- name. Which values those are of a solver's model is our own choice.
-use Rattle.std.specs.Prelude.{◌≡◌, ◌≢◌, ℕ, ◌%◌, nat_eq, Bool, true, false, IsTrue, if◌then◌else◌, List, take, drop, slice_index_or}
+-- What values of variables say of a circuit where some are unknown: whether they make a formula true, and which run
+-- they name. Which values those are of a solver's model is our own choice.
+-- Example: with one input and two frames, of the values `0`, `1`, `x` the rows are `1`, `x`.
+use Rattle.std.specs.Prelude.{◌≡◌, ◌≢◌, ℕ, ◌%◌, nat_eq, Bool, true, false, IsTrue, if◌then◌else◌, List, take, drop}
+use Rattle.std.specs.Prelude.{slice_index_or}
 use Rattle.std.specs.List.{list_all, list_any}
 use Rattle.aig_parts.specs.Literal.{variable}
 use Rattle.aig_parts.specs.Ternary.{kleene_not}
@@ -23,7 +25,8 @@ value_in values v = slice_index_or values v X
 
 -- the value of a literal
 abbrev pub literal_in : List Tern → ℕ → Tern
-literal_in values l = if nat_eq (l % 2) 0 then value_in values (variable l) else kleene_not (value_in values (variable l))
+literal_in values l =
+    if nat_eq (l % 2) 0 then value_in values (variable l) else kleene_not (value_in values (variable l))
 
 -- one of the clause's literals is 1
 abbrev pub has_one : List Tern → List ℕ → Bool

@@ -1,5 +1,9 @@
 -- What the formulas ask of a circuit (AIGER 1.9, bad state properties and invariant constraints): some assignment
 -- satisfies the formula exactly where there is such a run. Unknown values are our own choice.
+-- Examples: the start `1` and the row `0` reach literal 4, and are a witness of one frame; without constraints there is
+-- one for each k; the start `1` and the row `0` break the step of 0 frames; the start `1` of a latch with that reset,
+-- and two rows, disprove the induction over one frame; for the step of one frame of the example, variables 1 and 2 are
+-- the two rows, and variable 3 is the start.
 use Rattle.std.specs.Prelude.{◌≡◌, ◌⊎◌, ℕ, ◌+◌, ◌-◌, ◌<◌, ◌≤◌, Bool, List, length, Contains, Some, slice_get, All}
 use Rattle.aig_parts.specs.declared.raw.Raw.{Raw}
 use Rattle.aig_parts.specs.declared.ternary.Tern.{Tern}
@@ -51,8 +55,8 @@ pub record IsKnownWitness (raw : Raw) (k p : ℕ) (w : Witness) : Type 0 where
 abbrev pub HasKnownWitness : Raw → ℕ → ℕ → Type 0
 HasKnownWitness raw k p = (w : Witness) × IsKnownWitness raw k p w
 
--- A run of k + 1 frames, without unknown values, that reaches property p at frame k and at no frame before. It may start
--- in any state, whatever the resets are. With unknown values, a bad literal that is 1 whatever they are may be x.
+-- A run of k + 1 frames, without unknown values, that reaches property p at frame k and at no frame before. It may
+-- start in any state, whatever the resets are. With unknown values, a bad literal that is 1 whatever they are may be x.
 pub record BreaksStep (raw : Raw) (k p : ℕ) (start : List Tern) (rows : List (List Tern)) : Type 0 where
   pub fits : Fits raw start rows
   pub known : IsKnownRun start rows
@@ -66,8 +70,8 @@ pub record BreaksStep (raw : Raw) (k p : ℕ) (start : List Tern) (rows : List (
 abbrev pub HasBrokenStep : Raw → ℕ → ℕ → Type 0
 HasBrokenStep raw k p = (start : List Tern) × (rows : List (List Tern)) × BreaksStep raw k p start rows
 
--- A run of k + 1 frames, without unknown values, that disproves an induction over k frames: from a start that the resets
--- allow it reaches property p at one of the first k frames, or it breaks the step.
+-- A run of k + 1 frames, without unknown values, that disproves an induction over k frames: from a start that the
+-- resets allow it reaches property p at one of the first k frames, or it breaks the step.
 pub record DisprovesInduction (raw : Raw) (k p : ℕ) (start : List Tern) (rows : List (List Tern)) : Type 0 where
   pub known : IsKnownRun start rows
   pub frames : length rows ≡ k + 1

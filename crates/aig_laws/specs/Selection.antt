@@ -1,4 +1,5 @@
 -- What a selection of properties keeps.
+-- Example: for property 0 of the circuit that keeps property 2, and property 2.
 use Rattle.std.specs.Prelude.{◌↔◌, ℕ}
 use Rattle.aig_parts.specs.declared.raw.Raw.{Raw}
 use Rattle.aig_base.specs.declared.select.PropertySection.{PropertySection}
@@ -17,4 +18,5 @@ of_property p w = record w { property = p }
 
 -- for property p of the one circuit and property q of the other, the run of the witness has the same verdict
 abbrev pub HaveSameVerdictsOf : ℕ → ℕ → Raw → Raw → Witness → Type 0
-HaveSameVerdictsOf p q raw new w = (verdict : Verdict) → IsVerdict raw (of_property p w) verdict ↔ IsVerdict new (of_property q w) verdict
+HaveSameVerdictsOf p q raw new w =
+    (verdict : Verdict) → IsVerdict raw (of_property p w) verdict ↔ IsVerdict new (of_property q w) verdict

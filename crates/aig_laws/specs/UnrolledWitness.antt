@@ -1,5 +1,7 @@
 -- The run and the witness that a row of input values of an unrolled circuit holds. Where the standard is silent, this
 -- is our own choice.
+-- Examples: in the row `10x` are the rows `1`, `0` and the start `x`; the row `101` makes the bad literal of frame 0 1,
+-- and so the witness with the start `1` and the row `1` is confirmed; `10x` makes it x.
 use Rattle.std.specs.Prelude.{◌≡◌, ◌≢◌, ◌↔◌, ℕ, zero, suc, ◌+◌, ◌-◌, ◌*◌, ◌<◌, ◌≤◌, if◌then◌else◌, List, [], ◌∷◌}
 use Rattle.std.specs.Prelude.{length, take, drop, Some, slice_get, slice_index_or}
 use Rattle.aig_parts.specs.declared.latch.Latch.{Latch}

@@ -11,8 +11,10 @@ ghost use Rattle.aig_cnf.specs.Query.{from_any_state, induction, last, step, wit
 ghost use Rattle.aig_sat.specs.checker.Clause.{Satisfies};
 ghost use Rattle.aig_sim.specs.WitnessText.{Witness};
 ghost use Rattle.aig_laws.specs.Models.{AreKnown, IsInModel, NamesWitness};
-ghost use Rattle.aig_laws.specs.Satisfiable.{HasKnownWitness, HasRun, IsKnownWitness, IsNamedWitness, IsReachedAt, IsReachedWithin};
-ghost use Rattle.aig_laws.specs.Satisfiable.{BreaksStep, DisprovesInduction, HasBrokenStep, IsNamedStep, IsSatisfiable, step_rows, step_start};
+ghost use Rattle.aig_laws.specs.Satisfiable.{HasKnownWitness, HasRun, IsKnownWitness, IsNamedWitness, IsReachedAt};
+ghost use Rattle.aig_laws.specs.Satisfiable.{IsReachedWithin};
+ghost use Rattle.aig_laws.specs.Satisfiable.{BreaksStep, DisprovesInduction, HasBrokenStep, IsNamedStep, IsSatisfiable};
+ghost use Rattle.aig_laws.specs.Satisfiable.{step_rows, step_start};
 ghost use Rattle.aig_laws.specs.UnrolledWitness.{MakesBad};
 ghost use Rattle.aig_unroll.specs.FrameLiteral.{input_count};
 
@@ -38,9 +40,9 @@ pub fn law_of_formula()
         AreKnown row → MakesBad raw order k row t p → IsInModel raw order k p row }
 {}
 
-/// Some assignment satisfies the formula of a bad state at the last of k frames exactly where a run from a start that the
-/// resets allow reaches it there. So some assignment satisfies the formula of `Formula::alive` exactly where such a run
-/// keeps all constraints at k frames.
+/// Some assignment satisfies the formula of a bad state at the last of k frames exactly where a run from a start that
+/// the resets allow reaches it there. So some assignment satisfies the formula of `Formula::alive` exactly where such a
+/// run keeps all constraints at k frames.
 pub fn law_of_last()
     ensures reached { (raw : Raw) (formula : Cnf) (k p : ℕ) →
         IsCircuit raw → IsFormulaOf raw (last k p) formula → 0 < k → p < length raw.bad →
@@ -67,8 +69,8 @@ pub fn law_of_step()
 {}
 
 /// Some assignment satisfies the formula of an induction over k frames exactly where a run from a start that the resets
-/// allow reaches the bad state within them, or a run breaks the step. Each assignment that satisfies it names such a run,
-/// its start and its rows.
+/// allow reaches the bad state within them, or a run breaks the step. Each assignment that satisfies it names such a
+/// run, its start and its rows.
 pub fn law_of_induction_formula()
     ensures reached { (raw : Raw) (formula : Cnf) (k p : ℕ) →
         IsCircuit raw → IsFormulaOf raw (induction k p) formula → p < length raw.bad →

@@ -1,4 +1,5 @@
 -- A circuit whose properties of one section have the names of a text, one per line (our own choice).
+-- Example: `aag 1 1 0 0 0 2/2/2/3/` with `p//`: the symbol `b0 p`.
 use Rattle.std.specs.Prelude.{◌≡◌, ◌≢◌, ℕ, ◌+◌, List, [], ◌∷◌, ◌++◌, length, filter, Bool, true, false, All, ⊤}
 use Rattle.std.specs.List.{flat_map}
 use Rattle.aig_parts.specs.declared.raw.Raw.{Raw}

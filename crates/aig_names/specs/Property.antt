@@ -1,4 +1,5 @@
 -- Which property a text names (our own choice): by its number, or else by its symbol.
+-- Example: `3` and `b3` are position 3.
 use Rattle.std.specs.Prelude.{◌≡◌, ◌≢◌, ◌⊎◌, ℕ, ◌<◌, ◌^◌, List, ◌∷◌, decimal, Contains}
 use Rattle.aig_parts.specs.Letters.{letter}
 use Rattle.aig_parts.specs.declared.raw.Raw.{Raw}

@@ -45,8 +45,8 @@ fn position_named(
     }
 }
 
-/// The position of the property of a section that a text names: by its number, as `3` or `b3`, else by its symbol, which
-/// no other property of the section has. A number may be over the end of the section. Linear in the symbols.
+/// The position of the property of a section that a text names: by its number, as `3` or `b3`, else by its symbol,
+/// which no other property of the section has. A number may be over the end of the section. Linear in the symbols.
 pub fn position_of(
     circuit: &Circuit,
     section: PropertySection,

@@ -1,5 +1,6 @@
 //! A circuit whose properties have the names of a text.
-ghost use Rattle.std.specs.Prelude.{◌≡◌, ◌≢◌, ◌∷◌, ◌++◌, length, All, AllPairs, IfOk, IfErr, IfSome, IfNone, OnOk, Contains, option_copied};
+ghost use Rattle.std.specs.Prelude.{◌≡◌, ◌≢◌, ◌∷◌, ◌++◌, length, All, AllPairs, IfOk, IfErr, IfSome, IfNone, OnOk};
+ghost use Rattle.std.specs.Prelude.{Contains, option_copied};
 ghost use Rattle.std.specs.Map.{keys_of};
 ghost use Rattle.aig_base.specs.Selected as selected;
 ghost use Rattle.aig_base.specs.Selected.{properties_in};

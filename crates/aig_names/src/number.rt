@@ -39,8 +39,8 @@ fn word_after(letter: u8, text: &[u8]) -> Option<&[u8]>
     }
 }
 
-/// The position that a text names by its number, as `3`, or with the letter of the section before it, as `b3`. It may be
-/// over the end of the section.
+/// The position that a text names by its number, as `3`, or with the letter of the section before it, as `b3`. It may
+/// be over the end of the section.
 pub fn number_of(section: PropertySection, text: &[u8]) -> Option<u32>
     ensures some { IfSome result (IsNumbered section text.now) }
     ensures none { IfNone result (IsUnnumbered section text.now) }

@@ -1,5 +1,6 @@
 -- Bits of entries, in pages.
-use Rattle.std.proofs.Common.{◌≡◌, ◌⊎◌, ◌↔◌, inl, inr, ℕ, ◌%◌, ◌<◌, ◌≤◌, List, [], Result, Ok, Err, length, get_or, set, eqb, if◌then◌else◌, refl, sym, ap, subst, ◌∙◌, arith, get_or-set_other, get_or-set_same}
+use Rattle.std.proofs.Common.{◌≡◌, ◌⊎◌, ◌↔◌, inl, inr, ℕ, ◌%◌, ◌<◌, ◌≤◌, List, [], Result, Ok, Err, length, get_or, set}
+use Rattle.std.proofs.Common.{eqb, if◌then◌else◌, refl, sym, ap, subst, ◌∙◌, arith, get_or-set_other, get_or-set_same}
 use Rattle.std.proofs.lemmas.Bool.{cases_eq}
 use Rattle.std.specs.Prelude.{OnOk, OnErr}
 use Rattle.std.proofs.lemmas.List.{get_or_past, get_or_read, set-get_or}

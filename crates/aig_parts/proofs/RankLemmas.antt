@@ -1,5 +1,6 @@
 -- Entries that are found by a number.
-use Rattle.std.proofs.Common.{◌≡◌, ◌≢◌, ◌⊎◌, inl, inr, ℕ, ◌+◌, ◌-◌, ◌<◌, List, length, take, get_or, set, Contains, sym, ap, ◌∙◌, arith, get_or-set_other, get_or-set_same, refl}
+use Rattle.std.proofs.Common.{◌≡◌, ◌≢◌, ◌⊎◌, inl, inr, ℕ, ◌+◌, ◌-◌, ◌<◌, List, length, take, get_or, set, Contains, sym}
+use Rattle.std.proofs.Common.{ap, ◌∙◌, arith, get_or-set_other, get_or-set_same, refl}
 use Rattle.std.specs.Map.{keys_of}
 use Rattle.std.proofs.lemmas.Bool.{cases_eq}
 use Rattle.std.proofs.lemmas.List.{length-take-le, get_or-take, get_or_default}

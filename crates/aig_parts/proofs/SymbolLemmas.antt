@@ -1,11 +1,14 @@
 -- Names by their places in one list of bytes.
-use Rattle.std.proofs.Common.{◌≡◌, ◌≢◌, ◌⊎◌, ◌↔◌, inl, inr, ℕ, ◌+◌, ◌-◌, ◌<◌, ◌≤◌, List, [], ◌∷◌, ◌++◌, length, take, drop, get_or, Contains, AllPairs, refl, sym, ap, subst, ◌∙◌, arith, length-append}
+use Rattle.std.proofs.Common.{◌≡◌, ◌≢◌, ◌⊎◌, ◌↔◌, inl, inr, ℕ, ◌+◌, ◌-◌, ◌<◌, ◌≤◌, List, [], ◌∷◌, ◌++◌, length, take}
+use Rattle.std.proofs.Common.{drop, get_or, Contains, AllPairs, refl, sym, ap, subst, ◌∙◌, arith, length-append}
 use Rattle.std.specs.Prelude.{All, slice_range, Option, Some, None, IfSome, IfNone, IsSome}
 use Rattle.std.specs.Map.{keys_of}
 use Rattle.std.proofs.lemmas.Bool.{false≢true}
-use Rattle.std.proofs.lemmas.List.{map-append, length-map, length-take-le, take_more, take-map, get_or-take, get_or-map, take-append-le, drop-append-le, length-drop, drop_at}
+use Rattle.std.proofs.lemmas.List.{map-append, length-map, length-take-le, take_more, take-map, get_or-take, get_or-map}
+use Rattle.std.proofs.lemmas.List.{take-append-le, drop-append-le, length-drop, drop_at}
 use Rattle.std.proofs.Math.Seq.{take-length}
-use Rattle.std.proofs.lemmas.List.Elements.{All-nil, All-head, All-contains, All-tail, All-push, All-weaker, Contains-get_or, Contains-append_left, Contains-push, Contains-push_cases}
+use Rattle.std.proofs.lemmas.List.Elements.{All-nil, All-head, All-contains, All-tail, All-push, All-weaker}
+use Rattle.std.proofs.lemmas.List.Elements.{Contains-get_or, Contains-append_left, Contains-push, Contains-push_cases}
 use Rattle.std.proofs.lemmas.List.Quantifiers.{all_pairs_push}
 use Rattle.aig_parts.specs.declared.symbols.places.Place.{Place}
 use Rattle.indexmap.specs.IndexMap.{IndexMap, insert_entry}

@@ -1,5 +1,6 @@
--- Formed parts: counts within the limits (our own choice), and each symbol names an entry that is there, which has one name
--- (AIGER 1.0, symbol table).
+-- Formed parts: counts within the limits (our own choice), and each symbol names an entry that is there, which has one
+-- name (AIGER 1.0, symbol table).
+-- Example: two inputs and a symbol `i2 a` are not formed: there is no input 2.
 use Rattle.std.specs.Prelude.{ℕ, ◌≤◌, ◌<◌, ◌≢◌, List, length, sum_by, All, AllPairs}
 use Rattle.std.specs.Map.{keys_of}
 use Rattle.aig_parts.specs.declared.raw.Raw.{Raw}

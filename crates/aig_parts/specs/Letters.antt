@@ -1,4 +1,5 @@
 -- The letters of sections in symbol lines (AIGER 1.0; AIGER 1.9 for properties).
+-- Example: `i` is the letter of inputs, `c` that of constraints.
 use Rattle.std.specs.Prelude.{ℕ}
 use Rattle.aig_parts.specs.declared.symbols.Kind.{Kind}
 use Rattle.aig_parts.specs.declared.symbols.Kind.TheVariants.{Input, Latch, Output, Bad, Constraint, Justice, Fairness}

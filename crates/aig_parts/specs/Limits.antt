@@ -1,4 +1,5 @@
 -- The limits of frames and cells (our own choice).
+-- Example: 65,536 frames of 1,024 variables fill a grid.
 use Rattle.std.specs.Prelude.{ℕ}
 
 -- the greatest number of frames of a stimulus, of a witness's run and of an unrolling

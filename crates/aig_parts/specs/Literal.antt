@@ -1,5 +1,6 @@
 -- Literals (AIGER 1.0, ASCII format). A literal is a number. Its variable is the half of it, rounded down, and an odd
 -- literal is the negation of the even one below it.
+-- Example: literal 9 has variable 4 and negates 8.
 use Rattle.std.specs.Prelude.{◌≡◌, ℕ, ◌+◌, ◌-◌, ◌/◌, ◌%◌, nat_eq, if◌then◌else◌}
 
 abbrev pub variable : ℕ → ℕ

@@ -1,4 +1,5 @@
 -- Names that lie in one list of bytes.
+-- Example: of the bytes `ena` the place from 0 to 2 has the name `en`.
 use Rattle.std.specs.Prelude.{ℕ, List, map, slice_range}
 use Rattle.aig_parts.specs.declared.symbols.Kind.{Kind}
 use Rattle.aig_parts.specs.declared.symbols.places.Place.{Place}

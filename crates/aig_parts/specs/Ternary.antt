@@ -1,4 +1,5 @@
 -- Kleene's tables for 0, 1 and unknown (AIGER 1.9, resets; our own choice).
+-- Example: `x AND 0` is 0, `x AND 1` is x.
 use Rattle.aig_parts.specs.declared.ternary.Tern.{Tern}
 use Rattle.aig_parts.specs.declared.ternary.Tern.TheVariants.{Zero, One, X}
 

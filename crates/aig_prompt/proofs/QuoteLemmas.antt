@@ -1,5 +1,7 @@
 -- Texts with a quote.
-use Rattle.std.proofs.Common.{◌≡◌, ◌≢◌, ◌⊎◌, inl, inr, ℕ, zero, suc, ◌+◌, ◌-◌, ◌^◌, ◌<◌, ◌≤◌, List, [], ◌∷◌, ◌++◌, length, get_or, take, drop, map, All, Some, Result, Ok, Err, refl, sym, ap, subst, ◌∙◌, arith}
+use Rattle.std.proofs.Common.{◌≡◌, ◌≢◌, ◌⊎◌, inl, inr, ℕ, zero, suc, ◌+◌, ◌-◌, ◌^◌, ◌<◌, ◌≤◌, List, [], ◌∷◌, ◌++◌}
+use Rattle.std.proofs.Common.{length, get_or, take, drop, map, All, Some, Result, Ok, Err, refl, sym, ap, subst, ◌∙◌}
+use Rattle.std.proofs.Common.{arith}
 use Rattle.std.specs.Prelude.{reverse, slice_get, IfErr, None, decimal, true, false}
 use Rattle.std.specs.Char.{digit_value}
 use Rattle.std.specs.Str.Parse.{AllDigits}
@@ -11,7 +13,8 @@ use Rattle.std.proofs.Math.Seq.{get_or-append_seam, take-append_seam, drop-appen
 use Rattle.aig_parts.specs.declared.ternary.Tern.{Tern}
 use Rattle.aig_prompt.specs.declared.value.ValueFault.{ValueFault}
 use Rattle.aig_prompt.specs.declared.value.ValueFault.TheVariants as faults
-use Rattle.aig_prompt.specs.Value.{digit_of, letter_value, is_unknown, IsUnknown, Reads, ReadsSized, RefusesBits, RefusesValue, reads_unknown, reads_letters, reads_digits, reads_sized}
+use Rattle.aig_prompt.specs.Value.{digit_of, letter_value, is_unknown, IsUnknown, Reads, ReadsSized, RefusesBits}
+use Rattle.aig_prompt.specs.Value.{RefusesValue, reads_unknown, reads_letters, reads_digits, reads_sized}
 use Rattle.aig_prompt.proofs.ValueLemmas.{not_digit, not_letters}
 
 small_digit : digit_value 39 < 10 → ⊥

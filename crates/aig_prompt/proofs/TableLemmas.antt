@@ -1,12 +1,14 @@
 -- Tables as text: lines, blocks of columns, and all blocks.
-use Rattle.std.proofs.Common.{◌≡◌, ℕ, zero, suc, ◌+◌, ◌-◌, ◌<◌, ◌≤◌, List, [], ◌∷◌, ◌++◌, length, get_or, map, take, refl, sym, ap, ◌∙◌, subst, append_assoc, append-nil, arith}
+use Rattle.std.proofs.Common.{◌≡◌, ℕ, zero, suc, ◌+◌, ◌-◌, ◌<◌, ◌≤◌, List, [], ◌∷◌, ◌++◌, length, get_or, map, take}
+use Rattle.std.proofs.Common.{refl, sym, ap, ◌∙◌, subst, append_assoc, append-nil, arith}
 use Rattle.std.specs.Prelude.{max, fold, sum, codes, decimal}
 use Rattle.std.specs.List.{flat_map, range_with_len}
 use Rattle.std.proofs.lemmas.List.{map_more, take_all}
 use Rattle.std.proofs.lemmas.List.Sums.{fold-append, sum_by-cons, sum_by-append}
 use Rattle.std.proofs.lemmas.Grind.{flat_map-append}
 use Rattle.aig_prompt.specs.declared.table.Row.{Row}
-use Rattle.aig_prompt.specs.Table.{TableRow, row_of, cell_at, name_text, cell_text, line_text, gap, block_text, blocks_text}
+use Rattle.aig_prompt.specs.Table.{TableRow, row_of, cell_at, name_text, cell_text, line_text, gap, block_text}
+use Rattle.aig_prompt.specs.Table.{blocks_text}
 
 -- the first of some numbers
 numbers_step : (k n : ℕ) → k < n → range_with_len k (n - k) ≡ k ∷ range_with_len (k + 1) (n - (k + 1))

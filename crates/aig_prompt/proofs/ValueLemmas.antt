@@ -1,8 +1,13 @@
 -- Bits, digits and numbers.
-use Rattle.std.proofs.Common.{◌≡◌, ◌≢◌, ◌⊎◌, inl, inr, ℕ, zero, suc, ◌+◌, ◌-◌, ◌*◌, ◌/◌, ◌%◌, ◌^◌, ◌<◌, ◌≤◌, List, [], ◌∷◌, ◌++◌, length, get_or, take, drop, map, All, Some, Result, Ok, Err, refl, sym, ap, ◌∙◌, arith, add-one, length-take, append_assoc, append-nil, length-drop, subst, take-append-drop}
+use Rattle.std.proofs.Common.{◌≡◌, ◌≢◌, ◌⊎◌, inl, inr, ℕ, zero, suc, ◌+◌, ◌-◌, ◌*◌, ◌/◌, ◌%◌, ◌^◌, ◌<◌, ◌≤◌, List, []}
+use Rattle.std.proofs.Common.{◌∷◌, ◌++◌, length, get_or, take, drop, map, All, Some, Result, Ok, Err, refl, sym, ap}
+use Rattle.std.proofs.Common.{◌∙◌, arith, add-one, length-take, append_assoc, append-nil, length-drop, subst}
+use Rattle.std.proofs.Common.{take-append-drop}
 use Rattle.std.proofs.lemmas.Bool.{true≢false, eqb-true}
-use Rattle.std.specs.Prelude.{reverse, flat_map, fold, slice_get, Bool, IfErr, IfOk, None, decimal, ◌==◌, ◌||◌, true, false}
-use Rattle.std.proofs.lemmas.List.{map-append, reverse-append, drop_more, drop_all, take_more, take_all, take-append-le, drop-append-le}
+use Rattle.std.specs.Prelude.{reverse, flat_map, fold, slice_get, Bool, IfErr, IfOk, None, decimal, ◌==◌, ◌||◌, true}
+use Rattle.std.specs.Prelude.{false}
+use Rattle.std.proofs.lemmas.List.{map-append, reverse-append, drop_more, drop_all, take_more, take_all, take-append-le}
+use Rattle.std.proofs.lemmas.List.{drop-append-le}
 use Rattle.std.proofs.Math.Seq.{take-append_seam}
 use Rattle.std.proofs.lemmas.List.Elements.{All-append, All-cons, All-take}
 use Rattle.std.proofs.lemmas.List.Sums.{fold-append}
@@ -11,13 +16,17 @@ use Rattle.std.proofs.lemmas.Grind.{flat_map-append, common_steps}
 use Rattle.std.proofs.Math.Nat.{mod-add-div, mod-lt, mul_assoc, pow-succ'}
 use Rattle.aig_parts.specs.declared.ternary.Tern.{Tern}
 use Rattle.aig_parts.specs.declared.ternary.Tern.TheVariants.{Zero, One, X}
-use Rattle.aig_prompt.specs.Value.{bit_value, digit_bits, digit_number, digit_of, digits_bits, letter_value, number_bits, numeral, IsDigit, IsFitted, IsHexadecimal, IsNumeral, Reads, ReadsBase, ReadsSized}
+use Rattle.aig_prompt.specs.Value.{bit_value, digit_bits, digit_number, digit_of, digits_bits, letter_value}
+use Rattle.aig_prompt.specs.Value.{number_bits, numeral, IsDigit, IsFitted, IsHexadecimal, IsNumeral, Reads, ReadsBase}
+use Rattle.aig_prompt.specs.Value.{ReadsSized}
 use Rattle.std.specs.Option.{is_some}
 use Rattle.aig_prompt.specs.declared.value.Bits.{Bits}
 use Rattle.aig_prompt.specs.declared.value.ValueFault.{ValueFault}
 use Rattle.aig_prompt.specs.declared.value.ValueFault.TheVariants as faults
 use Rattle.aig_prompt.specs.state.Gathered.{Gathers}
-use Rattle.aig_prompt.specs.Value.{AreLetters, IsDecimal, IsUnknown, RefusesBits, RefusesValue, has_unknown, is_unknown, reads_unknown, reads_letters, reads_digits, reads_sized, in_base_2, in_base_10, in_base_16}
+use Rattle.aig_prompt.specs.Value.{AreLetters, IsDecimal, IsUnknown, RefusesBits, RefusesValue, has_unknown, is_unknown}
+use Rattle.aig_prompt.specs.Value.{reads_unknown, reads_letters, reads_digits, reads_sized, in_base_2, in_base_10}
+use Rattle.aig_prompt.specs.Value.{in_base_16}
 
 turned_more : {X : Type 0} (front : List X) (x : X) → reverse (front ++ x ∷ []) ≡ x ∷ reverse front
 turned_more front x = reverse-append front (x ∷ [])

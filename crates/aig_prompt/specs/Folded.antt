@@ -1,4 +1,5 @@
 -- Lines that are folded at their spaces (our own choice).
+-- Example: `a b` in two lines has the words `a` and `b`.
 use Rattle.std.specs.Prelude.{◌≡◌, ℕ, ◌==◌, ◌||◌, nat_lt, Bool, true, List, [], ◌∷◌, ◌++◌, length, All}
 use Rattle.std.specs.List.{filter, slice_split}
 

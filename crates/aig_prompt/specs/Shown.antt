@@ -1,4 +1,5 @@
 -- Bytes as a terminal shows them (our own choice).
+-- Example: ESC is `\x1b`.
 use Rattle.std.specs.Prelude.{ℕ, ◌+◌, ◌/◌, ◌%◌, ◌||◌, nat_lt, if◌then◌else◌, List, [], ◌∷◌}
 use Rattle.std.specs.List.{flat_map}
 

@@ -1,6 +1,8 @@
--- Tables of texts, with frames as columns (our own choice). How wide the columns of cells are, and how many of them stand side
--- by side, is only tested.
-use Rattle.std.specs.Prelude.{◌≡◌, ℕ, zero, suc, ◌+◌, ◌-◌, nat_lt, min, max, if◌then◌else◌, List, [], ◌∷◌, ◌++◌, length, map, take, replicate, fold, sum, codes, decimal, slice_index_or}
+-- Tables of texts, with frames as columns (our own choice). How wide the columns of cells are, and how many of them
+-- stand side by side, is only tested.
+-- Example: after `frame  0  1`, `rst    1  0`.
+use Rattle.std.specs.Prelude.{◌≡◌, ℕ, zero, suc, ◌+◌, ◌-◌, nat_lt, min, max, if◌then◌else◌, List, [], ◌∷◌, ◌++◌, length}
+use Rattle.std.specs.Prelude.{map, take, replicate, fold, sum, codes, decimal, slice_index_or}
 use Rattle.std.specs.List.{flat_map, range_with_len}
 use Rattle.aig_prompt.specs.declared.table.Row.{Row}
 
@@ -53,7 +55,8 @@ gap (suc k) = 10 ∷ []
 -- all columns from a place on, in blocks of so many columns each
 unfoldable pub blocks_text : ℕ → ℕ → ℕ → List TableRow → ℕ → List ℕ → List ℕ
 blocks_text names cells t rows k [] = []
-blocks_text names cells t rows k (n ∷ sizes) = gap k ++ (block_text names cells t rows k n ++ blocks_text names cells t rows (k + n) sizes)
+blocks_text names cells t rows k (n ∷ sizes) =
+    gap k ++ (block_text names cells t rows k n ++ blocks_text names cells t rows (k + n) sizes)
 
 -- the text is that of rows, with so many frames from frame t on as columns
 abbrev pub IsTable : ℕ → ℕ → List TableRow → List ℕ → Type 0

@@ -1,5 +1,9 @@
 -- Values as people type them (our own choice, after Verilog's integer constants).
-use Rattle.std.specs.Prelude.{◌≡◌, ◌≢◌, ◌⊎◌, ℕ, zero, suc, ◌+◌, ◌-◌, ◌*◌, ◌/◌, ◌%◌, ◌^◌, ◌<◌, ◌≤◌, ◌==◌, ◌||◌, Bool, true, false, nat_lt, nat_le, if◌then◌else◌, List, [], ◌∷◌, ◌++◌, length, map, reverse, take, drop, replicate, All, Contains, decimal, codes, fold, Option, None, Some}
+-- Example: `a5` and `8'd165` are the bits 1, 0, 1, 0, 0, 1, 0, 1 from bit 0 up; `1x` is x and then 1; `x` is x for each
+-- bit.
+use Rattle.std.specs.Prelude.{◌≡◌, ◌≢◌, ◌⊎◌, ℕ, zero, suc, ◌+◌, ◌-◌, ◌*◌, ◌/◌, ◌%◌, ◌^◌, ◌<◌, ◌≤◌, ◌==◌, ◌||◌, Bool}
+use Rattle.std.specs.Prelude.{true, false, nat_lt, nat_le, if◌then◌else◌, List, [], ◌∷◌, ◌++◌, length, map, reverse}
+use Rattle.std.specs.Prelude.{take, drop, replicate, All, Contains, decimal, codes, fold, Option, None, Some}
 use Rattle.std.specs.List.{flat_map, list_any}
 use Rattle.std.specs.Option.{unwrap_or}
 use Rattle.aig_parts.specs.declared.ternary.Tern.{Tern}
@@ -94,8 +98,8 @@ pub data ReadsBase (rest : List ℕ) (bits : List Tern) : Type 0 where
 abbrev pub ReadsSized : List ℕ → List ℕ → List Tern → Type 0
 ReadsSized size rest bits = (size ≡ decimal (length bits)) × ReadsBase rest bits
 
--- a text that is a value: x for all bits; letters of which one is x; digits of base 16; or the width, a quote, a base and
--- digits or letters
+-- a text that is a value: x for all bits; letters of which one is x; digits of base 16; or the width, a quote, a base
+-- and digits or letters
 pub data Reads (text : List ℕ) (bits : List Tern) : Type 0 where
   reads_unknown : IsUnknown text → bits ≡ replicate (length bits) X → Reads text bits
   reads_letters : has_unknown text ≡ true → AreLetters text bits → Reads text bits

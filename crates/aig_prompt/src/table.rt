@@ -1,5 +1,6 @@
 //! Tables of values, with frames as columns.
-ghost use Rattle.std.specs.Prelude.{◌≡◌, ◌+◌, ◌-◌, ◌<◌, ◌≤◌, ◌++◌, [], OnOk, codes, decimal, flat_map, map, ℕ, List, ◌^◌};
+ghost use Rattle.std.specs.Prelude.{◌≡◌, ◌+◌, ◌-◌, ◌<◌, ◌≤◌, ◌++◌, [], OnOk, codes, decimal, flat_map, map, ℕ, List};
+ghost use Rattle.std.specs.Prelude.{◌^◌};
 ghost use Rattle.std.specs.List.{range_with_len};
 ghost use Rattle.aig_prompt.specs.Table as spec;
 ghost use Rattle.aig_prompt.specs.Table.{IsTable, block_text, cell_at, cell_text, line_text, name_text, row_of, spaces};
@@ -205,7 +206,8 @@ impl Table {
         Ok(())
     }
 
-    /// Adds the table, as many frames in a line as 80 columns hold, and then an empty line and the frames that are left.
+    /// Adds the table, as many frames in a line as 80 columns hold, and then an empty line and the frames that are
+    /// left.
     pub fn push_text(&self, text: &mut Vec<u8>) -> Result<(), Memory>
         ensures { OnOk result ((table : List ℕ)
             × IsTable self.now.first self.now.frames (map row_of self.now.rows.items) table

@@ -1,8 +1,11 @@
 //! Values as people type them.
-ghost use Rattle.std.specs.Prelude.{◌≡◌, ◌≢◌, ◌↔◌, ℕ, ◌+◌, ◌-◌, ◌*◌, ◌∷◌, ◌++◌, ◌<◌, ◌^◌, List, [], length, replicate, drop, All, Some, IfErr, IfNone, IfOk, IfSome, IsTrue, OnOk, decimal, slice_get, slice_index};
+ghost use Rattle.std.specs.Prelude.{◌≡◌, ◌≢◌, ◌↔◌, ℕ, ◌+◌, ◌-◌, ◌*◌, ◌∷◌, ◌++◌, ◌<◌, ◌^◌, List, [], length, replicate};
+ghost use Rattle.std.specs.Prelude.{drop, All, Some, IfErr, IfNone, IfOk, IfSome, IsTrue, OnOk, decimal, slice_get};
+ghost use Rattle.std.specs.Prelude.{slice_index};
 ghost use Rattle.aig_parts.specs.declared.ternary.Tern.{Tern};
 ghost use Rattle.aig_prompt.specs.Value as spec;
-ghost use Rattle.aig_prompt.specs.Value.{AreLetters, IsDecimal, IsFitted, IsHexadecimal, Reads, ReadsSized, RefusesBits, RefusesValue};
+ghost use Rattle.aig_prompt.specs.Value.{AreLetters, IsDecimal, IsFitted, IsHexadecimal, Reads, ReadsSized};
+ghost use Rattle.aig_prompt.specs.Value.{RefusesBits, RefusesValue};
 ghost use Rattle.aig_prompt.specs.state.Gathered.{Gathers};
 
 use aig_bytes::Memory;
@@ -111,7 +114,8 @@ impl Bits {
 
     /// Adds the next bit, from bit 0 up.
     fn push(&mut self, is_one: bool) -> Result<(), Memory>
-        ensures gathered { (all : List Tern) → Gathers all self.old → OnOk result (Gathers (all ++ spec.bit_value is_one ∷ []) self.new) }
+        ensures gathered { (all : List Tern) → Gathers all self.old
+            → OnOk result (Gathers (all ++ spec.bit_value is_one ∷ []) self.new) }
         ensures width { self.new.width ≡ self.old.width }
     {
         if self.values.len() < self.width {
@@ -124,7 +128,8 @@ impl Bits {
 
     /// Adds the bits of a digit of base 16.
     fn push_digit(&mut self, digit: u8) -> Result<(), Memory>
-        ensures gathered { (all : List Tern) → Gathers all self.old → OnOk result (Gathers (all ++ spec.digit_bits digit) self.new) }
+        ensures gathered { (all : List Tern) → Gathers all self.old
+            → OnOk result (Gathers (all ++ spec.digit_bits digit) self.new) }
         ensures width { self.new.width ≡ self.old.width }
     {
         self.push(digit % 2 == 1)?;
@@ -349,7 +354,8 @@ pub fn is_binary(text: &[u8], width: usize) -> bool
 }
 
 /// The value of so many bits that a text is, from bit 0 up: digits of base 16; one letter `0`, `1` or `x` for each bit,
-/// where one of them is `x`; `x` for all bits; or as Verilog writes it, `8'hff`, `8'd31`, `4'b1x00`, with the right width.
+/// where one of them is `x`; `x` for all bits; or as Verilog writes it, `8'hff`, `8'd31`, `4'b1x00`, with the right
+/// width.
 pub fn value_of(alloc: Global, text: &[u8], width: usize) -> Result<Vec<Tern>, ValueFault>
     ensures size { IfOk result (λ bits. length bits.items ≡ width) }
     ensures reads { IfOk result (λ bits. Reads text.now bits.items) }

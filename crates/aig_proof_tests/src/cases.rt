@@ -15,8 +15,8 @@ pub struct Case<'a> {
 }
 
 impl<'a> Case<'a> {
-    /// The first case of these bytes, and the bytes after it. It begins with a line of three numbers: how many variables
-    /// the formula has, and how many bytes the formula and the proof, which come next.
+    /// The first case of these bytes, and the bytes after it. It begins with a line of three numbers: how many
+    /// variables the formula has, and how many bytes the formula and the proof, which come next.
     pub fn first(bytes: &'a [u8]) -> Option<(Case<'a>, &'a [u8])> {
         let end = bytes.iter().position(|byte| *byte == b'\n')?;
         let mut numbers = str::from_utf8(bytes.get(..end)?).ok()?.split(' ');

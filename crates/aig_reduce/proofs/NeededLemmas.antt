@@ -1,5 +1,7 @@
 -- What a run needs: a look back from what has to be 1.
-use Rattle.std.proofs.Common.{◌≡◌, ◌≢◌, inl, inr, ℕ, zero, suc, ◌-◌, ◌*◌, ◌%◌, ◌<◌, List, [], ◌∷◌, ◌++◌, Bool, true, false, length, replicate, Some, slice_get, slice_set, slice_index_or, get_or, refl, sym, ap, ◌∙◌, subst, arith}
+use Rattle.std.proofs.Common.{◌≡◌, ◌≢◌, inl, inr, ℕ, zero, suc, ◌-◌, ◌*◌, ◌%◌, ◌<◌, List, [], ◌∷◌, ◌++◌, Bool, true}
+use Rattle.std.proofs.Common.{false, length, replicate, Some, slice_get, slice_set, slice_index_or, get_or, refl, sym}
+use Rattle.std.proofs.Common.{ap, ◌∙◌, subst, arith}
 use Rattle.std.specs.List.{AllZip}
 use Rattle.std.proofs.lemmas.Bool.{cases_eq, false≢true}
 use Rattle.std.proofs.lemmas.List.{get_or-replicate, length-map, length-replicate, length-set}
@@ -17,7 +19,8 @@ use Rattle.aig_base.specs.Sound.{IsDefinition}
 use Rattle.aig_base.specs.Value as value
 use Rattle.aig_base.specs.Value.{Value, reset_value, start_of}
 use Rattle.aig_base.specs.state.Marks.{IsMarked}
-use Rattle.aig_base.proofs.circuits.Circuits.{gate_definition, input_definition, latch_definition, rhs0_defined, rhs1_defined}
+use Rattle.aig_base.proofs.circuits.Circuits.{gate_definition, input_definition, latch_definition, rhs0_defined}
+use Rattle.aig_base.proofs.circuits.Circuits.{rhs1_defined}
 use Rattle.aig_base.proofs.values.OneValue.{have_one_value}
 use Rattle.aig_base.proofs.values.UniqueValue.{unique}
 use Rattle.aig_values.specs.InputRows.{HaveWidth, row_at, with_cell}
@@ -25,7 +28,8 @@ use Rattle.aig_values.proofs.Evaluation.{even_or_odd, item_at}
 use Rattle.aig_bench.proofs.cells.CellLemmas.{get_set_other, row_other, row_written}
 use Rattle.aig_bench.specs.BenchState.{CircuitAndRows, HasValue}
 use Rattle.aig_reduce.specs.Irreducible.{IsSameOrX}
-use Rattle.aig_reduce.specs.state.Needed.{AddsNeeded, AreNeeded, AreNeededInputs, AreNeededStarts, IsNeeded, StillReaches}
+use Rattle.aig_reduce.specs.state.Needed.{AddsNeeded, AreNeeded, AreNeededInputs, AreNeededStarts, IsNeeded}
+use Rattle.aig_reduce.specs.state.Needed.{StillReaches}
 use Rattle.aig_reduce.proofs.CoveredValues.{covered}
 use Rattle.aig_reduce.proofs.Irreducibles.{shaped_widths, cover_shape}
 use Rattle.aig_reduce.proofs.Places.{row_within}

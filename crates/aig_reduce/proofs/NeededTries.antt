@@ -1,5 +1,6 @@
 -- Values that are needed are not tried: what is tried there is not confirmed.
-use Rattle.std.proofs.Common.{◌≡◌, ◌≢◌, inl, inr, ℕ, zero, suc, ◌+◌, ◌-◌, ◌≤◌, List, [], ◌∷◌, length, drop, get_or, Some, slice_get, refl, sym, ap, ◌∙◌, subst, arith}
+use Rattle.std.proofs.Common.{◌≡◌, ◌≢◌, inl, inr, ℕ, zero, suc, ◌+◌, ◌-◌, ◌≤◌, List, [], ◌∷◌, length, drop, get_or}
+use Rattle.std.proofs.Common.{Some, slice_get, refl, sym, ap, ◌∙◌, subst, arith}
 use Rattle.std.specs.List.{AllZip}
 use Rattle.std.proofs.lemmas.Bool.{cases_eq, cases_lt}
 use Rattle.std.proofs.lemmas.List.{get_or-drop}
@@ -19,7 +20,8 @@ use Rattle.aig_reduce.specs.Reduction.{values_of, witness_of}
 use Rattle.aig_reduce.specs.state.Needed.{AreNeededIn, AreNeededInputs, AreNeededStarts, Knows, StillReaches}
 use Rattle.aig_reduce.specs.state.Places.{AreTried, IsPlace}
 use Rattle.aig_reduce.specs.state.Reducing.{Clearing, Confirms, Reducing, Runs}
-use Rattle.aig_reduce.proofs.Irreducibles.{CoverRow, CoverRows, cell_covers, cover_shape, rows_cover, rows_then, run_of, run_shaped}
+use Rattle.aig_reduce.proofs.Irreducibles.{CoverRow, CoverRows, cell_covers, cover_shape, rows_cover, rows_then, run_of}
+use Rattle.aig_reduce.proofs.Irreducibles.{run_shaped}
 use Rattle.aig_reduce.proofs.Places.{tried_more}
 use Rattle.aig_reduce.proofs.Resets.{value_with}
 use Rattle.aig_reduce.proofs.RunLemmas.{confirmed_reaches, zip_length}

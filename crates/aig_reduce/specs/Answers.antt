@@ -1,4 +1,5 @@
 -- What a reduction answers (our own choice).
+-- Example: `01x`: `constraint 0 0`.
 use Rattle.std.specs.Prelude.{◌≢◌, ℕ, ◌+◌, ◌*◌, ◌<◌, ◌≤◌, List, length}
 use Rattle.aig_parts.specs.Limits.{cell_limit}
 use Rattle.aig_parts.specs.declared.raw.Raw.{Raw}

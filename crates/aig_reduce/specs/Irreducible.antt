@@ -1,4 +1,5 @@
 -- What is known of a reduced witness: no more of its values can be x (our own choice).
+-- Example: `x1x` covers `11x`, and is not confirmed.
 use Rattle.std.specs.Prelude.{◌≡◌, ◌≢◌, ◌⊎◌, ◌<◌, [], length}
 use Rattle.std.specs.List.{AllZip}
 use Rattle.aig_parts.specs.declared.ternary.Tern.{Tern}

@@ -1,4 +1,5 @@
 -- A reduced witness: x in place of each value that its failure does not need (our own choice).
+-- Example: at the first place the row `x11` is tried; the constraint is x there, so the value stays 1.
 use Rattle.std.specs.Prelude.{◌≡◌, ◌⊎◌, ℕ, suc, List, [], ◌∷◌, ◌++◌, length, map, take, drop, Some, slice_get}
 use Rattle.aig_parts.specs.declared.ternary.Tern.{Tern}
 use Rattle.aig_parts.specs.declared.ternary.Tern.TheVariants.{X}

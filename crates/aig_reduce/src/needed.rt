@@ -1,5 +1,6 @@
 //! Values that a run needs, found by one look backward over its frames.
-ghost use Rattle.std.specs.Prelude.{◌≡◌, ◌≢◌, ◌↔◌, ℕ, suc, ◌+◌, ◌<◌, ◌≤◌, ◌∷◌, length, replicate, true, Some, slice_get};
+ghost use Rattle.std.specs.Prelude.{◌≡◌, ◌≢◌, ◌↔◌, ℕ, suc, ◌+◌, ◌<◌, ◌≤◌, ◌∷◌, length, replicate, true, Some};
+ghost use Rattle.std.specs.Prelude.{slice_get};
 ghost use Rattle.std.specs.Prelude.{slice_set, unwrap_or, IfOk, IsTrue};
 ghost use Rattle.aig_parts.specs.Limits.{frame_limit};
 ghost use Rattle.aig_parts.specs.declared.ternary.Tern.{Tern};
@@ -149,8 +150,8 @@ fn mark_side<G: Grid>(bench: &Bench<G>, frame: u32, side: Lit, other: Lit, marks
     mark(marks, side);
 }
 
-// Marks the sides of a marked gate that it needs: each one whose other side is not 0, since the gate is x where that one
-// is.
+// Marks the sides of a marked gate that it needs: each one whose other side is not 0, since the gate is x where that
+// one is.
 fn mark_sides<G: Grid>(bench: &Bench<G>, frame: u32, gate: Gate, marks: &mut Vec<bool>)
     requires frame { frame < length bench.now.pair.rows }
     requires gate { (q : ℕ) × (slice_get bench.now.pair.circuit.gates q ≡ Some gate) }

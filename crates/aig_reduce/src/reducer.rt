@@ -391,8 +391,8 @@ impl<G: Grid> Reducer<G> {
         }
     }
 
-    // Tries the values from a place on: many at once where they can all go, else the one at the place. Returns the place
-    // up to which values have been tried.
+    // Tries the values from a place on: many at once where they can all go, else the one at the place. Returns the
+    // place up to which values have been tried.
     fn try_place(
         &mut self,
         known: &Known,

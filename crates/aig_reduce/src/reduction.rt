@@ -132,17 +132,17 @@ impl Given {
 }
 
 /// Reduces a witness of a circuit: x in place of each input's value, and of each start of an uninitialised latch, that
-/// can be x while the witness is confirmed. The order is the starts in the order of the latches, and then frame by frame,
-/// input by input. Each value stays x where the run is still confirmed with all that stayed so before (our own choice). A
-/// witness that is not confirmed has its verdict as the answer. `law_of_reduction` says what is known of a reduced
-/// witness.
+/// can be x while the witness is confirmed. The order is the starts in the order of the latches, and then frame by
+/// frame, input by input. Each value stays x where the run is still confirmed with all that stayed so before (our own
+/// choice). A witness that is not confirmed has its verdict as the answer. `law_of_reduction` says what is known of a
+/// reduced witness.
 ///
 /// Refused are, in this order, what `check_witness` refuses and more than 67,108,864 cells, `M + 1` a frame. All memory
-/// is taken before the first value is tried. One look back over the run, in the time of its cells, finds values that are
-/// needed, and these are not tried. Values that can all go are tried together, up to 65,536 at once. Between two other
-/// values that are needed there are about as many looks as the logarithm of their distance. A look costs the constraints
-/// from the frame of the first of its values on, up to one that is not 1. Each value that is put costs the cells that it
-/// changes.
+/// is taken before the first value is tried. One look back over the run, in the time of its cells, finds values that
+/// are needed, and these are not tried. Values that can all go are tried together, up to 65,536 at once. Between two
+/// other values that are needed there are about as many looks as the logarithm of their distance. A look costs the
+/// constraints from the frame of the first of its values on, up to one that is not 1. Each value that is put costs the
+/// cells that it changes.
 pub fn reduce_witness(
     alloc: Global,
     circuit: Circuit,

@@ -1,6 +1,7 @@
--- A run of a circuit, with own inputs at 0 and own latches as their resets say, is a run of each circuit that extends it,
--- and reaches the bad state there too.
-use Rattle.std.proofs.Common.{◌≡◌, inl, inr, ℕ, zero, suc, ◌+◌, ◌-◌, ◌%◌, ◌<◌, List, [], ◌∷◌, ◌++◌, length, map, replicate, Contains, Some, slice_get}
+-- A run of a circuit, with own inputs at 0 and own latches as their resets say, is a run of each circuit that extends
+-- it, and reaches the bad state there too.
+use Rattle.std.proofs.Common.{◌≡◌, inl, inr, ℕ, zero, suc, ◌+◌, ◌-◌, ◌%◌, ◌<◌, List, [], ◌∷◌, ◌++◌, length, map}
+use Rattle.std.proofs.Common.{replicate, Contains, Some, slice_get}
 use Rattle.std.proofs.Common.{option_map, refl, sym, ◌∙◌, ap, subst, arith, length-append}
 use Rattle.std.proofs.lemmas.List.{length-map, length-replicate}
 use Rattle.std.proofs.lemmas.List.Elements.{All-map, All-weaker}

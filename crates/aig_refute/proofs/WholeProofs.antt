@@ -1,5 +1,6 @@
 -- A proof from its first byte on: the steps that were read so far.
-use Rattle.std.proofs.Common.{◌≡◌, inl, inr, ℕ, ◌+◌, Bool, true, false, List, [], ◌∷◌, ◌++◌, length, Option, Some, None, refl, sym, ap, ◌∙◌, subst, append_assoc}
+use Rattle.std.proofs.Common.{◌≡◌, inl, inr, ℕ, ◌+◌, Bool, true, false, List, [], ◌∷◌, ◌++◌, length, Option, Some, None}
+use Rattle.std.proofs.Common.{refl, sym, ap, ◌∙◌, subst, append_assoc}
 use Rattle.std.specs.Prelude.{IfSome}
 use Rattle.std.specs.Option.{is_none}
 use Rattle.std.proofs.lemmas.List.{append-nil}
@@ -11,7 +12,8 @@ use Rattle.aig_sat.specs.declared.proof.step.StepKind.{StepKind}
 use Rattle.aig_sat.specs.declared.proof.step.StepKind.TheVariants.{Add}
 use Rattle.aig_sat.specs.proof.ProofText.{Gap, SpellsStep, last_byte}
 use Rattle.aig_sat.specs.proof.Proofs.{BeginsWith, BinarySteps, HasAddition, IsProof, Step, TextSteps, are_none}
-use Rattle.aig_sat.specs.proof.Steps.{Block, Reads, ReadsEnd, ReadsStep, StepReader, TakesText, bytes_to_come, text_to_come}
+use Rattle.aig_sat.specs.proof.Steps.{Block, Reads, ReadsEnd, ReadsStep, StepReader, TakesText, bytes_to_come}
+use Rattle.aig_sat.specs.proof.Steps.{text_to_come}
 
 -- nothing was read
 abbrev pub fresh : Block

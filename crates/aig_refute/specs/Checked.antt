@@ -1,4 +1,5 @@
 -- What the check of a proof answers.
+-- Example: 1 for `input or output`, else 0.
 use Rattle.std.specs.Prelude.{ℕ, Result, Ok, Err}
 use Rattle.aig_sat.specs.declared.proof.fault.ProofFault.{ProofFault}
 use Rattle.aig_sat.specs.declared.proof.fault.ProofFault.TheVariants as faults

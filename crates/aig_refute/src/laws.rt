@@ -41,8 +41,8 @@ pub fn law_of_extension()
         IsUnreachable x 0 → IsUnreachable raw p }
 {}
 
-/// Where no assignment satisfies the formula of `Formula::alive` over k frames, no run from a start that the resets allow
-/// keeps all constraints at its first k frames, whatever values are unknown.
+/// Where no assignment satisfies the formula of `Formula::alive` over k frames, no run from a start that the resets
+/// allow keeps all constraints at its first k frames, whatever values are unknown.
 pub fn law_of_alive()
     ensures { (raw : Raw) (formula : Cnf) (k : ℕ) → IsCircuit raw → 0 < k → IsAliveFormulaOf raw k formula →
         IsUnsatisfiable formula.clauses → HasNoRun raw k }

@@ -1,4 +1,7 @@
 -- A command from bytes to bytes: which bytes it writes for a circuit's file, and how it ends.
+-- Examples: `aag 0 0 0 0 1/`: its counts do not go together; a rejected circuit: its fault, and no bytes; `confirmed/`
+-- is written and `Confirmed` returned; to a full device `conf` is written and `Output` returned; a read of the stimulus
+-- `11/1` fails after 4 bytes: the trace line of `11` is written.
 use Rattle.std.specs.Prelude.{◌≡◌, ◌≢◌, ℕ, ◌+◌, ◌<◌, ◌≤◌, List, Bool, IsTrue, Result, Err, [], Some, Ok, OnOk, length}
 use Rattle.aig_parts.specs.declared.raw.Raw.{Raw}
 use Rattle.aig_parts.specs.declared.fault.Fault.{Fault}
@@ -28,11 +31,13 @@ RefusesCircuit bytes fault = IsReading bytes (Err fault) × (fault ≢ circuits.
 -- why a stimulus of a width is refused: its first faulty line
 abbrev pub RefusesStimulus : ℕ → List ℕ → StimFault → Type 0
 RefusesStimulus width text fault =
-    fault ≢ stimuli.Memory → (rows : List (List Tern)) × (length rows ≤ frame_limit) × HasFaultyLine width text rows fault
+    fault ≢ stimuli.Memory → (rows : List (List Tern)) × (length rows ≤ frame_limit)
+    × HasFaultyLine width text rows fault
 
 -- Which bytes a command writes for a circuit file, with which answer: none where the file is refused, else what `Means`
 -- says of its circuit.
-abbrev pub OfFile : {T : Type 0} → List ℕ → (Raw → Result T RunFault → List ℕ → Type 0) → Result T RunFault → List ℕ → Type 0
+abbrev pub OfFile : {T : Type 0} → List ℕ → (Raw → Result T RunFault → List ℕ → Type 0) → Result T RunFault → List ℕ
+    → Type 0
 OfFile file Means (Err (run_faults.Circuit fault)) bytes = RefusesCircuit file fault × (bytes ≡ [])
 OfFile file Means answer bytes = (raw : Raw) × IsFileOf file raw × Means raw answer bytes
 
@@ -114,9 +119,9 @@ pub record WritesPart {Y X T : Type 0} (reader : Flow Y) (out : Flow X)
   pub means : Means part answer bytes
   pub breaks_off : BreaksOff out bytes
 
--- How a command ends that reads a text meanwhile, where `Means` says which bytes are written for what was read, and with
--- which answer: no call fails, and it writes all of them; or the answer is `fault`, as a read fails and it writes all of
--- them for what was read before, or as a write fails.
+-- How a command ends that reads a text meanwhile, where `Means` says which bytes are written for what was read, and
+-- with which answer: no call fails, and it writes all of them; or the answer is `fault`, as a read fails and it writes
+-- all of them for what was read before, or as a write fails.
 pub data EndsReading {Y X T : Type 0} (reader : Flow Y) (out : Flow X) (fault : RunFault)
     (Means : Text → Result T RunFault → List ℕ → Type 0) : Result T RunFault → Type 0 where
   writes_all : {answer : Result T RunFault} → answer ≢ Err fault → WritesAll reader out 0 Means answer

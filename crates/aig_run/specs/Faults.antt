@@ -1,4 +1,5 @@
 -- What a fault of one part is for the run.
+-- Example: a write of a whole circuit that fails is `Output`.
 use Rattle.std.specs.Prelude.{Result, Ok, Err}
 use Rattle.aig_run.specs.declared.run_fault.RunFault.{RunFault}
 use Rattle.aig_run.specs.declared.run_fault.RunFault.TheVariants as run_faults

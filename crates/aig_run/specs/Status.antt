@@ -1,4 +1,5 @@
 -- The exit status of a refused run (our own choice).
+-- Example: `Circuit(Cycle(2))` has 1, `Witness(Memory)` has 3.
 use Rattle.std.specs.Prelude.{ℕ}
 use Rattle.aig_parts.specs.declared.fault.Fault.TheVariants as circuits
 use Rattle.aig_sim.specs.declared.witness.reach_fault.ReachFault.TheVariants as reaches
@@ -13,8 +14,10 @@ use Rattle.aig_sat.specs.declared.proof.fault.ProofFault.TheVariants as proofs
 use Rattle.aig_certificate.specs.declared.fault.StrengthenFault.TheVariants as strengthenings
 use Rattle.aig_names.specs.declared.fault.NamesFault.TheVariants as names
 use Rattle.aig_run.specs.declared.run_fault.RunFault.{RunFault}
-use Rattle.aig_run.specs.declared.run_fault.RunFault.TheVariants.{Circuit, Stimulus, Witness, Bench, Script, Shell, Output, Memory}
-use Rattle.aig_run.specs.declared.run_fault.RunFault.TheVariants.{Unroll, Cnf, Select, Reach, Proof, StepProof, Model, Certificate, Strengthen, Names}
+use Rattle.aig_run.specs.declared.run_fault.RunFault.TheVariants.{Circuit, Stimulus, Witness, Bench, Script, Shell}
+use Rattle.aig_run.specs.declared.run_fault.RunFault.TheVariants.{Output, Memory}
+use Rattle.aig_run.specs.declared.run_fault.RunFault.TheVariants.{Unroll, Cnf, Select, Reach, Proof, StepProof, Model}
+use Rattle.aig_run.specs.declared.run_fault.RunFault.TheVariants.{Certificate, Strengthen, Names}
 
 -- 3 where memory ran out, or a read or a write failed; 1 for any other refusal
 abbrev pub status_of : RunFault → ℕ

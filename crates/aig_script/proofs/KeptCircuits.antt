@@ -1,5 +1,6 @@
 -- A line of a script leaves a circuit a circuit.
-use Rattle.std.proofs.Common.{◌≡◌, ◌⊎◌, inl, inr, ℕ, zero, suc, ◌+◌, ◌<◌, ◌≤◌, List, [], ◌∷◌, length, map, get_or, Contains, Result, Ok, Err, refl, sym, ap, ◌∙◌, subst, arith}
+use Rattle.std.proofs.Common.{◌≡◌, ◌⊎◌, inl, inr, ℕ, zero, suc, ◌+◌, ◌<◌, ◌≤◌, List, [], ◌∷◌, length, map, get_or}
+use Rattle.std.proofs.Common.{Contains, Result, Ok, Err, refl, sym, ap, ◌∙◌, subst, arith}
 use Rattle.std.proofs.lemmas.Bool.{cases_lt}
 use Rattle.aig_parts.specs.declared.fault.Fault.{Fault}
 use Rattle.aig_parts.specs.declared.raw.Raw.{Raw}
@@ -20,7 +21,8 @@ use Rattle.aig_base.proofs.rewires.Rewiring.{with_gate-circuit, with_reset-circu
 use Rattle.aig_bench.specs.declared.edit.EditFault.{EditFault}
 use Rattle.aig_bench.specs.declared.edit.EditFault.TheVariants as faults
 use Rattle.aig_bench.specs.BenchState.{CircuitAndRows}
-use Rattle.aig_bench.specs.Edit.{Edit, rewire, set_reset, set_bit, add_frame, drop_frame, append_gate, set_output, edited, Forbids, NoneApplies, Edits}
+use Rattle.aig_bench.specs.Edit.{Edit, rewire, set_reset, set_bit, add_frame, drop_frame, append_gate, set_output}
+use Rattle.aig_bench.specs.Edit.{edited, Forbids, NoneApplies, Edits}
 use Rattle.aig_script.specs.Command.{Command, edit, value, trace, unroll}
 use Rattle.aig_script.specs.Lines.{Line, whole, unfinished}
 use Rattle.aig_script.specs.Replies.{CommandReply, WholeReply, LineReply}

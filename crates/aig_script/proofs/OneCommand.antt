@@ -6,7 +6,8 @@ use Rattle.aig_parts.specs.declared.ternary.Tern.{Tern}
 use Rattle.aig_values.specs.Characters.{character}
 use Rattle.aig_sim.proofs.OneText.{same_row}
 use Rattle.aig_bench.specs.Edit.{Edit, rewire, set_reset, set_bit, add_frame, drop_frame, append_gate, set_output}
-use Rattle.aig_script.specs.Command.{Command, edit, value, trace, unroll, number_field, edit_text, command_text, IsNumber, HasNumbers, IsCommand}
+use Rattle.aig_script.specs.Command.{Command, edit, value, trace, unroll, number_field, edit_text, command_text}
+use Rattle.aig_script.specs.Command.{IsNumber, HasNumbers, IsCommand}
 use Rattle.aig_script.proofs.Fields.{no_space-decimal, split_once}
 
 one_number : (m n : ℕ) → IsNumber m → IsNumber n → decimal m ≡ decimal n → m ≡ n

@@ -1,5 +1,6 @@
 -- Lines read in pieces, and runs that go on.
-use Rattle.std.proofs.Common.{◌≡◌, ℕ, ◌+◌, List, [], ◌∷◌, ◌++◌, cond, eqb, true, false, refl, sym, ap, ◌∙◌, append_assoc, Ok, Err, OnErr, OnOk, IsErr, Result, Some, subst, map, inl, inr, arith}
+use Rattle.std.proofs.Common.{◌≡◌, ℕ, ◌+◌, List, [], ◌∷◌, ◌++◌, cond, eqb, true, false, refl, sym, ap, ◌∙◌}
+use Rattle.std.proofs.Common.{append_assoc, Ok, Err, OnErr, OnOk, IsErr, Result, Some, subst, map, inl, inr, arith}
 use Rattle.std.specs.Prelude.{Option, None}
 use Rattle.std.proofs.lemmas.List.{append-nil, map-append}
 use Rattle.std.proofs.lemmas.Bool.{false≢true}

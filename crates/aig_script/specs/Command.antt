@@ -1,4 +1,6 @@
 -- Commands of a script, as they are written (our own choice).
+-- Example: `v 0 8` asks for literal 8 at frame 0; `u` for the unrolled circuit; `v 00 8` is no command; `+ 10` appends
+-- the row `10`, `g 9 2` a gate with the right sides 9 and 2.
 use Rattle.std.specs.Prelude.{◌≢◌, ℕ, ◌^◌, ◌<◌, List, [], ◌∷◌, ◌++◌, codes, map}
 use Rattle.std.specs.Fmt.{decimal}
 use Rattle.aig_parts.specs.declared.ternary.Tern.{Tern}

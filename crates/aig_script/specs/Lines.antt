@@ -1,4 +1,5 @@
 -- The lines of a script: the pieces that LF ends, and a last piece with bytes and no LF (our own choice).
+-- Example: `t/v` is the whole line `t` and the last piece `v`.
 use Rattle.std.specs.Prelude.{◌≡◌, ◌≢◌, ℕ, List, [], ◌∷◌, ◌++◌, map, All, ◌==◌, if◌then◌else◌}
 use Rattle.std.specs.List.{flat_map}
 

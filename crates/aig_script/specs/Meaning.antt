@@ -1,4 +1,5 @@
 -- That a script has one meaning, and goes on where another one ended (our own choice).
+-- Example: `v 0 8/s 0 1 0/` and then `v 0 8/` on `examples/two_gates.aag` with `11/01/`: `1/ok/`, and then `0/`.
 use Rattle.std.specs.Prelude.{◌≡◌, ◌≢◌, ℕ, List, [], ◌∷◌, ◌++◌}
 use Rattle.aig_bench.specs.declared.edit.EditFault.TheVariants as faults
 use Rattle.aig_bench.specs.BenchState.{CircuitAndRows}
@@ -25,5 +26,6 @@ HasOneMeaning old lines =
 -- the replies to the first lines, and then those to the second lines from the pair that the first leave
 abbrev pub RepliesInTurn : CircuitAndRows → List Line → List Line → List ℕ → CircuitAndRows → Type 0
 RepliesInTurn old first second replies new =
-    (mid : CircuitAndRows) × (some : List ℕ) × (more : List ℕ) × Replies old first some mid × Replies mid second more new
+    (mid : CircuitAndRows) × (some : List ℕ) × (more : List ℕ) × Replies old first some mid
+    × Replies mid second more new
     × (replies ≡ some ++ more)

@@ -1,4 +1,5 @@
 -- What running a script read, wrote and changed.
+-- Example: a read that fails after `v 0 8/v 0`: `1/` is written.
 use Rattle.std.specs.Prelude.{◌≡◌, ◌⊎◌, ℕ, ◌+◌, List, [], ◌∷◌, ◌++◌, Ok, Err}
 use Rattle.aig_bytes.specs.Bytes.{before, IsAtEnd, Writes}
 use Rattle.aig_bench.specs.BenchState.{CircuitAndRows}
@@ -38,7 +39,8 @@ abbrev pub FailsToWrite : {X : Type 0} → Flow X → List Line → CircuitAndRo
 FailsToWrite out lines old new = StoppedAt out lines old new ⊎ Unflushed out lines old new
 
 -- For proofs: the script so far was read, and all lines that it ends were answered; this is kept of the last line.
-pub record Reading {Y X : Type 0} (reader : Flow Y) (out : Flow X) (line : ScriptLine) (old new : CircuitAndRows) : Type 0 where
+pub record Reading {Y X : Type 0} (reader : Flow Y) (out : Flow X) (line : ScriptLine) (old new : CircuitAndRows) : Type
+    0 where
   pub script : List ℕ
   pub read : reader.bytes reader.old ≡ before script (reader.bytes reader.new)
   pub no_failure : reader.failures reader.new ≡ reader.failures reader.old
@@ -60,4 +62,5 @@ pub record Failing {Y X : Type 0} (reader : Flow Y) (out : Flow X) (old new : Ci
   pub read : reader.bytes reader.old ≡ before script (reader.bytes reader.new)
   pub why : ((reader.failures reader.new ≡ reader.failures reader.old + 1) × Answered out (whole_lines script) old new)
       ⊎ ((reader.failures reader.new ≡ reader.failures reader.old) × ((lines : List Line)
-      × ((lines ≡ whole_lines script) ⊎ (IsAtEnd (reader.bytes reader.new) × (lines ≡ lines_of script))) × FailsToWrite out lines old new))
+      × ((lines ≡ whole_lines script) ⊎ (IsAtEnd (reader.bytes reader.new) × (lines ≡ lines_of script)))
+      × FailsToWrite out lines old new))

@@ -1,4 +1,5 @@
 -- The meaning of a script: its lines in turn, from one circuit and rows to another, and their replies (our own choice).
+-- Example: `v 0 8/s 0 1 0/v 0 8/` on `examples/two_gates.aag` with `11/01/`: `1/ok/0/`.
 use Rattle.std.specs.Prelude.{◌≡◌, ◌⊎◌, ℕ, List, length, [], ◌∷◌, ◌++◌, Result, Ok, Err, IfErr, codes}
 use Rattle.std.specs.Fmt.{decimal}
 use Rattle.aig_parts.specs.declared.raw.Raw.{Raw}
@@ -41,7 +42,8 @@ unroll_reply (Err f) = numbered_refusal (unrolling.unroll_fault_number f)
 -- The pairs for which an edit may find no memory. For a rewire, four gates or more already read the variable of a new
 -- right side.
 abbrev pub MayLackMemory : CircuitAndRows → Edit → Type 0
-MayLackMemory old (rewire lhs r0 r1) = HasFourReaders old.circuit (variable r0) ⊎ HasFourReaders old.circuit (variable r1)
+MayLackMemory old (rewire lhs r0 r1) =
+    HasFourReaders old.circuit (variable r0) ⊎ HasFourReaders old.circuit (variable r1)
 MayLackMemory old _ = Unit {0}
 
 -- an edit takes the pair to the other with this answer, and finds no memory only where it may
@@ -78,4 +80,5 @@ LineReply old (unfinished line) reply new = IsBad old reply new
 abbrev pub Replies : CircuitAndRows → List Line → List ℕ → CircuitAndRows → Type 0
 Replies old [] replies new = (replies ≡ []) × (new ≡ old)
 Replies old (line ∷ lines) replies new =
-    (mid : CircuitAndRows) × (reply : List ℕ) × (more : List ℕ) × LineReply old line reply mid × Replies mid lines more new × (replies ≡ reply ++ more)
+    (mid : CircuitAndRows) × (reply : List ℕ) × (more : List ℕ) × LineReply old line reply mid
+    × Replies mid lines more new × (replies ≡ reply ++ more)

@@ -1,4 +1,5 @@
 -- For proofs: what is kept of a line of a script while it is read.
+-- Example: of `+ 10` the row `10` is kept.
 use Rattle.std.specs.Prelude.{◌≡◌, ℕ, Bool, true, false, List, ◌∷◌, take}
 use Rattle.aig_sim.specs.RowParser.{RowParser, KeepsLine}
 

@@ -3,7 +3,8 @@ ghost use Rattle.std.specs.Prelude.{◌≡◌, ◌≢◌, ◌<◌, ℕ, List, �
 ghost use Rattle.std.specs.Fmt.{decimal};
 ghost use Rattle.aig_parts.specs.declared.ternary.Tern.{Tern};
 ghost use Rattle.aig_values.specs.Characters.{character};
-ghost use Rattle.aig_script.specs.Command.{command_text, number_field, rewire_fields, reset_fields, bit_fields, append_fields};
+ghost use Rattle.aig_script.specs.Command.{command_text, number_field, rewire_fields, reset_fields, bit_fields};
+ghost use Rattle.aig_script.specs.Command.{append_fields};
 ghost use Rattle.aig_script.specs.Command.{output_fields, value_fields, IsCommand, IsNoCommand, IsNumber};
 ghost use Rattle.aig_script.specs.state.CommandMeaning.{meaning};
 ghost use Rattle.aig_script.specs.state.Numbers.{EndsNumber};

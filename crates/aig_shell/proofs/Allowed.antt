@@ -1,12 +1,14 @@
 -- When an edit is possible, and what it is refused for.
-use Rattle.std.proofs.Common.{◌≡◌, ◌≢◌, ℕ, ◌+◌, ◌*◌, ◌<◌, ◌≤◌, ◌⊎◌, inl, inr, List, [], ◌∷◌, length, refl, sym, ap, subst, ◌∙◌, arith}
+use Rattle.std.proofs.Common.{◌≡◌, ◌≢◌, ℕ, ◌+◌, ◌*◌, ◌<◌, ◌≤◌, ◌⊎◌, inl, inr, List, [], ◌∷◌, length, refl, sym, ap}
+use Rattle.std.proofs.Common.{subst, ◌∙◌, arith}
 use Rattle.aig_parts.specs.Limits.{cell_limit, frame_limit}
 use Rattle.aig_parts.specs.declared.ternary.Tern.{Tern}
 use Rattle.aig_base.specs.Sections.{IsLatchLiteral}
 use Rattle.aig_bench.specs.declared.edit.EditFault.{EditFault}
 use Rattle.aig_bench.specs.declared.edit.EditFault.TheVariants as fault
 use Rattle.aig_bench.specs.BenchState.{CircuitAndRows}
-use Rattle.aig_bench.specs.Edit.{Edit, Forbids, NoneApplies, TakesMemory, IsLeastFault, LacksMemory, add_frame, drop_frame, set_bit, set_reset}
+use Rattle.aig_bench.specs.Edit.{Edit, Forbids, NoneApplies, TakesMemory, IsLeastFault, LacksMemory, add_frame}
+use Rattle.aig_bench.specs.Edit.{drop_frame, set_bit, set_reset}
 use Rattle.aig_shell.specs.State.{Leads}
 
 pub bit_allowed : (p : CircuitAndRows) (t i : ℕ) (w : Tern) → t < length p.rows → i < length p.circuit.inputs

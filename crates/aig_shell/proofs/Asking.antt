@@ -1,5 +1,6 @@
 -- What `why` answers, and when it has no answer.
-use Rattle.std.proofs.Common.{◌≡◌, ◌≢◌, ℕ, [], List, length, map, replicate, Option, None, Result, Ok, Err, slice_get, refl, sym, ap, subst, ◌∙◌}
+use Rattle.std.proofs.Common.{◌≡◌, ◌≢◌, ℕ, [], List, length, map, replicate, Option, None, Result, Ok, Err, slice_get}
+use Rattle.std.proofs.Common.{refl, sym, ap, subst, ◌∙◌}
 use Rattle.std.specs.Prelude.{IsErrAnd}
 use Rattle.std.proofs.lemmas.List.{length-map}
 use Rattle.aig_parts.specs.declared.latch.Latch.{Latch}

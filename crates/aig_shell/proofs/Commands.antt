@@ -1,9 +1,11 @@
 -- Which words ask for nothing.
-use Rattle.std.proofs.Common.{◌≡◌, ◌≢◌, ℕ, ◌-◌, List, [], ◌∷◌, ◌++◌, map, length, None, Some, slice_get, Bor, refl, sym, ap, ◌∙◌, append-nil, arith}
+use Rattle.std.proofs.Common.{◌≡◌, ◌≢◌, ℕ, ◌-◌, List, [], ◌∷◌, ◌++◌, map, length, None, Some, slice_get, Bor, refl, sym}
+use Rattle.std.proofs.Common.{ap, ◌∙◌, append-nil, arith}
 use Rattle.aig_shell.specs.declared.topic.Topic.{Topic}
 use Rattle.aig_shell.specs.declared.topic.Topic.TheVariants as topics
 use Rattle.aig_shell.specs.Commands.{topic_word}
-use Rattle.aig_shell.specs.Request.{show, why_first, why, set, start, add, gate, rewire, append, out, check, diff, save, witness, wave, list_names, help, quit, IsNoRequest}
+use Rattle.aig_shell.specs.Request.{show, why_first, why, set, start, add, gate, rewire, append, out, check, diff, save}
+use Rattle.aig_shell.specs.Request.{witness, wave, list_names, help, quit, IsNoRequest}
 use Rattle.aig_shell.specs.Request as request
 
 -- the first word is that of no command

@@ -1,5 +1,7 @@
 -- The signals that differ, with two rows each.
-use Rattle.std.proofs.Common.{◌≡◌, ◌≢◌, ℕ, zero, suc, ◌+◌, ◌-◌, ◌<◌, ◌≤◌, List, [], ◌∷◌, ◌++◌, length, map, take, get_or, append_assoc, Option, None, Some, IfNone, IfSome, OnOk, Result, Ok, Err, Bool, true, false, ◌==◌, inl, inr, refl, sym, ap, subst, ◌∙◌, arith}
+use Rattle.std.proofs.Common.{◌≡◌, ◌≢◌, ℕ, zero, suc, ◌+◌, ◌-◌, ◌<◌, ◌≤◌, List, [], ◌∷◌, ◌++◌, length, map, take}
+use Rattle.std.proofs.Common.{get_or, append_assoc, Option, None, Some, IfNone, IfSome, OnOk, Result, Ok, Err, Bool}
+use Rattle.std.proofs.Common.{true, false, ◌==◌, inl, inr, refl, sym, ap, subst, ◌∙◌, arith}
 use Rattle.std.specs.Prelude.{Contains}
 use Rattle.std.specs.Option.{is_some}
 use Rattle.std.proofs.lemmas.Bool.{eqb-false, eqb-true, false≢true}

@@ -9,7 +9,8 @@ use Rattle.aig_parts.specs.declared.symbols.Kind.TheVariants as kinds
 use Rattle.aig_parts.specs.declared.ternary.Tern.{Tern}
 use Rattle.aig_base.specs.Changes.{restarted, rewired, next_gate}
 use Rattle.aig_bench.specs.BenchState.{CircuitAndRows}
-use Rattle.aig_bench.specs.Edit.{Edit, edited, rewire, set_reset, set_bit, add_frame, drop_frame, append_gate, set_output}
+use Rattle.aig_bench.specs.Edit.{Edit, edited, rewire, set_reset, set_bit, add_frame, drop_frame, append_gate}
+use Rattle.aig_bench.specs.Edit.{set_output}
 use Rattle.aig_signals.specs.Names.{literals_of}
 use Rattle.aig_shell.specs.Session.{HasSameEntries}
 use Rattle.aig_shell.specs.State.{Leads}

@@ -1,5 +1,7 @@
 -- What is kept of the run that was read.
-use Rattle.std.proofs.Common.{rules, Bor, Option, ◌≡◌, ◌≢◌, Bool, true, false, inl, inr, ℕ, zero, suc, ◌+◌, ◌*◌, ◌<◌, ◌≤◌, ◌%◌, ◌⊎◌, List, [], ◌∷◌, ◌++◌, length, map, take, get_or, None, Some, slice_get, refl, sym, ap, ◌∙◌, subst, arith}
+use Rattle.std.proofs.Common.{rules, Bor, Option, ◌≡◌, ◌≢◌, Bool, true, false, inl, inr, ℕ, zero, suc, ◌+◌, ◌*◌, ◌<◌}
+use Rattle.std.proofs.Common.{◌≤◌, ◌%◌, ◌⊎◌, List, [], ◌∷◌, ◌++◌, length, map, take, get_or, None, Some, slice_get}
+use Rattle.std.proofs.Common.{refl, sym, ap, ◌∙◌, subst, arith}
 use Rattle.std.specs.List.{HoldsAt}
 use Rattle.std.specs.Option.{MatchOption, option_copied}
 use Rattle.std.specs.Global.{Vec}

@@ -1,7 +1,9 @@
 -- Edits in turn.
-use Rattle.std.proofs.Common.{◌≡◌, ℕ, zero, suc, ◌+◌, ◌-◌, ◌*◌, ◌<◌, ◌≤◌, ◌⊎◌, inl, inr, List, [], ◌∷◌, ◌++◌, length, map, take, drop, get_or, replicate, refl, sym, ap, subst, ◌∙◌, arith}
+use Rattle.std.proofs.Common.{◌≡◌, ℕ, zero, suc, ◌+◌, ◌-◌, ◌*◌, ◌<◌, ◌≤◌, ◌⊎◌, inl, inr, List, [], ◌∷◌, ◌++◌, length}
+use Rattle.std.proofs.Common.{map, take, drop, get_or, replicate, refl, sym, ap, subst, ◌∙◌, arith}
 use Rattle.std.specs.List.{flat_map, range_with_len, zip}
-use Rattle.std.proofs.lemmas.List.{length-take-le, length-append, length-replicate, append_assoc, replicate_more, drop_all}
+use Rattle.std.proofs.lemmas.List.{length-take-le, length-append, length-replicate, append_assoc, replicate_more}
+use Rattle.std.proofs.lemmas.List.{drop_all}
 use Rattle.aig_parts.specs.Limits.{cell_limit, frame_limit}
 use Rattle.aig_parts.specs.declared.latch.Latch.{Latch}
 use Rattle.aig_parts.specs.declared.ternary.Tern.{Tern}

@@ -1,5 +1,7 @@
 -- From what a command does to what a line answers.
-use Rattle.std.proofs.Common.{◌≡◌, ◌≢◌, ◌⊎◌, ◌↔◌, codes, append_assoc, inl, inr, ℕ, List, [], ◌∷◌, ◌++◌, Bool, true, false, IsTrue, Option, None, Some, Result, Ok, Err, IsErrAnd, OnErr, map, length, Bor, refl, sym, ap, subst, ◌∙◌, append-nil}
+use Rattle.std.proofs.Common.{◌≡◌, ◌≢◌, ◌⊎◌, ◌↔◌, codes, append_assoc, inl, inr, ℕ, List, [], ◌∷◌, ◌++◌, Bool, true}
+use Rattle.std.proofs.Common.{false, IsTrue, Option, None, Some, Result, Ok, Err, IsErrAnd, OnErr, map, length, Bor}
+use Rattle.std.proofs.Common.{refl, sym, ap, subst, ◌∙◌, append-nil}
 use Rattle.aig_bytes.specs.declared.fault.Memory.{Memory}
 use Rattle.aig_dump_header.specs.Names.{words}
 use Rattle.aig_parts.specs.declared.ternary.Tern.{Tern}
@@ -7,12 +9,16 @@ use Rattle.aig_base.specs.Value.{start_of}
 use Rattle.aig_bench.specs.BenchState.{CircuitAndRows}
 use Rattle.aig_why.specs.Why.{run_of}
 use Rattle.aig_prompt.specs.Words.{spaced_byte}
-use Rattle.aig_shell.specs.Answers.{Answers, AnswersRequest, HasNoAnswer, IsRefusal, IsUnsaved, IsAfterSave, IsSilent, LineAnswer, StartsByReset, WordsAnswer, calm, line_words}
+use Rattle.aig_shell.specs.Answers.{Answers, AnswersRequest, HasNoAnswer, IsRefusal, IsUnsaved, IsAfterSave, IsSilent}
+use Rattle.aig_shell.specs.Answers.{LineAnswer, StartsByReset, WordsAnswer, calm, line_words}
 use Rattle.aig_shell.specs.Commands.{query_of, edit_of, export_of, request_of}
-use Rattle.aig_shell.specs.Conversation.{AnswersLine, EndsQuit, EndsRequest, EndsWords, IsAt, call_of, ends_after, no_memory}
+use Rattle.aig_shell.specs.Conversation.{AnswersLine, EndsQuit, EndsRequest, EndsWords, IsAt, call_of, ends_after}
+use Rattle.aig_shell.specs.Conversation.{no_memory}
 use Rattle.aig_shell.specs.Ends.{EndsChange, EndsFiles, EndsQuery, with_texts}
 use Rattle.aig_shell.specs.Files.{KeptText}
-use Rattle.aig_shell.specs.Request.{Request, show, why_first, why, set, start, add, gate, rewire, append, out, check, diff, save, witness, wave, list_names, help, quit, request_words, IsRequest, IsNoRequest}
+use Rattle.aig_shell.specs.Request.{Request, show, why_first, why, set, start, add, gate, rewire, append, out, check}
+use Rattle.aig_shell.specs.Request.{diff, save, witness, wave, list_names, help, quit, request_words, IsRequest}
+use Rattle.aig_shell.specs.Request.{IsNoRequest}
 use Rattle.aig_shell.specs.Request as request
 use Rattle.aig_shell.specs.Session.{HasUnsaved, IsIn, IsSession, KeepsRun}
 use Rattle.aig_shell.specs.State.{SessionState}

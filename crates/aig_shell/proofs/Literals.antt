@@ -1,5 +1,6 @@
 -- Which literals are those of inputs and latches, by what defines their variables.
-use Rattle.std.proofs.Common.{◌≡◌, ℕ, ◌+◌, ◌%◌, ◌++◌, length, List, map, Option, Some, None, IfSome, IfNone, slice_get, option_map, Bool, true, false, not, IsTrue, ◌↔◌, refl, sym, ap, subst, ◌∙◌, arith}
+use Rattle.std.proofs.Common.{◌≡◌, ℕ, ◌+◌, ◌%◌, ◌++◌, length, List, map, Option, Some, None, IfSome, IfNone, slice_get}
+use Rattle.std.proofs.Common.{option_map, Bool, true, false, not, IsTrue, ◌↔◌, refl, sym, ap, subst, ◌∙◌, arith}
 use Rattle.std.proofs.lemmas.Option.{slice_get_within, slice_get-map}
 use Rattle.std.proofs.lemmas.Bool.{false≢true}
 use Rattle.aig_parts.specs.declared.gate.Gate.{Gate}

@@ -1,5 +1,6 @@
 -- A word has one meaning.
-use Rattle.std.proofs.Common.{◌≡◌, ℕ, ◌*◌, ◌+◌, ◌^◌, ◌<◌, ◌≤◌, ◌⊎◌, List, ◌∷◌, map, length, Option, None, Some, inl, inr, refl, sym, ap, subst, ◌∙◌, arith, slice_get}
+use Rattle.std.proofs.Common.{◌≡◌, ℕ, ◌*◌, ◌+◌, ◌^◌, ◌<◌, ◌≤◌, ◌⊎◌, List, ◌∷◌, map, length, Option, None, Some, inl}
+use Rattle.std.proofs.Common.{inr, refl, sym, ap, subst, ◌∙◌, arith, slice_get}
 use Rattle.std.specs.Prelude.{decimal}
 use Rattle.std.specs.List.{AllZip}
 use Rattle.std.proofs.lemmas.Fmt.{decimal_injective}
@@ -8,7 +9,8 @@ use Rattle.aig_parts.specs.declared.raw.Raw.{Raw}
 use Rattle.aig_parts.specs.Literal.{variable, negation}
 use Rattle.aig_base.specs.Circuit.{IsCircuit}
 use Rattle.aig_base.specs.Sections.{IsDefined}
-use Rattle.aig_signals.specs.Lookup.{literals_called, alone, IsNumber, MeansPlainly, IsPlain, IsNoName, IsNegated, Means, Unknown}
+use Rattle.aig_signals.specs.Lookup.{literals_called, alone, IsNumber, MeansPlainly, IsPlain, IsNoName, IsNegated}
+use Rattle.aig_signals.specs.Lookup.{Means, Unknown}
 use Rattle.aig_shell.specs.Edits.{ArePositions, MeansInputs}
 
 module _ (raw : Raw) (small : (v : ℕ) → IsDefined raw v → v < 2 ^ 32) where

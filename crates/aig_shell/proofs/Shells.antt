@@ -1,5 +1,6 @@
 -- How a session over files ends.
-use Rattle.std.proofs.Common.{◌≡◌, ◌⊎◌, inl, inr, ℕ, ◌+◌, ◌*◌, ◌≤◌, ◌<◌, Bool, false, List, [], ◌++◌, length, Option, Some, Result, Ok, Err, refl, sym, ap, subst, ◌∙◌, arith}
+use Rattle.std.proofs.Common.{◌≡◌, ◌⊎◌, inl, inr, ℕ, ◌+◌, ◌*◌, ◌≤◌, ◌<◌, Bool, false, List, [], ◌++◌, length, Option}
+use Rattle.std.proofs.Common.{Some, Result, Ok, Err, refl, sym, ap, subst, ◌∙◌, arith}
 use Rattle.std.specs.Prelude.{None, IfOk, IfErr, OnOk, OnErr}
 use Rattle.std.proofs.lemmas.List.{append-nil}
 use Rattle.aig_bytes.specs.Bytes.{before, after, IsAtEnd, IsBeginning}
@@ -18,7 +19,8 @@ use Rattle.aig_shell.specs.declared.conversation.Conversation.{Conversation}
 use Rattle.aig_shell.specs.declared.session.Session.{Session}
 use Rattle.aig_shell.specs.declared.talk.Line.{Line}
 use Rattle.aig_shell.specs.declared.talk.Talker.{Talker}
-use Rattle.aig_shell.specs.Conversation.{Begun, Passes, Ended, BreaksDown, Begins, BeginsSession, EndsShell, HoldsSession, IsAt, OpensSession, RefusesFiles, RefusesRows, RefusesText}
+use Rattle.aig_shell.specs.Conversation.{Begun, Passes, Ended, BreaksDown, Begins, BeginsSession, EndsShell}
+use Rattle.aig_shell.specs.Conversation.{HoldsSession, IsAt, OpensSession, RefusesFiles, RefusesRows, RefusesText}
 use Rattle.aig_shell.specs.Files.{KeptText}
 use Rattle.aig_shell.specs.Session.{BeginsAt, IsIn, IsSession, first_state}
 use Rattle.aig_shell.specs.State.{SessionState}

@@ -1,5 +1,7 @@
 -- How a session goes on, line by line.
-use Rattle.std.proofs.Common.{◌≡◌, ◌≢◌, ◌⊎◌, inl, inr, ℕ, ◌+◌, ◌<◌, Bool, true, false, List, [], ◌∷◌, ◌++◌, All, length, take, drop, slice_get, Option, Some, Result, Ok, Err, IsErr, OnOk, OnErr, refl, sym, ap, subst, ◌∙◌, arith, append_assoc}
+use Rattle.std.proofs.Common.{◌≡◌, ◌≢◌, ◌⊎◌, inl, inr, ℕ, ◌+◌, ◌<◌, Bool, true, false, List, [], ◌∷◌, ◌++◌, All, length}
+use Rattle.std.proofs.Common.{take, drop, slice_get, Option, Some, Result, Ok, Err, IsErr, OnOk, OnErr, refl, sym, ap}
+use Rattle.std.proofs.Common.{subst, ◌∙◌, arith, append_assoc}
 use Rattle.std.specs.Prelude.{None, if◌then◌else◌}
 use Rattle.std.proofs.lemmas.Bool.{false≢true}
 use Rattle.std.proofs.lemmas.List.{append-nil, take-append-drop, drop_more, nil_from_length}
@@ -13,11 +15,13 @@ use Rattle.aig_shell.specs.declared.conversation.Next.TheVariants as next
 use Rattle.aig_shell.specs.declared.talk.Line.{Line}
 use Rattle.aig_shell.specs.declared.talk.Talker.{Talker}
 use Rattle.aig_shell.specs.Answers.{LineAnswer, IsUnsaved}
-use Rattle.aig_shell.specs.Conversation.{IsPiece, Answered, none, one_more, Converses, at_end, ended, last, AnswersLine, IsAt, no_memory, IsGreeting, IsFarewell, call_of, ends_after, prompt}
+use Rattle.aig_shell.specs.Conversation.{IsPiece, Answered, none, one_more, Converses, at_end, ended, last, AnswersLine}
+use Rattle.aig_shell.specs.Conversation.{IsAt, no_memory, IsGreeting, IsFarewell, call_of, ends_after, prompt}
 use Rattle.aig_shell.specs.Ends.{with_texts}
 use Rattle.aig_shell.specs.Files.{KeptText}
 use Rattle.aig_shell.specs.State.{SessionState}
-use Rattle.aig_shell.specs.Talking.{Moment, HoldsLine, Replies, Stands, Done, Part, Finished, Finishes, Feeds, EndsInput, newline}
+use Rattle.aig_shell.specs.Talking.{Moment, HoldsLine, Replies, Stands, Done, Part, Finished, Finishes, Feeds}
+use Rattle.aig_shell.specs.Talking.{EndsInput, newline}
 
 -- ---- lists
 

@@ -1,5 +1,7 @@
 -- What a line does to a session, what is answered, and what is written to files (our own choice).
-use Rattle.std.specs.Prelude.{◌≡◌, ◌≢◌, ◌⊎◌, ◌+◌, ◌-◌, ◌*◌, ◌≤◌, ℕ, max, if◌then◌else◌, Bool, true, false, IsTrue, List, [], ◌∷◌, ◌++◌, length, map, codes, decimal, Option, None, Some, slice_get}
+-- Example: after `no: ` all is as before.
+use Rattle.std.specs.Prelude.{◌≡◌, ◌≢◌, ◌⊎◌, ◌+◌, ◌-◌, ◌*◌, ◌≤◌, ℕ, max, if◌then◌else◌, Bool, true, false, IsTrue, List}
+use Rattle.std.specs.Prelude.{[], ◌∷◌, ◌++◌, length, map, codes, decimal, Option, None, Some, slice_get}
 use Rattle.std.specs.Str.{bytes_eq}
 use Rattle.aig_parts.specs.declared.raw.Raw.{Raw}
 use Rattle.aig_parts.specs.declared.symbols.Kind.TheVariants.{Bad}
@@ -16,7 +18,9 @@ use Rattle.aig_shell.specs.Edits.{AreFrames, Does}
 use Rattle.aig_shell.specs.Explained.{Explains, IsFrameOrLast}
 use Rattle.aig_shell.specs.Files.{KeptText, saved, IsWitnessed, IsWave}
 use Rattle.aig_shell.specs.Request as request
-use Rattle.aig_shell.specs.Request.{Request, show, why_first, why, set, start, add, gate, rewire, append, out, check, diff, save, witness, wave, list_names, help, quit, request_words, IsRequest, IsNoRequest}
+use Rattle.aig_shell.specs.Request.{Request, show, why_first, why, set, start, add, gate, rewire, append, out, check}
+use Rattle.aig_shell.specs.Request.{diff, save, witness, wave, list_names, help, quit, request_words, IsRequest}
+use Rattle.aig_shell.specs.Request.{IsNoRequest}
 use Rattle.aig_shell.specs.Standing.{IsStanding, standing_text}
 use Rattle.aig_shell.specs.State.{SessionState, circuit_of}
 use Rattle.aig_shell.specs.Tables.{IsShown, IsDifference}
@@ -29,7 +33,8 @@ abbrev pub ShowsFrames : Option (List ℕ) → ℕ → ℕ → ℕ → Type 0
 ShowsFrames None count first last = (last + 1 ≡ count) × (first ≡ count - 64)
 ShowsFrames (Some word) count first last = AreFrames word count first last
 
--- so many frames in a row from the first: those that are named; without a name some of all, and all where there are 64 at most
+-- so many frames in a row from the first: those that are named; without a name some of all, and all where there are 64
+-- at most
 abbrev pub DiffersFrames : Option (List ℕ) → ℕ → ℕ → ℕ → Type 0
 DiffersFrames None count first n = (first + n ≤ count) × (count ≤ 64 → (first ≡ 0) × (n ≡ count))
 DiffersFrames (Some word) count first n = (last : ℕ) × AreFrames word count first last × (n ≡ last + 1 - first)
@@ -44,7 +49,8 @@ NoneElsewhere (Some word) s count rows = Unit {0}
 -- the properties from k on, each with what is said of it
 unfoldable pub AreStandings : Raw → CircuitAndRows → ℕ → List ℕ → List Standing → Type 0
 AreStandings raw p k [] [] = Unit {0}
-AreStandings raw p k (l ∷ literals) (standing ∷ more) = IsStanding raw p k l standing × AreStandings raw p (k + 1) literals more
+AreStandings raw p k (l ∷ literals) (standing ∷ more) =
+    IsStanding raw p k l standing × AreStandings raw p (k + 1) literals more
 AreStandings raw p k _ _ = ⊥
 
 -- `b0` and the first name, where the property has one
@@ -76,7 +82,8 @@ EditsRun s r after = (q : CircuitAndRows) × Does s.pair r q × (after ≡ recor
 
 abbrev pub EditsCircuit : SessionState → Request → SessionState → Type 0
 EditsCircuit s r after =
-    (q : CircuitAndRows) × Does s.pair r q × (after ≡ record s { pair = q; has_edited_circuit = true; has_warned = false })
+    (q : CircuitAndRows) × Does s.pair r q
+    × (after ≡ record s { pair = q; has_edited_circuit = true; has_warned = false })
 
 -- the run starts as the resets of the file say
 abbrev pub StartsByReset : SessionState → Type 0
@@ -89,8 +96,8 @@ IsAfterSave s (Some stimulus) after =
     (StartsByReset s → after ≡ record s { kept = run_of s.pair; has_edited_circuit = false; has_warned = false })
     × ((StartsByReset s → ⊥) → after ≡ record s { has_edited_circuit = false; has_warned = false })
 
--- What a request answers, which files it writes at once, and what it leaves. The words of `gate`, `names` and `help`, and the
--- notes above a table are only tested.
+-- What a request answers, which files it writes at once, and what it leaves. The words of `gate`, `names` and `help`,
+-- and the notes above a table are only tested.
 abbrev pub Answers : SessionState → Request → List ℕ → List KeptText → SessionState → Type 0
 Answers s (show names frames) text texts after =
     (first : ℕ) × (last : ℕ) × (rows : List TableRow) × (note : List ℕ) × (table : List ℕ)
@@ -99,11 +106,13 @@ Answers s (show names frames) text texts after =
 Answers s why_first text texts after =
     (t : ℕ) × (k : ℕ) × (l : ℕ) × IsFirstReached (circuit_of s) (start_of s.pair.circuit) s.pair.rows None t k
     × (slice_get s.pair.circuit.bad k ≡ Some l)
-    × Explains (circuit_of s) (run_of s.pair) (first_name s.pair.circuit Bad k) (alone l) t text × (texts ≡ []) × (after ≡ calm s)
+    × Explains (circuit_of s) (run_of s.pair) (first_name s.pair.circuit Bad k) (alone l) t text × (texts ≡ [])
+    × (after ≡ calm s)
 Answers s (why name frame) text texts after =
     (t : ℕ) × (literals : List ℕ) × IsFrameOrLast frame (length s.pair.rows) t × Means s.pair.circuit name literals
     × Explains (circuit_of s) (run_of s.pair) name literals t text × (texts ≡ []) × (after ≡ calm s)
-Answers s (set frames name value) text texts after = EditsRun s (set frames name value) after × (text ≡ []) × (texts ≡ [])
+Answers s (set frames name value) text texts after =
+    EditsRun s (set frames name value) after × (text ≡ []) × (texts ≡ [])
 Answers s (start name value) text texts after = EditsRun s (start name value) after × (text ≡ []) × (texts ≡ [])
 Answers s (add count) text texts after = EditsRun s (add count) after × (text ≡ []) × (texts ≡ [])
 Answers s (request.drop count) text texts after = EditsRun s (request.drop count) after × (text ≡ []) × (texts ≡ [])
@@ -111,12 +120,14 @@ Answers s (gate name) text texts after =
     (literal : ℕ) × Means s.pair.circuit name (alone literal) × (texts ≡ []) × (after ≡ calm s)
 Answers s (rewire name side0 side1) text texts after = EditsCircuit s (rewire name side0 side1) after × (texts ≡ [])
 Answers s (append side0 side1) text texts after =
-    EditsCircuit s (append side0 side1) after × (text ≡ decimal (2 * (s.pair.circuit.max_var + 1)) ++ 10 ∷ []) × (texts ≡ [])
+    EditsCircuit s (append side0 side1) after × (text ≡ decimal (2 * (s.pair.circuit.max_var + 1)) ++ 10 ∷ [])
+    × (texts ≡ [])
 Answers s (out name literal) text texts after = EditsCircuit s (out name literal) after × (text ≡ []) × (texts ≡ [])
 Answers s check text texts after = IsChecked s text × (texts ≡ []) × (after ≡ calm s)
 Answers s (diff frames) text texts after =
     let count = max (length s.pair.rows) (length s.first.rows) in
-    (first : ℕ) × (n : ℕ) × (rows : List TableRow) × (note : List ℕ) × (table : List ℕ) × DiffersFrames frames count first n
+    (first : ℕ) × (n : ℕ) × (rows : List TableRow) × (note : List ℕ) × (table : List ℕ)
+    × DiffersFrames frames count first n
     × IsDifference s.pair s.first first n rows × NoneElsewhere frames s count rows
     × (((rows ≡ []) × (table ≡ codes "no difference\n")) ⊎ ((rows ≢ []) × IsTable first n rows table)) × (text ≡ note ++ table)
     × (texts ≡ []) × (after ≡ calm s)
@@ -156,7 +167,8 @@ EndsAt s false text after =
 abbrev pub AnswersRequest : SessionState → Request → List ℕ → List KeptText → Bool → SessionState → Type 0
 AnswersRequest s quit text texts ends after = EndsAt s ends text after × (texts ≡ [])
 AnswersRequest s r text texts ends after =
-    (ends ≡ false) × (Answers s r text texts after ⊎ (HasNoAnswer s r × IsRefusal text × (texts ≡ []) × (after ≡ calm s)))
+    (ends ≡ false) × (Answers s r text texts after
+    ⊎ (HasNoAnswer s r × IsRefusal text × (texts ≡ []) × (after ≡ calm s)))
 
 -- the words of a line; a tab and a CR are as a space
 abbrev pub line_words : List ℕ → List (List ℕ)

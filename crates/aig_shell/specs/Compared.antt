@@ -31,7 +31,8 @@ AreAllSame now was signals first end = (signal : Signal) → Contains signals si
 
 -- one of these signals differs at one of the frames
 abbrev pub OneDiffers : CircuitAndRows → CircuitAndRows → List Signal → ℕ → ℕ → Type 0
-OneDiffers now was signals first count = (signal : Signal) × Contains signals signal × Differs now was first count signal
+OneDiffers now was signals first count =
+    (signal : Signal) × Contains signals signal × Differs now was first count signal
 
 -- no difference in these frames means none at all
 abbrev pub NoneOutside : CircuitAndRows → CircuitAndRows → ℕ → ℕ → ℕ → Type 0

@@ -1,5 +1,8 @@
--- A whole session: lines that are answered one by one, up to one that ends it or to the end of the input (our own choice).
-use Rattle.std.specs.Prelude.{◌≡◌, ◌≢◌, ◌⊎◌, ◌+◌, ◌*◌, ◌<◌, ℕ, if◌then◌else◌, Bool, true, false, List, [], ◌∷◌, ◌++◌, length, All, codes, Option, Result, Ok, Err}
+-- A whole session: lines that are answered one by one, up to one that ends it or to the end of the input (our own
+-- choice).
+-- Example: the second of two lines `quit` ends it.
+use Rattle.std.specs.Prelude.{◌≡◌, ◌≢◌, ◌⊎◌, ◌+◌, ◌*◌, ◌<◌, ℕ, if◌then◌else◌, Bool, true, false, List, [], ◌∷◌, ◌++◌}
+use Rattle.std.specs.Prelude.{length, All, codes, Option, Result, Ok, Err}
 use Rattle.aig_bytes.specs.Bytes.{before, after, IsAtEnd, IsBeginning}
 use Rattle.aig_bytes.specs.Flow.{Flow}
 use Rattle.aig_parts.specs.Limits.{cell_limit}
@@ -43,22 +46,29 @@ abbrev pub call_of : List KeptText → List (List KeptText)
 call_of [] = []
 call_of (text ∷ texts) = (text ∷ texts) ∷ []
 
--- From a state on: whole lines, each with the LF that ends it; what is answered to them; the texts that files get, call by call;
--- and the state that is left. None of the lines ends the session.
-pub data Answered (person : Bool) (s : SessionState) : List ℕ → List ℕ → List (List KeptText) → SessionState → Type 0 where
+-- From a state on: whole lines, each with the LF that ends it; what is answered to them; the texts that files get, call
+-- by call; and the state that is left. None of the lines ends the session.
+pub data Answered (person : Bool) (s : SessionState) : List ℕ → List ℕ → List (List KeptText) → SessionState
+    → Type 0 where
   none : Answered person s [] [] [] s
-  one_more : (mid after : SessionState) (input text line answer : List ℕ) (calls : List (List KeptText)) (texts : List KeptText)
+  one_more : (mid after : SessionState) (input text line answer : List ℕ) (calls : List (List KeptText))
+      (texts : List KeptText)
       → Answered person s input text calls mid → IsPiece line → LineAnswer mid line answer texts false after
-      → Answered person s (input ++ (line ++ 10 ∷ [])) (text ++ (answer ++ prompt person)) (calls ++ call_of texts) after
+      → Answered person s (input ++ (line ++ 10 ∷ [])) (text ++ (answer ++ prompt person)) (calls ++ call_of texts)
+      after
 
--- The same for a whole input, and whether a line ends the session: then no more is answered. The last line may lack its LF.
-pub data Converses (person : Bool) (s : SessionState) : List ℕ → List ℕ → List (List KeptText) → Bool → SessionState → Type 0 where
+-- The same for a whole input, and whether a line ends the session: then no more is answered. The last line may lack its
+-- LF.
+pub data Converses (person : Bool) (s : SessionState) : List ℕ → List ℕ → List (List KeptText) → Bool → SessionState
+    → Type 0 where
   at_end : (after : SessionState) (input text : List ℕ) (calls : List (List KeptText))
       → Answered person s input text calls after → Converses person s input text calls false after
-  ended : (mid after : SessionState) (input text line answer more : List ℕ) (calls : List (List KeptText)) (texts : List KeptText)
+  ended : (mid after : SessionState) (input text line answer more : List ℕ) (calls : List (List KeptText))
+      (texts : List KeptText)
       → Answered person s input text calls mid → IsPiece line → LineAnswer mid line answer texts true after
       → Converses person s (input ++ (line ++ 10 ∷ more)) (text ++ answer) (calls ++ call_of texts) true after
-  last : (mid after : SessionState) (input text line answer : List ℕ) (calls : List (List KeptText)) (texts : List KeptText) (ends : Bool)
+  last : (mid after : SessionState) (input text line answer : List ℕ) (calls : List (List KeptText))
+      (texts : List KeptText) (ends : Bool)
       → Answered person s input text calls mid → IsPiece line → line ≢ [] → LineAnswer mid line answer texts ends after
       → Converses person s (input ++ line) (text ++ answer) (calls ++ call_of texts) ends after
 
@@ -78,40 +88,46 @@ ends_after next.GoesOn = false
 ends_after next.Ends = true
 
 -- what a line makes of a conversation: its answer, which is this text, and the texts that files get
-abbrev pub AnswersLine : Conversation → List ℕ → List ℕ → Option (List (List KeptText)) → Option (List (List KeptText)) → Bool → Conversation
+abbrev pub AnswersLine : Conversation → List ℕ → List ℕ → Option (List (List KeptText)) → Option (List (List KeptText))
+    → Bool → Conversation
     → Type 0
 AnswersLine old line text kept kept_after ends new =
     (s : SessionState) → IsAt old s
     → (texts : List KeptText) × (after : SessionState) × LineAnswer s line text texts ends after × IsAt new after
     × (kept_after ≡ with_texts kept (call_of texts))
 
--- What `quit` makes of a conversation that is calm, after a `quit` or not: the session is as before; without memory nothing is said.
+-- What `quit` makes of a conversation that is calm, after a `quit` or not: the session is as before; without memory
+-- nothing is said.
 abbrev pub EndsQuit : {E : Type 0} → Conversation → Bool → Result Next E → Conversation → Type 0
 EndsQuit old warned (Ok next) new =
     (s : SessionState) → IsIn old.session s → s.has_warned ≡ warned
     → (after : SessionState) × EndsAt s (ends_after next) new.text.items after × IsAt new after
 EndsQuit old warned (Err _) new = (s : SessionState) → IsIn old.session s → IsAt new (calm s)
 
--- What a request makes of a conversation that is calm, after a `quit` or not: it is answered; or it is refused, and calm: then any
--- refusal answers it, or memory is wanting.
-abbrev pub EndsRequest : Conversation → Bool → Request → Result Next Refusal → Option (List (List KeptText)) → Option (List (List KeptText))
+-- What a request makes of a conversation that is calm, after a `quit` or not: it is answered; or it is refused, and
+-- calm: then any refusal answers it, or memory is wanting.
+abbrev pub EndsRequest : Conversation → Bool → Request → Result Next Refusal → Option (List (List KeptText))
+    → Option (List (List KeptText))
     → Conversation → Type 0
 EndsRequest old warned r (Ok next) kept kept_after new =
     (s : SessionState) → IsIn old.session s → s.has_warned ≡ warned
-    → (texts : List KeptText) × (after : SessionState) × AnswersRequest s r new.text.items texts (ends_after next) after × IsAt new after
+    → (texts : List KeptText) × (after : SessionState) × AnswersRequest s r new.text.items texts (ends_after next) after
+    × IsAt new after
     × (kept_after ≡ with_texts kept (call_of texts))
 EndsRequest old warned r (Err refusal) kept kept_after new =
     ((s : SessionState) → IsIn old.session s → IsAt new (calm s)) × (kept_after ≡ kept)
     × (refusal ≢ refusals.Memory → (s : SessionState) → IsIn old.session s → (text : List ℕ) → IsRefusal text
     → AnswersRequest s r text [] false (calm s))
 
--- What the words of a line make of a conversation: they are answered; or they are refused: then any refusal answers them, or memory
--- is wanting, and nothing is done.
-abbrev pub EndsWords : Conversation → List (List ℕ) → Result Next Refusal → Option (List (List KeptText)) → Option (List (List KeptText))
+-- What the words of a line make of a conversation: they are answered; or they are refused: then any refusal answers
+-- them, or memory is wanting, and nothing is done.
+abbrev pub EndsWords : Conversation → List (List ℕ) → Result Next Refusal → Option (List (List KeptText))
+    → Option (List (List KeptText))
     → Conversation → Type 0
 EndsWords old ws (Ok next) kept kept_after new =
     (s : SessionState) → IsAt old s
-    → (texts : List KeptText) × (after : SessionState) × WordsAnswer s ws new.text.items texts (ends_after next) after × IsAt new after
+    → (texts : List KeptText) × (after : SessionState) × WordsAnswer s ws new.text.items texts (ends_after next) after
+    × IsAt new after
     × (kept_after ≡ with_texts kept (call_of texts))
 EndsWords old ws (Err refusal) kept kept_after new =
     ((s : SessionState) → IsAt old s → IsAt new s ⊎ IsAt new (calm s)) × (kept_after ≡ kept)
@@ -130,7 +146,8 @@ IsFarewell person false s text =
     (what : List ℕ) × ((IsUnsaved s → ⊥) → what ≡ []) × (text ≡ (if person then 10 ∷ [] else []) ++ what)
 
 -- all that a session writes for an input
-pub record Talk (person : Bool) (s : SessionState) (input text : List ℕ) (texts : List (List KeptText)) (quits : Bool) : Type 0 where
+pub record Talk (person : Bool) (s : SessionState) (input text : List ℕ) (texts : List (List KeptText))
+    (quits : Bool) : Type 0 where
   pub new : SessionState
   pub greeting : List ℕ
   pub answers : List ℕ
@@ -160,8 +177,8 @@ pub record Ended {Y X Z : Type 0} (passes : Passes Y X Z) (person : Bool) (s : S
   pub got : Got passes.out text
   pub kept : passes.kept passes.files_after ≡ with_texts (passes.kept passes.files) texts
 
--- A read or a write fails. Of what was read the answers to some input that begins as this one are written, or the first bytes of
--- them, and the files have the texts of the lines that were answered.
+-- A read or a write fails. Of what was read the answers to some input that begins as this one are written, or the first
+-- bytes of them, and the files have the texts of the lines that were answered.
 pub record BreaksDown {Y X Z : Type 0} (passes : Passes Y X Z) (person : Bool) (s : SessionState) : Type 0 where
   pub input : List ℕ
   pub text : List ℕ
@@ -235,13 +252,15 @@ pub record OnlyFails {Y X Z : Type 0} (passes : Passes Y X Z) : Type 0 where
 -- a session that a run of a circuit begins
 abbrev pub BeginsSession : Raw → List Tern → List (List Tern) → Session → Type 0
 BeginsSession raw start rows session =
-    IsSession session × BeginsAt raw start rows session.run.bench.pair × IsIn session (first_state raw session.run.bench.pair)
+    IsSession session × BeginsAt raw start rows session.run.bench.pair
+    × IsIn session (first_state raw session.run.bench.pair)
 
 -- the session of a circuit's file and its run
 abbrev pub OpensSession : List ℕ → Begun → Session → Type 0
 OpensSession file begun session =
     (raw : Raw) × IsFileOf file raw
-    × ((start : List Tern) × (rows : List (List Tern)) × Begins raw begun start rows × BeginsSession raw start rows session)
+    × ((start : List Tern) × (rows : List (List Tern)) × Begins raw begun start rows
+    × BeginsSession raw start rows session)
 
 -- a session over a circuit that a run begins
 abbrev pub HoldsSession : {Y X Z : Type 0} → Passes Y X Z → Bool → Raw → Begun
@@ -250,10 +269,11 @@ HoldsSession passes person raw begun Ends =
     (start : List Tern) × (rows : List (List Tern)) × (pair : CircuitAndRows) × Begins raw begun start rows
     × BeginsAt raw start rows pair × Ends passes person (first_state raw pair)
 
--- How `shell` ends: all that is read is answered; or the circuit or its run is refused, and nothing passes; or a read or a write
--- fails, be it a flush after a refusal.
+-- How `shell` ends: all that is read is answered; or the circuit or its run is refused, and nothing passes; or a read
+-- or a write fails, be it a flush after a refusal.
 abbrev pub EndsShell : {Y X Z : Type 0} → Passes Y X Z → Bool → List ℕ → Begun → Result (Unit {0}) RunFault → Type 0
-EndsShell passes person file begun (Ok done) = (raw : Raw) × IsFileOf file raw × HoldsSession passes person raw begun Ended
+EndsShell passes person file begun (Ok done) =
+    (raw : Raw) × IsFileOf file raw × HoldsSession passes person raw begun Ended
 EndsShell passes person file begun (Err fault) =
     (RefusesFiles file begun fault × NothingPasses passes)
     ⊎ ((fault ≡ run_faults.Shell)

@@ -1,5 +1,7 @@
 -- What the lines that edit ask for: edits of the bench, in this order (our own choice).
-use Rattle.std.specs.Prelude.{◌≡◌, ◌≢◌, ◌⊎◌, ℕ, ◌+◌, ◌-◌, ◌^◌, ◌<◌, ◌≤◌, List, [], ◌∷◌, ◌++◌, length, All, Option, None, Some, Result, Ok, Err, Bool, true, decimal, slice_get}
+-- Example: `set 12 push 0` in a run of 11 frames is.
+use Rattle.std.specs.Prelude.{◌≡◌, ◌≢◌, ◌⊎◌, ℕ, ◌+◌, ◌-◌, ◌^◌, ◌<◌, ◌≤◌, List, [], ◌∷◌, ◌++◌, length, All, Option, None}
+use Rattle.std.specs.Prelude.{Some, Result, Ok, Err, Bool, true, decimal, slice_get}
 use Rattle.std.specs.List.{AllZip}
 use Rattle.aig_parts.specs.declared.raw.Raw.{Raw}
 use Rattle.aig_parts.specs.declared.symbols.Kind.TheVariants.{Output}
@@ -22,7 +24,8 @@ IsFrame word count t = (word ≡ decimal t) × (t < count)
 -- `A` or `A-B`: frames of so many, from the first up to the last
 abbrev pub AreFrames : List ℕ → ℕ → ℕ → ℕ → Type 0
 AreFrames word count first last =
-    (((word ≡ decimal first) × (last ≡ first)) ⊎ (word ≡ decimal first ++ 45 ∷ decimal last)) × (first ≤ last) × (last < count)
+    (((word ≡ decimal first) × (last ≡ first)) ⊎ (word ≡ decimal first ++ 45 ∷ decimal last)) × (first ≤ last)
+    × (last < count)
 
 -- the word is a number of frames, below 2^32; one, where there is no word
 abbrev pub IsCount : Option (List ℕ) → ℕ → Type 0
@@ -57,12 +60,15 @@ Asks p (start name value) edits =
 Asks p (add count) edits = (n : ℕ) × IsCount count n × (edits ≡ add_edits (length p.circuit.inputs) n)
 Asks p (drop count) edits = (n : ℕ) × IsCount count n × (edits ≡ drop_edits n)
 Asks p (rewire name side0 side1) edits =
-    (l : ℕ) × (r0 : ℕ) × (r1 : ℕ) × Means p.circuit name (alone l) × Means p.circuit side0 (alone r0) × Means p.circuit side1 (alone r1)
+    (l : ℕ) × (r0 : ℕ) × (r1 : ℕ) × Means p.circuit name (alone l) × Means p.circuit side0 (alone r0)
+    × Means p.circuit side1 (alone r1)
     × (edits ≡ edit.rewire l r0 r1 ∷ [])
 Asks p (append side0 side1) edits =
-    (r0 : ℕ) × (r1 : ℕ) × Means p.circuit side0 (alone r0) × Means p.circuit side1 (alone r1) × (edits ≡ edit.append_gate r0 r1 ∷ [])
+    (r0 : ℕ) × (r1 : ℕ) × Means p.circuit side0 (alone r0) × Means p.circuit side1 (alone r1)
+    × (edits ≡ edit.append_gate r0 r1 ∷ [])
 Asks p (out name literal) edits =
-    (i : ℕ) × (l : ℕ) × (entry_in p.circuit name Output ≡ Some i) × Means p.circuit literal (alone l) × (edits ≡ edit.set_output i l ∷ [])
+    (i : ℕ) × (l : ℕ) × (entry_in p.circuit name Output ≡ Some i) × Means p.circuit literal (alone l)
+    × (edits ≡ edit.set_output i l ∷ [])
 Asks p _ edits = edits ≡ []
 
 -- the line does all of its edits, each of them possible

@@ -17,15 +17,16 @@ asks_why (Some name) frame = why name frame
 -- A request that only asks: it is answered by this text; or it is refused: then it has no answer, or memory is wanting.
 abbrev pub EndsQuery : {A : Type 0} → Session → Request → Result A Refusal → List ℕ → Type 0
 EndsQuery session r (Ok _) text = (s : SessionState) → IsIn session s → Answers s r text [] (calm s)
-EndsQuery session r (Err refusal) text = refusal ≢ refusals.Memory → (s : SessionState) → IsIn session s → HasNoAnswer s r
+EndsQuery session r (Err refusal) text =
+    refusal ≢ refusals.Memory → (s : SessionState) → IsIn session s → HasNoAnswer s r
 
 -- the texts that files got, after those of more calls
 abbrev pub with_texts : Option (List (List KeptText)) → List (List KeptText) → Option (List (List KeptText))
 with_texts None texts = None
 with_texts (Some old) texts = Some (old ++ texts)
 
--- A request that writes files: it is answered by this text, and the files get their texts in one call; or nothing is written, and
--- the session is as before.
+-- A request that writes files: it is answered by this text, and the files get their texts in one call; or nothing is
+-- written, and the session is as before.
 abbrev pub EndsFiles : {A : Type 0} → Session → Request → Result A Refusal → List ℕ → Option (List (List KeptText))
     → Option (List (List KeptText)) → Session → Type 0
 EndsFiles old r (Ok _) text kept kept_after new =
@@ -34,10 +35,11 @@ EndsFiles old r (Ok _) text kept kept_after new =
     × (kept_after ≡ with_texts kept (texts ∷ []))
 EndsFiles old r (Err refusal) text kept kept_after new = (new ≡ old) × (kept_after ≡ kept)
 
--- A request that edits: it is answered by this text, and the session is in the state that it leaves; or it is refused, and the
--- session is in the state before: then it has no answer, or memory is wanting.
+-- A request that edits: it is answered by this text, and the session is in the state that it leaves; or it is refused,
+-- and the session is in the state before: then it has no answer, or memory is wanting.
 abbrev pub EndsChange : {A : Type 0} → Session → Request → Result A Refusal → List ℕ → Session → Type 0
 EndsChange old r (Ok _) text new =
     (s : SessionState) → IsIn old s → (after : SessionState) × Answers s r text [] after × IsIn new after
 EndsChange old r (Err refusal) text new =
-    ((s : SessionState) → IsIn old s → IsIn new s) × (refusal ≢ refusals.Memory → (s : SessionState) → IsIn old s → HasNoAnswer s r)
+    ((s : SessionState) → IsIn old s → IsIn new s)
+    × (refusal ≢ refusals.Memory → (s : SessionState) → IsIn old s → HasNoAnswer s r)

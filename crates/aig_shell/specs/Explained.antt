@@ -1,5 +1,7 @@
 -- What `why` answers: the first lines of an explanation, folded (our own choice).
-use Rattle.std.specs.Prelude.{◌≡◌, ◌≢◌, ℕ, zero, suc, ◌+◌, ◌<◌, ◌≤◌, List, [], ◌∷◌, ◌++◌, length, flat_map, codes, decimal, All, Option, None, Some}
+-- Example: the first 40, folded, and `12 more lines`.
+use Rattle.std.specs.Prelude.{◌≡◌, ◌≢◌, ℕ, zero, suc, ◌+◌, ◌<◌, ◌≤◌, List, [], ◌∷◌, ◌++◌, length, flat_map, codes}
+use Rattle.std.specs.Prelude.{decimal, All, Option, None, Some}
 use Rattle.std.specs.List.{AllZip}
 use Rattle.aig_parts.specs.declared.raw.Raw.{Raw}
 use Rattle.aig_prompt.specs.Folded.{text_words}

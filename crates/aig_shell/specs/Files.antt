@@ -1,5 +1,7 @@
 -- What is written to files (our own choice).
-use Rattle.std.specs.Prelude.{◌≡◌, ℕ, ◌+◌, List, [], ◌∷◌, ◌++◌, decimal, take, flat_map, Option, None, Some, Result, Ok, Err}
+-- Example: `save C` gives C the circuit with the resets of its file.
+use Rattle.std.specs.Prelude.{◌≡◌, ℕ, ◌+◌, List, [], ◌∷◌, ◌++◌, decimal, take, flat_map, Option, None, Some, Result, Ok}
+use Rattle.std.specs.Prelude.{Err}
 use Rattle.aig_base.specs.Value.{start_of}
 use Rattle.aig_format.specs.Spelling.{short_ascii}
 use Rattle.aig_signals.specs.Lookup.{entry_in}
@@ -17,7 +19,8 @@ pub record KeptText : Type 0 where
   pub text : List ℕ
 
 -- the texts that files got, call by call, after one more call
-abbrev pub after_keeping : {A E : Type 0} → Option (List (List KeptText)) → List KeptText → Result A E → Option (List (List KeptText))
+abbrev pub after_keeping : {A E : Type 0} → Option (List (List KeptText)) → List KeptText → Result A E
+    → Option (List (List KeptText))
 after_keeping None texts result = None
 after_keeping (Some old) texts (Ok _) = Some (old ++ texts ∷ [])
 after_keeping (Some old) texts (Err _) = Some old
@@ -39,9 +42,14 @@ abbrev pub IsWitnessed : SessionState → List ℕ → Option (List ℕ) → Lis
 IsWitnessed s file word texts =
     (asked : Option ℕ) × (t : ℕ) × (k : ℕ) × IsAsked s.pair.circuit word asked
     × IsFirstReached (circuit_of s) (start_of s.pair.circuit) s.pair.rows asked t k
-    × (texts ≡ record { name = file; text = witness_text (decimal k) (start_of s.pair.circuit) (take (t + 1) s.pair.rows) } ∷ [])
+    × (texts ≡ record {
+      name = file;
+      text = witness_text (decimal k) (start_of s.pair.circuit)
+          (take (t + 1) s.pair.rows);
+    } ∷ [])
 
 -- the dump of the run
 abbrev pub IsWave : SessionState → List ℕ → List KeptText → Type 0
 IsWave s file texts =
-    (text : List ℕ) × IsDump (circuit_of s) (start_of s.pair.circuit) s.pair.rows text × (texts ≡ record { name = file; text = text } ∷ [])
+    (text : List ℕ) × IsDump (circuit_of s) (start_of s.pair.circuit) s.pair.rows text
+    × (texts ≡ record { name = file; text = text } ∷ [])

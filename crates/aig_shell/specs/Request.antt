@@ -1,4 +1,5 @@
 -- What a line asks for, as it is typed (our own choice).
+-- Example: `set 9 push 0`.
 use Rattle.std.specs.Prelude.{◌≢◌, ℕ, List, [], ◌∷◌, ◌++◌, codes, Option, None, Some}
 
 -- Names, frames, values and counts are still words. An explanation has a frame only where it has a name.

@@ -21,7 +21,8 @@ use Rattle.aig_shell.specs.declared.run_kept.KeptRun.{KeptRun}
 use Rattle.aig_shell.specs.declared.session.Session.{Session}
 use Rattle.aig_shell.specs.State.{SessionState}
 
--- the signals are those of the circuit, and the latches with the resets of the file, which are resets, are those of the circuit
+-- the signals are those of the circuit, and the latches with the resets of the file, which are resets, are those of the
+-- circuit
 pub record IsSession (s : Session) : Type 0 where
   pub signals : s.signals.items ≡ signals_of s.run.bench.pair.circuit
   pub latches : AllZip IsSameLatch s.run.latches.items s.run.bench.pair.circuit.latches
@@ -38,7 +39,8 @@ pub record KeepsRest (old new : Session) : Type 0 where
 abbrev pub IsValueAt : FirstRun → ℕ → ℕ → Tern → Type 0
 IsValueAt first t v w = (row : Vec Tern) × (slice_get first.rows.items t ≡ Some row) × (slice_get row.items v ≡ Some w)
 
--- what is kept are the values of all variables of the pair that was read, a circuit and rows that fit it, and its outputs
+-- what is kept are the values of all variables of the pair that was read, a circuit and rows that fit it, and its
+-- outputs
 pub record KeepsFirst (first : FirstRun) (p : CircuitAndRows) : Type 0 where
   pub circuit : IsCircuit p.circuit
   pub fits : HaveWidth (length p.circuit.inputs) p.rows

@@ -1,4 +1,5 @@
 -- What `check` says of a property (our own choice).
+-- Example: `reached at 10`.
 use Rattle.std.specs.Prelude.{◌≡◌, ◌≢◌, ℕ, ◌<◌, List, ◌++◌, length, codes, decimal, Some, slice_get}
 use Rattle.aig_parts.specs.declared.raw.Raw.{Raw}
 use Rattle.aig_parts.specs.declared.ternary.Tern.{Tern}
@@ -45,8 +46,9 @@ pub record IsFirstBroken (p : CircuitAndRows) (t k : ℕ) (w : Tern) : Type 0 wh
 abbrev pub StartsRight : Raw → List Tern → Type 0
 StartsRight raw start = (k : ℕ) → StartsWrong raw start k → ⊥
 
--- What is so of property k, which has this literal. The bench's circuit has the run's start as its resets, the circuit those of
--- its file. The property is reached at a frame; it is 1 there first, but in no run of the circuit; it is x there first, and nowhere
+-- What is so of property k, which has this literal. The bench's circuit has the run's start as its resets, the circuit
+-- those of its file. The property is reached at a frame; it is 1 there first, but in no run of the circuit; it is x
+-- there first, and nowhere
 -- 1; or it is 0.
 abbrev pub IsStanding : Raw → CircuitAndRows → ℕ → ℕ → Standing → Type 0
 IsStanding raw p k l (Reached t) = IsFirstReached raw (start_of p.circuit) p.rows (Some k) t k

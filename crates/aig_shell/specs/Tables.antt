@@ -1,5 +1,7 @@
 -- What tables of values hold: the values of names now, and those of the run that was read (our own choice).
-use Rattle.std.specs.Prelude.{◌≡◌, ◌≢◌, ◌⊎◌, ℕ, ◌+◌, ◌<◌, ◌≤◌, List, [], ◌∷◌, length, map, Contains, Option, Some, slice_get}
+-- Example: a row of `count` has a cell for each frame.
+use Rattle.std.specs.Prelude.{◌≡◌, ◌≢◌, ◌⊎◌, ℕ, ◌+◌, ◌<◌, ◌≤◌, List, [], ◌∷◌, length, map, Contains, Option, Some}
+use Rattle.std.specs.Prelude.{slice_get}
 use Rattle.std.specs.List.{AllZip, range_with_len}
 use Rattle.aig_parts.specs.declared.ternary.Tern.{Tern}
 use Rattle.aig_bench.specs.BenchState.{CircuitAndRows, HasValue}
@@ -32,7 +34,8 @@ IsShown p first count names rows = AllZip (IsRowOf p first count) names rows
 
 -- the text of the values of these literals; a dot where the pair has no such frame
 abbrev pub IsCellOrDot : CircuitAndRows → List ℕ → ℕ → List ℕ → Type 0
-IsCellOrDot p literals t cell = ((t < length p.rows) × IsCell p literals t cell) ⊎ ((length p.rows ≤ t) × (cell ≡ 46 ∷ []))
+IsCellOrDot p literals t cell =
+    ((t < length p.rows) × IsCell p literals t cell) ⊎ ((length p.rows ≤ t) × (cell ≡ 46 ∷ []))
 
 -- the text of the values that a signal has in a pair
 abbrev pub IsSignalCell : CircuitAndRows → Signal → ℕ → List ℕ → Type 0
@@ -50,11 +53,13 @@ AreTwoCells now was signal t cell below =
 -- the signal has other values in the second pair at one of the frames
 abbrev pub Differs : CircuitAndRows → CircuitAndRows → ℕ → ℕ → Signal → Type 0
 Differs now was first count signal =
-    (t : ℕ) × (a : List ℕ) × (b : List ℕ) × (first ≤ t) × (t < first + count) × IsSignalCell now signal t a × IsSignalCell was signal t b
+    (t : ℕ) × (a : List ℕ) × (b : List ℕ) × (first ≤ t) × (t < first + count) × IsSignalCell now signal t a
+    × IsSignalCell was signal t b
     × (a ≢ b)
 
 -- the two rows of a signal
-pub record AreTwoRows (now was : CircuitAndRows) (first count : ℕ) (signal : Signal) (above below : TableRow) : Type 0 where
+pub record AreTwoRows (now was : CircuitAndRows) (first count : ℕ) (signal : Signal) (above below : TableRow) : Type
+    0 where
   pub name : above.name ≡ signal.name
   pub sizes : (length above.cells ≡ count) × (length below.cells ≡ count)
   pub cells : (k : ℕ) (a b : List ℕ) → slice_get above.cells k ≡ Some a → slice_get below.cells k ≡ Some b

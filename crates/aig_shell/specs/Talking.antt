@@ -1,5 +1,7 @@
--- What proofs alone need: how far a session is, while its lines are read. No contract of an exported function reaches it.
-use Rattle.std.specs.Prelude.{◌≡◌, ◌≢◌, ◌⊎◌, ◌<◌, ℕ, Bool, true, false, if◌then◌else◌, List, [], ◌∷◌, ◌++◌, Option, Result, Ok, Err, IfOk}
+-- What proofs alone need: how far a session is, while its lines are read. No contract of an exported function reaches
+-- it.
+use Rattle.std.specs.Prelude.{◌≡◌, ◌≢◌, ◌⊎◌, ◌<◌, ℕ, Bool, true, false, if◌then◌else◌, List, [], ◌∷◌, ◌++◌, Option}
+use Rattle.std.specs.Prelude.{Result, Ok, Err, IfOk}
 use Rattle.aig_bytes.specs.Bytes.{after, IsBeginning, Writes}
 use Rattle.aig_shell.specs.declared.conversation.Conversation.{Conversation}
 use Rattle.aig_shell.specs.declared.conversation.Next.{Next}
@@ -17,7 +19,8 @@ pub record Moment : Type 0 where
   pub failures : ℕ
   pub kept : Option (List (List KeptText))
 
-abbrev pub moment : {X Z : Type 0} → (X → Option (List ℕ)) → (X → ℕ) → (Z → Option (List (List KeptText))) → X → Z → Moment
+abbrev pub moment : {X Z : Type 0} → (X → Option (List ℕ)) → (X → ℕ) → (Z → Option (List (List KeptText))) → X → Z
+    → Moment
 moment written failures kept out files = record { bytes = written out; failures = failures out; kept = kept files }
 
 -- the line has these bytes so far, all of them unless it is cut
@@ -25,14 +28,16 @@ abbrev pub HoldsLine : List ℕ → Line → Type 0
 HoldsLine text line = ((line.is_cut ≡ false) × (line.bytes.items ≡ text)) ⊎ ((line.is_cut ≡ true) × (text ≢ []))
 
 -- the answer to a line is written, or a write fails
-pub record Replies {E : Type 0} (old : Conversation) (line : List ℕ) (before now : Moment) (result : Result Next E) (new : Conversation) : Type 0 where
+pub record Replies {E : Type 0} (old : Conversation) (line : List ℕ) (before now : Moment) (result : Result Next E)
+    (new : Conversation) : Type 0 where
   pub text : List ℕ
   pub next : Next
   pub same : IfOk result (λ n. n ≡ next)
   pub answers : AnswersLine old line text before.kept now.kept (ends_after next) new
   pub writes : Writes (λ (m : Moment). m.bytes) (λ (m : Moment). m.failures) before now text result
 
--- from a moment up to now: the greeting and the answers to the whole lines of the input are written, and this stands after them
+-- from a moment up to now: the greeting and the answers to the whole lines of the input are written, and this stands
+-- after them
 pub record Stands (start now : Moment) (person : Bool) (s : SessionState) (input : List ℕ) (t : Talker) : Type 0 where
   pub mid : SessionState
   pub greeting : List ℕ

@@ -1,5 +1,6 @@
 //! Which properties a run reaches.
-ghost use Rattle.std.specs.Prelude.{◌≡◌, ◌≢◌, ◌⊎◌, ◌+◌, ◌<◌, ◌≤◌, ℕ, false, List, [], ◌++◌, IfErr, IfNone, IfOk, IfSome, IsTrue, None, OnOk, Some, length, slice_get};
+ghost use Rattle.std.specs.Prelude.{◌≡◌, ◌≢◌, ◌⊎◌, ◌+◌, ◌<◌, ◌≤◌, ℕ, false, List, [], ◌++◌, IfErr, IfNone, IfOk};
+ghost use Rattle.std.specs.Prelude.{IfSome, IsTrue, None, OnOk, Some, length, slice_get};
 ghost use Rattle.aig_parts.specs.Literal.{variable};
 ghost use Rattle.aig_base.specs.Sections.{IsDefined};
 ghost use Rattle.aig_base.specs.Value.{start_of};
@@ -9,7 +10,8 @@ ghost use Rattle.aig_sim.specs.Reached.{IsFirstReached, ReachesNone};
 ghost use Rattle.aig_sim.specs.Verdict.{StartsWrong};
 ghost use Rattle.aig_shell.specs.Answers.{AreStandings, IsChecked, property_name, standings_text};
 ghost use Rattle.aig_shell.specs.Session.{IsIn, IsSession, own_circuit};
-ghost use Rattle.aig_shell.specs.Standing.{HoldAt, HoldBefore, IsBroken, IsFirstAt, IsFirstBroken, IsNever, IsStanding, StartsRight, standing_text};
+ghost use Rattle.aig_shell.specs.Standing.{HoldAt, HoldBefore, IsBroken, IsFirstAt, IsFirstBroken, IsNever, IsStanding};
+ghost use Rattle.aig_shell.specs.Standing.{StartsRight, standing_text};
 ghost use Rattle.aig_shell.specs.State.{SessionState};
 
 use crate::gate::letter;
@@ -117,7 +119,8 @@ impl Session {
     /// The least constraint that is not 1 at a frame.
     fn broken_at(&self, frame: u32) -> Option<Broken>
         requires { frame < length self.now.run.bench.pair.rows }
-        ensures some { IfSome result (λ b. (b.frame ≡ frame) × IsBroken self.now.run.bench.pair frame b.constraint b.value) }
+        ensures some { IfSome result (λ b. (b.frame ≡ frame)
+            × IsBroken self.now.run.bench.pair frame b.constraint b.value) }
         ensures none { IfNone result (HoldAt self.now.run.bench.pair frame) }
     {
         let circuit = self.circuit();
@@ -156,7 +159,8 @@ impl Session {
         requires some { IfSome broken (λ b. IsFirstBroken self.now.run.bench.pair b.frame b.constraint b.value) }
         requires none { IfNone broken (HoldBefore self.now.run.bench.pair (length self.now.run.bench.pair.rows)) }
         ensures yes { IsTrue result → HoldBefore self.now.run.bench.pair (frame + 1) }
-        ensures no { result ≡ false → (t : ℕ) × (k : ℕ) × (w : Tern) × (t ≤ frame) × IsBroken self.now.run.bench.pair t k w }
+        ensures no { result ≡ false → (t : ℕ) × (k : ℕ) × (w : Tern) × (t ≤ frame)
+            × IsBroken self.now.run.bench.pair t k w }
     {
         match broken {
             Some(broken) => frame < broken.frame,
@@ -217,7 +221,8 @@ impl Session {
         requires some { IfSome broken (λ b. IsFirstBroken self.now.run.bench.pair b.frame b.constraint b.value) }
         requires none { IfNone broken (HoldBefore self.now.run.bench.pair (length self.now.run.bench.pair.rows)) }
         ensures { OnOk result ((standings : List Standing)
-            × AreStandings (own_circuit self.now) self.now.run.bench.pair 0 self.now.run.bench.pair.circuit.bad standings
+            × AreStandings (own_circuit self.now) self.now.run.bench.pair 0 self.now.run.bench.pair.circuit.bad
+            standings
             × (text.new.items ≡ text.old.items ++ standings_text self.now.run.bench.pair.circuit 0 standings)) }
     {
         let circuit = self.circuit();
@@ -297,10 +302,12 @@ impl Session {
     ) -> Result<Reached, Refusal<'a>>
         requires session { IsSession self.now }
         requires property { IfSome asked (λ k. k < length self.now.run.bench.pair.circuit.bad) }
-        ensures ok { IfOk result (λ found. IsFirstReached (own_circuit self.now) (start_of self.now.run.bench.pair.circuit)
+        ensures ok { IfOk result (λ found. IsFirstReached (own_circuit self.now)
+            (start_of self.now.run.bench.pair.circuit)
             self.now.run.bench.pair.rows asked found.frame found.property) }
         ensures err { IfErr result (λ refusal. refusal ≢ Refusal.Memory →
-            ReachesNone (own_circuit self.now) (start_of self.now.run.bench.pair.circuit) self.now.run.bench.pair.rows asked) }
+            ReachesNone (own_circuit self.now) (start_of self.now.run.bench.pair.circuit) self.now.run.bench.pair.rows
+            asked) }
     {
         if let Some((latch, value)) = self.other_start() {
             return Err(Refusal::OtherStart { latch, value });

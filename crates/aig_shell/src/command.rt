@@ -1,5 +1,6 @@
 //! Commands: what a line asks for, with its names still as text.
-ghost use Rattle.std.specs.Prelude.{◌≡◌, ◌≢◌, ◌<◌, ℕ, List, ◌∷◌, [], IfErr, IfNone, IfOk, IfSome, length, map, option_map};
+ghost use Rattle.std.specs.Prelude.{◌≡◌, ◌≢◌, ◌<◌, ℕ, List, ◌∷◌, [], IfErr, IfNone, IfOk, IfSome, length, map};
+ghost use Rattle.std.specs.Prelude.{option_map};
 ghost use Rattle.aig_shell.specs.Commands.{EndsCommand, topic_word};
 ghost use Rattle.aig_shell.specs.Request.{maybe};
 

@@ -1,5 +1,6 @@
 //! What a line does, and its answer.
-ghost use Rattle.std.specs.Prelude.{◌≡◌, ◌++◌, ◌∷◌, ◌↔◌, [], IfNone, IfOk, IfSome, IsTrue, List, codes, OnErr, false, map, ℕ};
+ghost use Rattle.std.specs.Prelude.{◌≡◌, ◌++◌, ◌∷◌, ◌↔◌, [], IfNone, IfOk, IfSome, IsTrue, List, codes, OnErr, false};
+ghost use Rattle.std.specs.Prelude.{map, ℕ};
 ghost use Rattle.aig_dump_header.specs.Names.{words};
 ghost use Rattle.aig_shell.specs.Commands.{request_of};
 ghost use Rattle.aig_shell.specs.Conversation.{AnswersLine, EndsQuit, EndsRequest, EndsWords, ends_after, no_memory};
@@ -107,7 +108,8 @@ impl Conversation {
         requires session { IsSession self.old.session }
         requires calm { self.old.has_warned ≡ false }
         requires empty { self.old.text.items ≡ [] }
-        ensures request { EndsRequest self.old has_warned (request_of command.entry) result (K.kept files.old) (K.kept files.new) self.new }
+        ensures request { EndsRequest self.old has_warned (request_of command.entry) result (K.kept files.old)
+            (K.kept files.new) self.new }
         ensures session { IsSession self.new.session }
     {
         match command {
@@ -137,7 +139,8 @@ impl Conversation {
     ) -> Result<Next, Refusal<'a>>
         requires session { IsSession self.old.session }
         requires empty { self.old.text.items ≡ [] }
-        ensures words { EndsWords self.old (word.now ∷ map (λ w. w.now) words.now) result (K.kept files.old) (K.kept files.new) self.new }
+        ensures words { EndsWords self.old (word.now ∷ map (λ w. w.now) words.now) result (K.kept files.old)
+            (K.kept files.new) self.new }
         ensures session { IsSession self.new.session }
     {
         let has_warned = self.has_warned;
@@ -155,7 +158,8 @@ impl Conversation {
     ) -> Result<Next, Refusal<'a>>
         requires session { IsSession self.old.session }
         requires empty { self.old.text.items ≡ [] }
-        ensures words { EndsWords self.old (map (λ w. w.now) words.now) result (K.kept files.old) (K.kept files.new) self.new }
+        ensures words { EndsWords self.old (map (λ w. w.now) words.now) result (K.kept files.old) (K.kept files.new)
+            self.new }
         ensures session { IsSession self.new.session }
     {
         let Some((first, rest)) = words.split_first() else {
@@ -193,7 +197,8 @@ impl Conversation {
         requires session { IsSession self.old.session }
         ensures answered { IfOk result (λ next. AnswersLine self.old line.now self.new.text.items (K.kept files.old)
             (K.kept files.new) (ends_after next) self.new) }
-        ensures memory { OnErr result (AnswersLine self.old line.now no_memory (K.kept files.old) (K.kept files.new) false
+        ensures memory { OnErr result (AnswersLine self.old line.now no_memory (K.kept files.old) (K.kept files.new)
+            false
             self.new) }
         ensures session { IsSession self.new.session }
     {

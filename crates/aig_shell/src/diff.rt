@@ -1,5 +1,6 @@
 //! What differs from the run that was read.
-ghost use Rattle.std.specs.Prelude.{◌≡◌, ◌≢◌, ℕ, ◌+◌, ◌-◌, ◌<◌, ◌≤◌, ◌++◌, List, None, [], All, IfErr, IfNone, IfOk, IfSome, OnOk, length, option_map};
+ghost use Rattle.std.specs.Prelude.{◌≡◌, ◌≢◌, ℕ, ◌+◌, ◌-◌, ◌<◌, ◌≤◌, ◌++◌, List, None, [], All, IfErr, IfNone, IfOk};
+ghost use Rattle.std.specs.Prelude.{IfSome, OnOk, length, option_map};
 ghost use Rattle.std.specs.Str.{bytes_eq};
 ghost use Rattle.aig_parts.specs.Literal.{variable};
 ghost use Rattle.aig_base.specs.Sections.{IsDefined};
@@ -13,7 +14,8 @@ ghost use Rattle.aig_shell.specs.Ends.{EndsQuery};
 ghost use Rattle.aig_shell.specs.Request as request;
 ghost use Rattle.aig_shell.specs.Session.{IsFirst, IsSession};
 ghost use Rattle.aig_shell.specs.Tables.{AreBits, AreTwoRows, Differs, IsBelow, IsCellOrDot};
-ghost use Rattle.aig_shell.specs.Compared.{AreAllSame, AreLiterals, AreSame, AreTexts, IsDifferenceText, NoneOutside, OneDiffers};
+ghost use Rattle.aig_shell.specs.Compared.{AreAllSame, AreLiterals, AreSame, AreTexts, IsDifferenceText, NoneOutside};
+ghost use Rattle.aig_shell.specs.Compared.{OneDiffers};
 
 use crate::frames::{SHOWN, frames_of};
 use crate::refusal::Refusal;
@@ -199,9 +201,11 @@ impl Session {
     ) -> Result<Option<u32>, Memory>
         requires { All (λ l. IsDefined self.now.run.bench.pair.circuit (variable l)) literals.now.current.items }
         ensures range { IfOk result (λ found. IfSome found (λ t. (first ≤ t) × (t < end))) }
-        ensures differs { (signal : Signal) → AreLiterals self.now signal literals.now → (p : CircuitAndRows) → IsFirst self.now p
+        ensures differs { (signal : Signal) → AreLiterals self.now signal literals.now → (p : CircuitAndRows)
+            → IsFirst self.now p
             → IfOk result (λ found. IfSome found (λ t. Differs self.now.run.bench.pair p t 1 signal)) }
-        ensures same { (signal : Signal) → AreLiterals self.now signal literals.now → (p : CircuitAndRows) → IsFirst self.now p
+        ensures same { (signal : Signal) → AreLiterals self.now signal literals.now → (p : CircuitAndRows)
+            → IsFirst self.now p
             → IfOk result (λ found. IfNone found (AreSame self.now.run.bench.pair p signal first end)) }
     {
         // Its contract says that it is a circuit.
@@ -248,7 +252,8 @@ impl Session {
         end: u32,
     ) -> Result<(Row, Row), Memory>
         requires order { first ≤ end }
-        requires defined { All (λ l. IsDefined self.now.run.bench.pair.circuit (variable l)) literals.now.current.items }
+        requires defined { All (λ l. IsDefined self.now.run.bench.pair.circuit (variable l))
+            literals.now.current.items }
         ensures { AreLiterals self.now signal.now literals.now → (p : CircuitAndRows) → IsFirst self.now p
             → IfOk result (λ rows. AreTwoRows self.now.run.bench.pair p first (end - first) signal.now (row_of rows.0)
             (row_of rows.1)) }
@@ -285,7 +290,8 @@ impl Session {
         requires session { IsSession self.now }
         requires order { first ≤ end }
         ensures { (p : CircuitAndRows) → IsFirst self.now p → OnOk result ((table : List ℕ)
-            × IsDifferenceText self.now.run.bench.pair p first (end - first) table × (text.new.items ≡ text.old.items ++ table)) }
+            × IsDifferenceText self.now.run.bench.pair p first (end - first) table
+            × (text.new.items ≡ text.old.items ++ table)) }
     {
         let mut cells = Cells::new(alloc);
         let mut table = Table::new(alloc, first, end - first);
@@ -305,8 +311,8 @@ impl Session {
         table.push_text(text)
     }
 
-    /// The frames that are shown of so many where none are named, up to an end: all of a short run, and of a long one those from the
-    /// first difference on. Says which.
+    /// The frames that are shown of so many where none are named, up to an end: all of a short run, and of a long one
+    /// those from the first difference on. Says which.
     fn differing_frames(
         &self,
         alloc: Global,

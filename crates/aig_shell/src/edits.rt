@@ -1,5 +1,6 @@
 //! Edits of the run and of the circuit.
-ghost use Rattle.std.specs.Prelude.{◌≡◌, ◌≢◌, ℕ, ◌∷◌, List, [], None, Some, ◌+◌, ◌-◌, ◌*◌, ◌<◌, ◌≤◌, ◌↔◌, All, IfErr, IfOk, IsTrue, OnErr, OnOk, length, map, option_map, replicate, take};
+ghost use Rattle.std.specs.Prelude.{◌≡◌, ◌≢◌, ℕ, ◌∷◌, List, [], None, Some, ◌+◌, ◌-◌, ◌*◌, ◌<◌, ◌≤◌, ◌↔◌, All, IfErr};
+ghost use Rattle.std.specs.Prelude.{IfOk, IsTrue, OnErr, OnOk, length, map, option_map, replicate, take};
 ghost use Rattle.aig_parts.specs.Limits.{cell_limit, frame_limit};
 ghost use Rattle.aig_parts.specs.declared.symbols.Kind.TheVariants as kinds;
 ghost use Rattle.aig_parts.specs.declared.ternary.Tern.{Tern};
@@ -104,7 +105,8 @@ fn set_frames(
 fn start_latch(bench: &mut Bench<PlaneGrid>, latch: Lit, value: Tern)
     requires { IsLatchLiteral bench.old.pair.circuit latch }
     ensures leads { Leads bench.old.pair (set_reset latch value ∷ []) bench.new.pair }
-    ensures latches { map (λ x. x.lit) bench.new.pair.circuit.latches ≡ map (λ x. x.lit) bench.old.pair.circuit.latches }
+    ensures latches { map (λ x. x.lit) bench.new.pair.circuit.latches
+        ≡ map (λ x. x.lit) bench.old.pair.circuit.latches }
 {
     let Ok(_report) = bench.set_reset(latch, value) else {
         unreachable!()
@@ -204,7 +206,8 @@ impl Session {
     ) -> Result<(), Refusal<'a>>
         requires session { IsSession self.old }
         ensures session { IsSession self.new }
-        ensures edits { EndsEdit self.old.run.bench.pair (request.set frames.now name.now value.now) result self.new.run.bench.pair }
+        ensures edits { EndsEdit self.old.run.bench.pair (request.set frames.now name.now value.now) result
+            self.new.run.bench.pair }
         ensures rest { KeepsRest self.old self.new }
         ensures circuit { self.new.has_edited_circuit ≡ self.old.has_edited_circuit }
     {
@@ -232,7 +235,8 @@ impl Session {
     ) -> Result<(), Refusal<'a>>
         requires session { IsSession self.old }
         ensures session { IsSession self.new }
-        ensures edits { EndsEdit self.old.run.bench.pair (request.start name.now value.now) result self.new.run.bench.pair }
+        ensures edits { EndsEdit self.old.run.bench.pair (request.start name.now value.now) result
+            self.new.run.bench.pair }
         ensures rest { KeepsRest self.old self.new }
         ensures circuit { self.new.has_edited_circuit ≡ self.old.has_edited_circuit }
     {
@@ -252,7 +256,8 @@ impl Session {
     ) -> Result<(), Refusal<'a>>
         requires session { IsSession self.old }
         ensures session { IsSession self.new }
-        ensures edits { EndsEdit self.old.run.bench.pair (request.add (option_map (λ w. w.now) count.entry)) result self.new.run.bench.pair }
+        ensures edits { EndsEdit self.old.run.bench.pair (request.add (option_map (λ w. w.now) count.entry)) result
+            self.new.run.bench.pair }
         ensures rest { KeepsRest self.old self.new }
         ensures circuit { self.new.has_edited_circuit ≡ self.old.has_edited_circuit }
     {
@@ -269,7 +274,8 @@ impl Session {
     pub(crate) fn drop_last<'a>(&mut self, count: Option<&'a [u8]>) -> Result<(), Refusal<'a>>
         requires session { IsSession self.old }
         ensures session { IsSession self.new }
-        ensures edits { EndsEdit self.old.run.bench.pair (request.drop (option_map (λ w. w.now) count.entry)) result self.new.run.bench.pair }
+        ensures edits { EndsEdit self.old.run.bench.pair (request.drop (option_map (λ w. w.now) count.entry)) result
+            self.new.run.bench.pair }
         ensures rest { KeepsRest self.old self.new }
         ensures circuit { self.new.has_edited_circuit ≡ self.old.has_edited_circuit }
     {
@@ -324,7 +330,8 @@ impl Session {
     ) -> Result<(), Refusal<'a>>
         requires session { IsSession self.old }
         ensures session { IsSession self.new }
-        ensures edits { EndsEdit self.old.run.bench.pair (request.out name.now literal.now) result self.new.run.bench.pair }
+        ensures edits { EndsEdit self.old.run.bench.pair (request.out name.now literal.now) result
+            self.new.run.bench.pair }
         ensures rest { KeepsRest self.old self.new }
         ensures circuit { self.new.has_edited_circuit ≡ has_edited self.old.has_edited_circuit result }
     {

@@ -1,5 +1,6 @@
 //! Why a value is what it is.
-ghost use Rattle.std.specs.Prelude.{◌≡◌, ◌≢◌, ℕ, ◌+◌, ◌-◌, ◌<◌, ◌≤◌, ◌==◌, [], ◌++◌, All, IfErr, IfNone, IfOk, IfSome, OnOk, Some, count_by, length, option_map, slice_get, take};
+ghost use Rattle.std.specs.Prelude.{◌≡◌, ◌≢◌, ℕ, ◌+◌, ◌-◌, ◌<◌, ◌≤◌, ◌==◌, [], ◌++◌, All, IfErr, IfNone, IfOk, IfSome};
+ghost use Rattle.std.specs.Prelude.{OnOk, Some, count_by, length, option_map, slice_get, take};
 ghost use Rattle.aig_parts.specs.Literal.{variable};
 ghost use Rattle.aig_base.specs.Sections.{IsDefined};
 ghost use Rattle.aig_why.specs.Why.{IsExplanation, run_of};
@@ -81,7 +82,8 @@ impl Session {
         requires last { frames.last ≤ frames.first }
         requires range { All (λ l. variable l ≤ self.now.run.bench.pair.circuit.max_var) question.now.literals }
         requires defined { All (λ l. IsDefined self.now.run.bench.pair.circuit (variable l)) question.now.literals }
-        ensures { IfOk result (λ text. IsExplanation (own_circuit self.now) (run_of self.now.run.bench.pair) question.now.name
+        ensures { IfOk result (λ text. IsExplanation (own_circuit self.now) (run_of self.now.run.bench.pair)
+            question.now.name
             question.now.literals frames.first frames.last text.items) }
     {
         let mut naming = Naming::new(alloc, self.circuit())?;
@@ -136,7 +138,8 @@ impl Session {
 
     /// The frame that a word is; the last where there is no word.
     fn frame_or_last<'a>(&self, frame: Option<&'a [u8]>) -> Result<u32, Refusal<'a>>
-        ensures ok { IfOk result (IsFrameOrLast (option_map (λ w. w.now) frame.entry) (length self.now.run.bench.pair.rows)) }
+        ensures ok { IfOk result (IsFrameOrLast (option_map (λ w. w.now) frame.entry)
+            (length self.now.run.bench.pair.rows)) }
         ensures err { IfErr result (λ _. (t : ℕ) →
             IsFrameOrLast (option_map (λ w. w.now) frame.entry) (length self.now.run.bench.pair.rows) t → ⊥) }
     {
@@ -156,7 +159,8 @@ impl Session {
     ) -> Result<(), Refusal<'a>>
         requires session { IsSession self.now }
         requires empty { text.old.items ≡ [] }
-        ensures { EndsQuery self.now (request.why name.now (option_map (λ w. w.now) frame.entry)) result text.new.items }
+        ensures { EndsQuery self.now (request.why name.now (option_map (λ w. w.now) frame.entry)) result
+            text.new.items }
     {
         // Its contract says that it is a circuit.
         self.circuit().facts();
@@ -170,7 +174,8 @@ impl Session {
         Ok(())
     }
 
-    /// Adds why a name has its value at a frame; without a name, why the property that a witness would be of is reached.
+    /// Adds why a name has its value at a frame; without a name, why the property that a witness would be of is
+    /// reached.
     pub(crate) fn why<'a>(
         &self,
         alloc: Global,
@@ -180,7 +185,8 @@ impl Session {
     ) -> Result<(), Refusal<'a>>
         requires session { IsSession self.now }
         requires empty { text.old.items ≡ [] }
-        ensures { EndsQuery self.now (asks_why (option_map (λ w. w.now) name.entry) (option_map (λ w. w.now) frame.entry)) result
+        ensures { EndsQuery self.now (asks_why (option_map (λ w. w.now) name.entry)
+            (option_map (λ w. w.now) frame.entry)) result
             text.new.items }
     {
         match name {

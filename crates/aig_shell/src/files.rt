@@ -1,5 +1,6 @@
 //! What is written to files.
-ghost use Rattle.std.specs.Prelude.{◌≡◌, ◌<◌, [], IfOk, IfSome, decimal, length, map, option_map, take, None, Some, ◌+◌};
+ghost use Rattle.std.specs.Prelude.{◌≡◌, ◌<◌, [], IfOk, IfSome, decimal, length, map, option_map, take, None, Some};
+ghost use Rattle.std.specs.Prelude.{◌+◌};
 ghost use Rattle.aig_base.specs.Value.{start_of};
 ghost use Rattle.aig_format.specs.Spelling.{short_ascii};
 ghost use Rattle.aig_sim.specs.Dump.{IsDump};
@@ -92,7 +93,8 @@ impl Session {
     ) -> Result<(), Refusal<'a>>
         requires session { IsSession self.old }
         ensures session { IsSession self.new }
-        ensures files { EndsFiles self.old (request.save name.now None) result [] (K.kept files.old) (K.kept files.new) self.new }
+        ensures files { EndsFiles self.old (request.save name.now None) result [] (K.kept files.old) (K.kept files.new)
+            self.new }
     {
         let circuit = self.saved_circuit(alloc)?;
         keep(
@@ -118,7 +120,8 @@ impl Session {
     ) -> Result<(), Refusal<'a>>
         requires session { IsSession self.old }
         ensures session { IsSession self.new }
-        ensures files { EndsFiles self.old (request.save name.now (Some stimulus.now)) result text.new.items (K.kept files.old) (K.kept files.new) self.new }
+        ensures files { EndsFiles self.old (request.save name.now (Some stimulus.now)) result text.new.items
+            (K.kept files.old) (K.kept files.new) self.new }
     {
         let circuit = self.saved_circuit(alloc)?;
         let rows = self.saved_rows(alloc)?;
@@ -157,7 +160,8 @@ impl Session {
         requires session { IsSession self.old }
         requires empty { text.old.items ≡ [] }
         ensures session { IsSession self.new }
-        ensures files { EndsFiles self.old (request.save circuit.now (option_map (λ w. w.now) stimulus.entry)) result text.new.items (K.kept files.old) (K.kept files.new) self.new }
+        ensures files { EndsFiles self.old (request.save circuit.now (option_map (λ w. w.now) stimulus.entry)) result
+            text.new.items (K.kept files.old) (K.kept files.new) self.new }
     {
         match stimulus {
             Some(stimulus) => self.save_both(alloc, files, text, circuit, stimulus),
@@ -214,7 +218,8 @@ impl Session {
         requires session { IsSession self.old }
         requires empty { text.old.items ≡ [] }
         ensures session { IsSession self.new }
-        ensures files { EndsFiles self.old (request.witness name.now (option_map (λ w. w.now) property.entry)) result text.new.items (K.kept files.old) (K.kept files.new) self.new }
+        ensures files { EndsFiles self.old (request.witness name.now (option_map (λ w. w.now) property.entry)) result
+            text.new.items (K.kept files.old) (K.kept files.new) self.new }
     {
         let asked = self.asked(alloc, property)?;
         let reached = self.reached(alloc, asked)?;
@@ -255,7 +260,8 @@ impl Session {
         name: &'a [u8],
     ) -> Result<(), Refusal<'a>>
         requires session { IsSession self.now }
-        ensures files { EndsFiles self.now (request.wave name.now) result [] (K.kept files.old) (K.kept files.new) self.now }
+        ensures files { EndsFiles self.now (request.wave name.now) result [] (K.kept files.old) (K.kept files.new)
+            self.now }
     {
         let text = self.wave_text(alloc)?;
         keep(

@@ -1,5 +1,6 @@
 //! Frames as words of a line.
-ghost use Rattle.std.specs.Prelude.{◌≡◌, ◌≢◌, ℕ, ◌+◌, ◌-◌, ◌^◌, ◌<◌, ◌≤◌, [], All, IfErr, IfNone, IfOk, IfSome, length, slice_get, take};
+ghost use Rattle.std.specs.Prelude.{◌≡◌, ◌≢◌, ℕ, ◌+◌, ◌-◌, ◌^◌, ◌<◌, ◌≤◌, [], All, IfErr, IfNone, IfOk, IfSome, length};
+ghost use Rattle.std.specs.Prelude.{slice_get, take};
 ghost use Rattle.aig_shell.specs.Edits.{AreFrames, IsFrame};
 
 use crate::refusal::Refusal;

@@ -205,7 +205,8 @@ impl Session {
     ) -> Result<(), Refusal<'a>>
         requires session { IsSession self.old }
         ensures session { IsSession self.new }
-        ensures edits { EndsEdit self.old.run.bench.pair (request.rewire name.now side0.now side1.now) result self.new.run.bench.pair }
+        ensures edits { EndsEdit self.old.run.bench.pair (request.rewire name.now side0.now side1.now) result
+            self.new.run.bench.pair }
         ensures rest { KeepsRest self.old self.new }
         ensures circuit { self.new.has_edited_circuit ≡ has_edited self.old.has_edited_circuit result }
     {
@@ -236,7 +237,8 @@ impl Session {
     ) -> Result<(), Refusal<'a>>
         requires session { IsSession self.old }
         ensures session { IsSession self.new }
-        ensures edits { EndsEdit self.old.run.bench.pair (request.append side0.now side1.now) result self.new.run.bench.pair }
+        ensures edits { EndsEdit self.old.run.bench.pair (request.append side0.now side1.now) result
+            self.new.run.bench.pair }
         ensures text { OnOk result (text.new.items ≡ text.old.items ++
             (decimal (2 * (self.old.run.bench.pair.circuit.max_var + 1)) ++ 10 ∷ [])) }
         ensures rest { KeepsRest self.old self.new }

@@ -72,5 +72,6 @@ pub trait Keep {
 
     /// Gives each file its text, or none of them. All texts are complete before the first file changes.
     fn keep(&mut self, files: &[FileText<'_, '_>]) -> Result<(), Unkept>
-        ensures { kept self.new ≡ after_keeping (kept self.old) (map (λ file. record { name = file.name.now; text = file.text.now }) files.now) result };
+        ensures { kept self.new ≡ after_keeping (kept self.old)
+            (map (λ file. record { name = file.name.now; text = file.text.now }) files.now) result };
 }

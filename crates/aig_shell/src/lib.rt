@@ -1,5 +1,5 @@
-//! `shell`: a prompt with names over the workbench. It knows no file name, argument or standard stream: lines come from a
-//! reader, and files are written by what the caller gives.
+//! `shell`: a prompt with names over the workbench. It knows no file name, argument or standard stream: lines come from
+//! a reader, and files are written by what the caller gives.
 #![tactic(auto)]
 
 mod check;

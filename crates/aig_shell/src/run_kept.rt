@@ -1,5 +1,6 @@
 //! Runs that were read or written.
-ghost use Rattle.std.specs.Prelude.{◌≡◌, ◌↔◌, ℕ, ◌+◌, ◌*◌, ◌<◌, ◌≤◌, IfNone, IfOk, IfSome, IsTrue, Some, length, slice_get};
+ghost use Rattle.std.specs.Prelude.{◌≡◌, ◌↔◌, ℕ, ◌+◌, ◌*◌, ◌<◌, ◌≤◌, IfNone, IfOk, IfSome, IsTrue, Some, length};
+ghost use Rattle.std.specs.Prelude.{slice_get};
 ghost use Rattle.aig_parts.specs.Literal.{variable};
 ghost use Rattle.aig_parts.specs.declared.ternary.Tern.{Tern};
 ghost use Rattle.aig_base.specs.Sections.{IsDefined};
@@ -38,7 +39,8 @@ fn value_of(bench: &Bench<PlaneGrid>, frame: u32, variable: u32) -> Tern
 fn values_at(alloc: Global, bench: &Bench<PlaneGrid>, frame: u32) -> Result<Vec<Tern>, Memory>
     requires frame { frame < length bench.now.pair.rows }
     ensures size { IfOk result (λ row. length row.items ≡ bench.now.pair.circuit.max_var + 1) }
-    ensures values { IfOk result (λ row. (v : ℕ) (w : Tern) → IsDefined bench.now.pair.circuit v → slice_get row.items v ≡ Some w →
+    ensures values { IfOk result (λ row. (v : ℕ) (w : Tern) → IsDefined bench.now.pair.circuit v → slice_get row.items v
+        ≡ Some w →
         HasValue bench.now.pair frame (2 * v) w) }
 {
     let mut values = Vec::new(alloc);
@@ -83,9 +85,11 @@ impl FirstRun {
 
     /// The value of a literal at a frame; none where there is no such frame.
     pub(crate) fn value(&self, frame: u32, literal: Lit) -> Option<Tern>
-        ensures some { IfSome result (λ w. (p : CircuitAndRows) → KeepsFirst self.now p → IsDefined p.circuit (variable literal) →
+        ensures some { IfSome result (λ w. (p : CircuitAndRows) → KeepsFirst self.now p
+            → IsDefined p.circuit (variable literal) →
             HasValue p frame literal w) }
-        ensures none { IfNone result ((p : CircuitAndRows) → KeepsFirst self.now p → IsDefined p.circuit (variable literal) →
+        ensures none { IfNone result ((p : CircuitAndRows) → KeepsFirst self.now p
+            → IsDefined p.circuit (variable literal) →
             length p.rows ≤ frame) }
     {
         let row = self.rows.get(frame as usize)?;

@@ -2,7 +2,8 @@
 ghost use Rattle.std.specs.Prelude.{◌≡◌, IfErr, IfOk, length};
 ghost use Rattle.aig_base.specs.Value.{start_of};
 ghost use Rattle.aig_bytes.specs.Flow.{flow};
-ghost use Rattle.aig_shell.specs.Conversation.{EndsShell, begun_of, BeginsSession, OpensSession, RefusesFiles, RefusesRows};
+ghost use Rattle.aig_shell.specs.Conversation.{EndsShell, begun_of, BeginsSession, OpensSession, RefusesFiles};
+ghost use Rattle.aig_shell.specs.Conversation.{RefusesRows};
 
 use crate::conversation::Conversation;
 use crate::keeper::Keep;
@@ -88,8 +89,8 @@ fn converse<K: Keep, R: Read, W: Write>(
     }
 }
 
-/// The command `shell`: reads lines to their end, or to a `quit`, and answers each about a circuit and a run, which lines
-/// edit. It flushes the writer before it reads on, and before it ends.
+/// The command `shell`: reads lines to their end, or to a `quit`, and answers each about a circuit and a run, which
+/// lines edit. It flushes the writer before it reads on, and before it ends.
 pub fn run_shell<K: Keep, R: Read, W: Write>(
     alloc: Global,
     circuit: &[u8],

@@ -1,5 +1,6 @@
 //! Tables of values.
-ghost use Rattle.std.specs.Prelude.{◌≡◌, ◌≢◌, ◌+◌, ◌-◌, ◌^◌, ◌<◌, ◌≤◌, List, [], ℕ, All, IfErr, IfOk, None, OnOk, length, map, option_map};
+ghost use Rattle.std.specs.Prelude.{◌≡◌, ◌≢◌, ◌+◌, ◌-◌, ◌^◌, ◌<◌, ◌≤◌, List, [], ℕ, All, IfErr, IfOk, None, OnOk};
+ghost use Rattle.std.specs.Prelude.{length, map, option_map};
 ghost use Rattle.aig_parts.specs.Literal.{variable};
 ghost use Rattle.aig_base.specs.Sections.{IsDefined};
 ghost use Rattle.aig_prompt.specs.Table.{TableRow, row_of};
@@ -107,7 +108,8 @@ impl Session {
         frames: Option<&'a [u8]>,
     ) -> Result<Frames, Refusal<'a>>
         ensures shown { IfOk result (λ found.
-            ShowsFrames (option_map (λ w. w.now) frames.entry) (length self.now.run.bench.pair.rows) found.first found.last) }
+            ShowsFrames (option_map (λ w. w.now) frames.entry) (length self.now.run.bench.pair.rows) found.first
+            found.last) }
         ensures order { IfOk result (λ found. found.first ≤ found.last) }
         ensures within { IfOk result (λ found. found.last < length self.now.run.bench.pair.rows) }
         ensures fits { IfOk result (λ found. found.last + 1 < 2 ^ 32) }
@@ -180,7 +182,8 @@ impl Session {
     ) -> Result<(), Refusal<'a>>
         requires session { IsSession self.now }
         requires empty { text.old.items ≡ [] }
-        ensures { EndsQuery self.now (request.show (map (λ w. w.now) names.now) (option_map (λ w. w.now) frames.entry)) result
+        ensures { EndsQuery self.now (request.show (map (λ w. w.now) names.now) (option_map (λ w. w.now) frames.entry))
+            result
             text.new.items }
     {
         let shown = self.frames_to_show(text, frames)?;

@@ -6,7 +6,8 @@ ghost use Rattle.aig_shell.specs.Answers.{IsUnsaved};
 ghost use Rattle.aig_shell.specs.Conversation.{BreaksDown, Ended, IsAt, IsGreeting, prompt};
 ghost use Rattle.aig_shell.specs.Session.{IsSession};
 ghost use Rattle.aig_shell.specs.State.{SessionState};
-ghost use Rattle.aig_shell.specs.Talking.{EndsInput, Feeds, Finishes, HoldsLine, Moment, Replies, Stands, moment, newline};
+ghost use Rattle.aig_shell.specs.Talking.{EndsInput, Feeds, Finishes, HoldsLine, Moment, Replies, Stands, moment};
+ghost use Rattle.aig_shell.specs.Talking.{newline};
 
 use crate::conversation::{Conversation, Next};
 use crate::keeper::Keep;
@@ -177,8 +178,10 @@ impl Talker {
     ) -> Result<Next, Io>
         requires session { IsSession self.old.conversation.session }
         ensures session { IsSession self.new.conversation.session }
-        ensures reply { (held : List ℕ) → HoldsLine held self.old.line → Replies self.old.conversation (held ++ piece.now)
-            (moment W.written W.failures K.kept out.old files.old) (moment W.written W.failures K.kept out.new files.new)
+        ensures reply { (held : List ℕ) → HoldsLine held self.old.line
+            → Replies self.old.conversation (held ++ piece.now)
+            (moment W.written W.failures K.kept out.old files.old)
+            (moment W.written W.failures K.kept out.new files.new)
             result self.new.conversation }
         ensures empty { OnOk result ((held : List ℕ) → HoldsLine held self.old.line → HoldsLine [] self.new.line) }
         ensures prompt { self.new.has_prompt ≡ self.old.has_prompt }
@@ -284,20 +287,22 @@ impl Talker {
         out: &mut W,
     ) -> Result<(), Io>
         requires session { IsSession self.old.conversation.session }
-        ensures ended { OnOk result ((s : SessionState) → IsAt self.old.conversation s → HoldsLine [] self.old.line → Ended (record {
-          reader = flow R.left R.failures reader.old reader.new;
-          out = flow W.written W.failures out.old out.new;
-          kept = K.kept;
-          files = files.old;
-          files_after = files.new;
-        }) self.old.has_prompt s) }
-        ensures failed { OnErr result ((s : SessionState) → IsAt self.old.conversation s → HoldsLine [] self.old.line → BreaksDown (record {
-          reader = flow R.left R.failures reader.old reader.new;
-          out = flow W.written W.failures out.old out.new;
-          kept = K.kept;
-          files = files.old;
-          files_after = files.new;
-        }) self.old.has_prompt s) }
+        ensures ended { OnOk result ((s : SessionState) → IsAt self.old.conversation s → HoldsLine [] self.old.line
+            → Ended (record {
+              reader = flow R.left R.failures reader.old reader.new;
+              out = flow W.written W.failures out.old out.new;
+              kept = K.kept;
+              files = files.old;
+              files_after = files.new;
+            }) self.old.has_prompt s) }
+        ensures failed { OnErr result ((s : SessionState) → IsAt self.old.conversation s → HoldsLine [] self.old.line
+            → BreaksDown (record {
+              reader = flow R.left R.failures reader.old reader.new;
+              out = flow W.written W.failures out.old out.new;
+              kept = K.kept;
+              files = files.old;
+              files_after = files.new;
+            }) self.old.has_prompt s) }
     {
         self.begin(alloc, out)?;
         let mut buffer = [0u8; 4096];

@@ -1,5 +1,7 @@
 -- Words X[n]: their indices, and the table of their literals.
-use Rattle.std.proofs.Common.{◌≡◌, ◌≢◌, ℕ, zero, suc, ◌+◌, ◌-◌, ◌<◌, ◌≤◌, Bool, true, false, List, [], ◌∷◌, ◌++◌, length, get_or, take, drop, map, Option, None, Some, All, inl, inr, refl, sym, ap, subst, ◌∙◌, arith, append_assoc}
+use Rattle.std.proofs.Common.{◌≡◌, ◌≢◌, ℕ, zero, suc, ◌+◌, ◌-◌, ◌<◌, ◌≤◌, Bool, true, false, List, [], ◌∷◌, ◌++◌}
+use Rattle.std.proofs.Common.{length, get_or, take, drop, map, Option, None, Some, All, inl, inr, refl, sym, ap, subst}
+use Rattle.std.proofs.Common.{◌∙◌, arith, append_assoc}
 use Rattle.std.specs.Prelude.{◌==◌, min, max, fold, find, filter_map, flat_map, option_map, if◌then◌else◌, set}
 use Rattle.std.specs.Option.{option_or}
 use Rattle.std.specs.List.{range_with_len}
@@ -7,17 +9,20 @@ use Rattle.std.proofs.Math.Nat.{min-le_left, min-le_right, le-max_left, le-max_r
 use Rattle.std.proofs.lemmas.Bool.{eq-eqb}
 use Rattle.std.proofs.lemmas.Bool.Decides.{eqb_tells}
 use Rattle.std.proofs.lemmas.Grind.{get_or-set_at}
-use Rattle.std.proofs.lemmas.List.{append-nil, get_or_default, take_all, take_more, drop_more, drop_all, get_or-set_other, ext_get_or}
+use Rattle.std.proofs.lemmas.List.{append-nil, get_or_default, take_all, take_more, drop_more, drop_all}
+use Rattle.std.proofs.lemmas.List.{get_or-set_other, ext_get_or}
 use Rattle.std.proofs.lemmas.List.Folds.{find-append}
 use Rattle.std.proofs.lemmas.List.Sums.{fold_more}
-use Rattle.std.proofs.lemmas.List.Elements.{All-nil, All-cons, All-weaker, All-get_or, All-from_get_or, filter_map-append}
+use Rattle.std.proofs.lemmas.List.Elements.{All-nil, All-cons, All-weaker, All-get_or, All-from_get_or}
+use Rattle.std.proofs.lemmas.List.Elements.{filter_map-append}
 use Rattle.std.proofs.lemmas.List.FromFn.{get_or-map-range_with_len, length-map-range_with_len}
 use Rattle.indexmap.proofs.IndexTableLemmas.Probe.{pigeonhole}
 use Rattle.aig_parts.specs.declared.raw.Raw.{Raw}
 use Rattle.aig_parts.specs.declared.symbols.Kind.{Kind}
 use Rattle.aig_signals.specs.Names.{literals_of}
 use Rattle.aig_signals.specs.declared.bits.WordBit.{WordBit}
-use Rattle.aig_signals.specs.Bits.{bit_literal, bits_between, bits_named, all_bits, all_there, entry_bits, section_bits, word_bits, least_index, greatest_index}
+use Rattle.aig_signals.specs.Bits.{bit_literal, bits_between, bits_named, all_bits, all_there, entry_bits, section_bits}
+use Rattle.aig_signals.specs.Bits.{word_bits, least_index, greatest_index}
 
 -- one word more
 pub words_more : {X Y : Type 0} (h : X → Option Y) (now new all : List Y) (xs ys : List X) (x : X) → xs ≡ x ∷ ys

@@ -1,9 +1,11 @@
 -- What a name means is of variable 0, an input, a latch or a gate.
-use Rattle.std.proofs.Common.{◌≡◌, ℕ, zero, suc, ◌+◌, ◌*◌, ◌≤◌, ◌⊎◌, ◌%◌, Bool, List, [], ◌∷◌, ◌++◌, map, get_or, Option, None, Some, All, Contains, inl, inr, refl, sym, subst, arith}
+use Rattle.std.proofs.Common.{◌≡◌, ℕ, zero, suc, ◌+◌, ◌*◌, ◌≤◌, ◌⊎◌, ◌%◌, Bool, List, [], ◌∷◌, ◌++◌, map, get_or}
+use Rattle.std.proofs.Common.{Option, None, Some, All, Contains, inl, inr, refl, sym, subst, arith}
 use Rattle.std.specs.Prelude.{option_map, IfSome, filter_map, flat_map, find, slice_index_or}
 use Rattle.std.specs.List.{cons_option}
 use Rattle.std.proofs.lemmas.Bool.{cases_Bool}
-use Rattle.std.proofs.lemmas.List.Elements.{All-nil, All-cons, All-head, All-tail, All-append, All-map, All-weaker, All-contains_itself, Contains-append_right}
+use Rattle.std.proofs.lemmas.List.Elements.{All-nil, All-cons, All-head, All-tail, All-append, All-map, All-weaker}
+use Rattle.std.proofs.lemmas.List.Elements.{All-contains_itself, Contains-append_right}
 use Rattle.aig_parts.specs.declared.gate.Gate.{Gate}
 use Rattle.aig_parts.specs.declared.latch.Latch.{Latch}
 use Rattle.aig_parts.specs.declared.raw.Raw.{Raw}
@@ -21,8 +23,10 @@ use Rattle.aig_signals.specs.declared.bits.WordBit.{WordBit}
 use Rattle.aig_signals.specs.declared.lookup.Rule.{Rule}
 use Rattle.aig_signals.specs.declared.lookup.Rule.TheVariants as rule
 use Rattle.aig_signals.specs.declared.signal.Signal.{Signal}
-use Rattle.aig_signals.specs.Bits.{all_bits, all_there, bit_literal, bits_named, entry_bits, index_in, section_bits, word_bit, word_bits}
-use Rattle.aig_signals.specs.Lookup.{alone, entry_by, entry_literal, literals_called, literals_by, or_else, signal_literals, signal_named, IsPlain, MeansPlainly, Means}
+use Rattle.aig_signals.specs.Bits.{all_bits, all_there, bit_literal, bits_named, entry_bits, index_in, section_bits}
+use Rattle.aig_signals.specs.Bits.{word_bit, word_bits}
+use Rattle.aig_signals.specs.Lookup.{alone, entry_by, entry_literal, literals_called, literals_by, or_else}
+use Rattle.aig_signals.specs.Lookup.{signal_literals, signal_named, IsPlain, MeansPlainly, Means}
 use Rattle.aig_signals.specs.Names.{entry_words, literal_of, literals_of, readable, sections}
 use Rattle.aig_dump_header.specs.Vectors.{bit_of}
 

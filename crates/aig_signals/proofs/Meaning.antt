@@ -7,7 +7,8 @@ use Rattle.aig_base.specs.Sections.{IsDefined}
 use Rattle.aig_signals.specs.declared.lookup.Rule.{Rule}
 use Rattle.aig_signals.specs.declared.lookup.Rule.TheVariants as rule
 use Rattle.aig_signals.specs.Bits.{bits_named}
-use Rattle.aig_signals.specs.Lookup.{or_else, alone, entry_literal, entry_by, literals_by, signal_literals, signal_named, literals_called, IsPlain, MeansPlainly, IsNoName, Means, Unknown}
+use Rattle.aig_signals.specs.Lookup.{or_else, alone, entry_literal, entry_by, literals_by, signal_literals}
+use Rattle.aig_signals.specs.Lookup.{signal_named, literals_called, IsPlain, MeansPlainly, IsNoName, Means, Unknown}
 
 module _ (raw : Raw) (name : List ℕ) where
   -- the literal that a rule finds

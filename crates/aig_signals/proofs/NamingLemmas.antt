@@ -1,18 +1,24 @@
 -- Signals one after the other, and what is named of them.
-use Rattle.std.proofs.Common.{◌≡◌, ◌≢◌, ◌⊎◌, ℕ, zero, suc, ◌+◌, ◌-◌, ◌<◌, ◌≤◌, Bool, true, false, List, [], ◌∷◌, ◌++◌, length, get_or, take, drop, map, replicate, All, Contains, Option, None, Some, inl, inr, refl, sym, ap, subst, ◌∙◌, arith, add-one, append_assoc, append-nil}
+use Rattle.std.proofs.Common.{◌≡◌, ◌≢◌, ◌⊎◌, ℕ, zero, suc, ◌+◌, ◌-◌, ◌<◌, ◌≤◌, Bool, true, false, List, [], ◌∷◌, ◌++◌}
+use Rattle.std.proofs.Common.{length, get_or, take, drop, map, replicate, All, Contains, Option, None, Some, inl, inr}
+use Rattle.std.proofs.Common.{refl, sym, ap, subst, ◌∙◌, arith, add-one, append_assoc, append-nil}
 use Rattle.std.specs.Prelude.{filter, flat_map, is_some, nat_le, set, slice_get}
 use Rattle.std.specs.List.{list_any}
 use Rattle.std.proofs.lemmas.Bool.{cases_Bool, cases_lt, eqb-true, eqb-false, leb-true, leb-false, le-leb}
 use Rattle.std.proofs.lemmas.Bool.Decides.{eqb_tells}
-use Rattle.std.proofs.lemmas.List.{get_or_append_left, length-append, take_more, take_all, length-replicate, length-set, length-take-le, length-drop, get_or-set_other, get_or-set_same, get_or-replicate, ext_get_or, get_or-take, get_or-drop}
+use Rattle.std.proofs.lemmas.List.{get_or_append_left, length-append, take_more, take_all, length-replicate, length-set}
+use Rattle.std.proofs.lemmas.List.{length-take-le, length-drop, get_or-set_other, get_or-set_same, get_or-replicate}
+use Rattle.std.proofs.lemmas.List.{ext_get_or, get_or-take, get_or-drop}
 use Rattle.std.proofs.lemmas.List.Sorted.{Contains-permutation, IsPermutation-sym}
 use Rattle.std.specs.List.Sorted.{IsPartitionedBy, IsPartitionPoint, IsPermutation, IsSorted}
 use Rattle.std.specs.Ordering.{nat_cmp}
 use Rattle.std.proofs.lemmas.Grind.{flat_map-append, get_or_default_zero}
 use Rattle.std.proofs.lemmas.Map.Keys.{ge_from_not_lt}
 use Rattle.std.proofs.lemmas.List.Folds.{list_any_at, Any-from_list_any}
-use Rattle.std.proofs.lemmas.List.Elements.{filter-append, Contains-append_left, Contains-push, Contains-push_cases, Contains-get_or}
-use Rattle.std.proofs.lemmas.Option.{slice_get_cases, slice_get_read, slice_get_within, slice_get-get_or, get_or_from_slice_get}
+use Rattle.std.proofs.lemmas.List.Elements.{filter-append, Contains-append_left, Contains-push, Contains-push_cases}
+use Rattle.std.proofs.lemmas.List.Elements.{Contains-get_or}
+use Rattle.std.proofs.lemmas.Option.{slice_get_cases, slice_get_read, slice_get_within, slice_get-get_or}
+use Rattle.std.proofs.lemmas.Option.{get_or_from_slice_get}
 use Rattle.aig_parts.specs.declared.raw.Raw.{Raw}
 use Rattle.aig_parts.specs.declared.symbols.Kind.{Kind}
 use Rattle.aig_parts.specs.declared.ternary.Tern.{Tern}
@@ -297,7 +303,8 @@ unfoldable pub end_of : List ℕ → ℕ → ℕ
 end_of named zero = 0
 end_of named (suc k) = suc (get_or named k 0)
 
--- the words that were written when the numbers up to index i were looked at: those of the signals up to the last of them
+-- the words that were written when the numbers up to index i were looked at: those of the signals up to the last of
+-- them
 abbrev pub WordsSoFar : List Signal → List (Option Tern) → List ℕ → List ℕ → ℕ → List ℕ → Type 0
 WordsSoFar signals values named old i text =
     text ≡ old ++ flat_map (λ s. 32 ∷ signal_word values s) (filter (is_named values) (take (end_of named i) signals))
@@ -337,7 +344,8 @@ module _ (signals : List Signal) (values : List (Option Tern)) (named : List ℕ
     | inr fails ↦ fails
   ]
 
-  -- no signal from `next` up to `upto` is named, where the numbers up to index i are below the one and the others not below the other
+  -- no signal from `next` up to `upto` is named, where the numbers up to index i are below the one and the others not
+  -- below the other
   words_gap : (i next upto : ℕ) → next ≤ upto → upto ≤ length signals → ((j : ℕ) → j < i → j < length named → get_or named j 0 < next)
       → ((j : ℕ) → i ≤ j → j < length named → upto ≤ get_or named j 0)
       → filter (is_named values) (take upto signals) ≡ filter (is_named values) (take next signals)

@@ -1,5 +1,6 @@
 -- Names of vectors that were seen once, or more often.
-use Rattle.std.proofs.Common.{◌≡◌, ℕ, zero, suc, ◌+◌, ◌<◌, Bool, true, false, List, length, get_or, take, Option, None, Some, inl, inr, refl, sym, ap, ◌∙◌, arith, add-one}
+use Rattle.std.proofs.Common.{◌≡◌, ℕ, zero, suc, ◌+◌, ◌<◌, Bool, true, false, List, length, get_or, take, Option, None}
+use Rattle.std.proofs.Common.{Some, inl, inr, refl, sym, ap, ◌∙◌, arith, add-one}
 use Rattle.std.specs.Prelude.{◌==◌, not, is_some}
 use Rattle.std.specs.List.{count_by}
 use Rattle.std.specs.Map.{lookup, IsKeyTest, AreApart, KeepsOthers}

@@ -1,5 +1,6 @@
 -- Signals, run by run and section by section.
-use Rattle.std.proofs.Common.{◌≡◌, ℕ, ◌+◌, ◌<◌, ◌≤◌, Bool, List, [], ◌∷◌, ◌++◌, length, get_or, take, drop, map, Option, None, Some, sym, ap, ◌∙◌, append_assoc, append-nil}
+use Rattle.std.proofs.Common.{◌≡◌, ℕ, ◌+◌, ◌<◌, ◌≤◌, Bool, List, [], ◌∷◌, ◌++◌, length, get_or, take, drop, map, Option}
+use Rattle.std.proofs.Common.{None, Some, sym, ap, ◌∙◌, append_assoc, append-nil}
 use Rattle.std.specs.Prelude.{◌==◌}
 use Rattle.std.specs.List.{flat_map}
 use Rattle.std.proofs.lemmas.List.{map-append, take_more, drop_more, drop_all}
@@ -8,7 +9,8 @@ use Rattle.aig_parts.specs.declared.raw.Raw.{Raw}
 use Rattle.aig_parts.specs.declared.symbols.Kind.{Kind}
 use Rattle.aig_signals.specs.declared.run.Run.{Run}
 use Rattle.aig_signals.specs.Names.{first_name}
-use Rattle.aig_signals.specs.Signals.{first_bit, is_called, bit_in, size_of, vector_name, name_by, count_called, signal_of, runs_of, section_signals}
+use Rattle.aig_signals.specs.Signals.{first_bit, is_called, bit_in, size_of, vector_name, name_by, count_called}
+use Rattle.aig_signals.specs.Signals.{signal_of, runs_of, section_signals}
 use Rattle.std.specs.Hash.DefaultHasher as sip
 use Rattle.aig_signals.specs.declared.hash.NameHash.{NameHash}
 use Rattle.aig_signals.specs.state.NameHash.{hash_by}

@@ -1,12 +1,14 @@
 -- Digits and letters of values, written from the last bit to the first.
-use Rattle.std.proofs.Common.{◌≡◌, ◌≢◌, ℕ, ◌+◌, ◌*◌, ◌<◌, true, false, List, [], ◌∷◌, ◌++◌, length, get_or, take, map, Option, refl, sym, ap, ◌∙◌, arith, append_assoc, append-nil}
+use Rattle.std.proofs.Common.{◌≡◌, ◌≢◌, ℕ, ◌+◌, ◌*◌, ◌<◌, true, false, List, [], ◌∷◌, ◌++◌, length, get_or, take, map}
+use Rattle.std.proofs.Common.{Option, refl, sym, ap, ◌∙◌, arith, append_assoc, append-nil}
 use Rattle.std.specs.Prelude.{reverse, decimal, codes, ◌==◌}
 use Rattle.std.specs.List.{range_with_len, list_all}
 use Rattle.std.proofs.lemmas.List.{map-append, reverse-append, take_more, take_all}
 use Rattle.std.proofs.lemmas.Bool.{ne_eqb, eq-eqb}
 use Rattle.std.proofs.lemmas.List.FromFn.{map-range_with_len_more}
 use Rattle.aig_parts.specs.declared.ternary.Tern.{Tern}
-use Rattle.aig_signals.specs.Value.{bit_letter, binary, hexadecimal, hexadecimal_digit, four_bits, value_text, is_unknown, is_known}
+use Rattle.aig_signals.specs.Value.{bit_letter, binary, hexadecimal, hexadecimal_digit, four_bits, value_text}
+use Rattle.aig_signals.specs.Value.{is_unknown, is_known}
 
 -- the last of some items is the first where they are turned round
 turned_more : {X : Type 0} (front : List X) (x : X) → reverse (front ++ x ∷ []) ≡ x ∷ reverse front

@@ -1,6 +1,8 @@
 -- A name X by the words X[n] of any entries: all its bits from the least n to the greatest, unless one is missing (our
 -- own choice).
-use Rattle.std.specs.Prelude.{ℕ, ◌+◌, ◌-◌, ◌==◌, min, max, if◌then◌else◌, List, [], ◌∷◌, length, map, Option, None, Some, option_map, fold, find, filter_map, flat_map}
+-- Example: with the words `v[0]` of one entry and `v[1]` of another, `v` is both.
+use Rattle.std.specs.Prelude.{ℕ, ◌+◌, ◌-◌, ◌==◌, min, max, if◌then◌else◌, List, [], ◌∷◌, length, map, Option, None}
+use Rattle.std.specs.Prelude.{Some, option_map, fold, find, filter_map, flat_map}
 use Rattle.std.specs.List.{range_with_len}
 use Rattle.std.specs.Str.{bytes_eq}
 use Rattle.aig_parts.specs.declared.raw.Raw.{Raw}

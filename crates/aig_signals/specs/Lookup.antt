@@ -1,5 +1,7 @@
 -- What a name means: literals, from bit 0 up (our own choice). Of two entries the earlier one is meant.
-use Rattle.std.specs.Prelude.{◌≡◌, ◌⊎◌, ℕ, zero, suc, ◌-◌, Bool, if◌then◌else◌, List, [], ◌∷◌, length, map, Option, None, Some, option_map, decimal}
+-- Example: `!q` is each bit of `q` negated.
+use Rattle.std.specs.Prelude.{◌≡◌, ◌⊎◌, ℕ, zero, suc, ◌-◌, Bool, if◌then◌else◌, List, [], ◌∷◌, length, map, Option}
+use Rattle.std.specs.Prelude.{None, Some, option_map, decimal}
 use Rattle.std.specs.List.{list_any, find, range_with_len}
 use Rattle.std.specs.Str.{bytes_eq}
 use Rattle.aig_parts.specs.declared.raw.Raw.{Raw}
@@ -83,7 +85,8 @@ entry_in raw name kind =
 unfoldable pub literals_called : Raw → List ℕ → Option (List ℕ)
 literals_called raw name =
     or_else (literals_by raw name rule.FirstName) (or_else (option_map (signal_literals raw) (signal_named raw name))
-    (or_else (literals_by raw name rule.FurtherWord) (or_else (bits_named raw name) (literals_by raw name rule.Position))))
+    (or_else (literals_by raw name rule.FurtherWord)
+    (or_else (bits_named raw name) (literals_by raw name rule.Position))))
 
 -- the name is the number of a literal of variable 0, an input, a latch or a gate
 abbrev pub IsNumber : Raw → List ℕ → ℕ → Type 0

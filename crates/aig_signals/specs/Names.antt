@@ -1,4 +1,5 @@
 -- Names of a circuit's entries as people read and type them (our own choice).
+-- Example: `q[0] top.q` has the first name `q[0]` and one further name.
 use Rattle.std.specs.Prelude.{ℕ, ◌||◌, nat_lt, if◌then◌else◌, List, [], ◌∷◌, map, decimal, slice_index_or}
 use Rattle.aig_parts.specs.declared.raw.Raw.{Raw}
 use Rattle.aig_parts.specs.declared.symbols.Kind.{Kind}

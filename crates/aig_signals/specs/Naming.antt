@@ -1,5 +1,7 @@
 -- What a line names of a section: some entries with their values, and the words for them (our own choice).
-use Rattle.std.specs.Prelude.{ℕ, ◌-◌, Bool, List, ◌∷◌, ◌++◌, length, take, drop, filter, flat_map, replicate, Option, None, is_some}
+-- Example: bits 0 and 1 of `q`, which are 1 and 0, of four: `q=4'b??01`.
+use Rattle.std.specs.Prelude.{ℕ, ◌-◌, Bool, List, ◌∷◌, ◌++◌, length, take, drop, filter, flat_map, replicate, Option}
+use Rattle.std.specs.Prelude.{None, is_some}
 use Rattle.std.specs.List.{list_any}
 use Rattle.aig_parts.specs.declared.ternary.Tern.{Tern}
 use Rattle.aig_signals.specs.declared.signal.Signal.{Signal}

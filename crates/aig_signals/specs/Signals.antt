@@ -1,6 +1,8 @@
--- Signals: vectors, and entries that are in none. A vector is a longest run of two or more neighbours of a section whose
--- first names are X[n], X[n + 1], .. (our own choice, after the names that yosys writes).
-use Rattle.std.specs.Prelude.{ℕ, zero, suc, ◌+◌, ◌-◌, ◌==◌, ◌&&◌, Bool, true, false, nat_lt, if◌then◌else◌, List, [], ◌∷◌, ◌++◌, length, map, decimal, Option, None, Some, count_by}
+-- Signals: vectors, and entries that are in none. A vector is a longest run of two or more neighbours of a section
+-- whose first names are X[n], X[n + 1], .. (our own choice, after the names that yosys writes).
+-- Example: latches `q[0]`, `q[1]`, `r` are the signals `q` and `r`.
+use Rattle.std.specs.Prelude.{ℕ, zero, suc, ◌+◌, ◌-◌, ◌==◌, ◌&&◌, Bool, true, false, nat_lt, if◌then◌else◌, List, []}
+use Rattle.std.specs.Prelude.{◌∷◌, ◌++◌, length, map, decimal, Option, None, Some, count_by}
 use Rattle.std.specs.List.{flat_map}
 use Rattle.std.specs.Str.{bytes_eq}
 use Rattle.aig_parts.specs.declared.raw.Raw.{Raw}
@@ -65,7 +67,8 @@ run_name raw kind runs run =
 
 -- the signal that a run is
 abbrev pub signal_of : Raw → Kind → List Run → Run → Signal
-signal_of raw kind runs run = record { kind = kind; first = run.first; end = run.end; name = run_name raw kind runs run }
+signal_of raw kind runs run =
+    record { kind = kind; first = run.first; end = run.end; name = run_name raw kind runs run }
 
 -- the signals of a section
 unfoldable pub section_signals : Raw → Kind → List Signal

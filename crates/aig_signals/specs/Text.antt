@@ -1,4 +1,5 @@
 -- Lines that say why as text: what is explained, and the inputs and latches that it is explained by (our own choice).
+-- Example: `full=0 at 9, by 8: count=4'b??1?`.
 use Rattle.std.specs.Prelude.{ℕ, ◌-◌, List, [], ◌∷◌, ◌++◌, decimal, codes, Option}
 use Rattle.aig_parts.specs.declared.ternary.Tern.{Tern}
 use Rattle.aig_signals.specs.declared.text.Naming.{Naming}
@@ -32,8 +33,8 @@ asked_head name bits t = name ++ (61 ∷ (value_text bits ++ (codes " at " ++ de
 abbrev pub latches_head : List ℕ → ℕ → List ℕ
 latches_head word s = word ++ (codes " at " ++ (decimal s ++ (codes ", by " ++ decimal (s - 1))))
 
--- the latches that are named at the last frame: no line explains them, or they are named at frame 0 and start as their reset
--- says, or otherwise
+-- the latches that are named at the last frame: no line explains them, or they are named at frame 0 and start as their
+-- reset says, or otherwise
 abbrev pub origin_head : Origin → List ℕ
 origin_head (origin.NotExplained f) = codes "at " ++ (decimal f ++ codes ", not explained")
 origin_head origin.Reset = codes "at 0, by reset"

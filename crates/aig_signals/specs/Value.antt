@@ -1,5 +1,7 @@
 -- The value of a signal as text (Verilog, integer constants). A bit that is not meant is `?`.
-use Rattle.std.specs.Prelude.{ℕ, ◌+◌, ◌*◌, ◌/◌, ◌==◌, Bool, true, false, nat_lt, if◌then◌else◌, List, [], ◌∷◌, ◌++◌, length, map, reverse, decimal, codes, Option, None, Some, slice_index_or}
+-- Example: bits 1, 1, 0, 0 from bit 0 up are `4'h3`.
+use Rattle.std.specs.Prelude.{ℕ, ◌+◌, ◌*◌, ◌/◌, ◌==◌, Bool, true, false, nat_lt, if◌then◌else◌, List, [], ◌∷◌, ◌++◌}
+use Rattle.std.specs.Prelude.{length, map, reverse, decimal, codes, Option, None, Some, slice_index_or}
 use Rattle.std.specs.List.{list_all, range_with_len}
 use Rattle.aig_parts.specs.declared.ternary.Tern.{Tern}
 use Rattle.aig_parts.specs.declared.ternary.Tern.TheVariants.{Zero, One, X}

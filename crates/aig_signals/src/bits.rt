@@ -1,5 +1,6 @@
 //! Names X by the words X[n] of any entries.
-ghost use Rattle.std.specs.Prelude.{◌≡◌, ◌++◌, ◌+◌, ◌<◌, ◌≤◌, [], ◌∷◌, All, IfOk, OnOk, filter_map, flat_map, length, map};
+ghost use Rattle.std.specs.Prelude.{◌≡◌, ◌++◌, ◌+◌, ◌<◌, ◌≤◌, [], ◌∷◌, All, IfOk, OnOk, filter_map, flat_map, length};
+ghost use Rattle.std.specs.Prelude.{map};
 ghost use Rattle.std.specs.List.{range_with_len};
 ghost use Rattle.aig_dump_header.specs.Names.{words};
 ghost use Rattle.aig_dump_header.specs.Vectors as vectors;
@@ -202,8 +203,8 @@ fn all_bits(alloc: Global, bits: &[WordBit]) -> Result<Option<List<Lit>>, Memory
     }
 }
 
-/// The literals of the words X[n] to X[m] of any entries, from bit n up, where none is missing between the least and the
-/// greatest. Linear in the circuit and its names.
+/// The literals of the words X[n] to X[m] of any entries, from bit n up, where none is missing between the least and
+/// the greatest. Linear in the circuit and its names.
 pub(crate) fn literals_of_words(
     alloc: Global,
     circuit: &Circuit,

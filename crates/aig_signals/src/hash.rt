@@ -5,8 +5,8 @@ ghost use Rattle.aig_signals.specs.state.NameHash.{hash_by};
 
 use std::hash::{BuildHasher, DefaultHasher, Hasher};
 
-/// Makes the hashers of a table of names. Each begins as SipHash after all names of the table, so that no choice of names
-/// can crowd it.
+/// Makes the hashers of a table of names. Each begins as SipHash after all names of the table, so that no choice of
+/// names can crowd it.
 #[derive(Clone, Copy)]
 pub(crate) struct NameHash {
     mixed: DefaultHasher,

@@ -1,10 +1,12 @@
 //! What a name means.
-ghost use Rattle.std.specs.Prelude.{◌≡◌, ◌∷◌, ◌<◌, ◌≤◌, ◌-◌, ℕ, All, List, length, map, option_copied, option_map, IfOk, IfSome, IfNone};
+ghost use Rattle.std.specs.Prelude.{◌≡◌, ◌∷◌, ◌<◌, ◌≤◌, ◌-◌, ℕ, All, List, length, map, option_copied, option_map};
+ghost use Rattle.std.specs.Prelude.{IfOk, IfSome, IfNone};
 ghost use Rattle.std.specs.List.{range_with_len};
 ghost use Rattle.aig_parts.specs.Literal.{negation, variable};
 ghost use Rattle.aig_base.specs.Sections.{IsDefined};
 ghost use Rattle.aig_signals.specs.Lookup as spec;
-ghost use Rattle.aig_signals.specs.Lookup.{least, entry_literal, in_sections, signal_literals, signal_named, literals_called, IsPlain, IsNoName, Means, Unknown};
+ghost use Rattle.aig_signals.specs.Lookup.{least, entry_literal, in_sections, signal_literals, signal_named};
+ghost use Rattle.aig_signals.specs.Lookup.{literals_called, IsPlain, IsNoName, Means, Unknown};
 ghost use Rattle.aig_signals.specs.Names.{literal_of, literals_of};
 ghost use Rattle.aig_signals.specs.Signals as signals_spec;
 
@@ -113,7 +115,8 @@ fn literals_between(
 ) -> Result<List<Lit>, Memory>
     requires ordered { first ≤ end }
     requires within { end ≤ length (literals_of circuit.now kind) }
-    ensures { IfOk result (λ literals. literals ≡ map (literal_of circuit.now kind) (range_with_len first (end - first))) }
+    ensures { IfOk result (λ literals. literals
+        ≡ map (literal_of circuit.now kind) (range_with_len first (end - first))) }
 {
     let mut literals = List::new(alloc);
     for position in first..end {
@@ -156,7 +159,8 @@ fn signal_literals(
     name: &[u8],
 ) -> Result<Option<List<Lit>>, Memory>
     requires { signals.now ≡ signals_spec.signals_of circuit.now }
-    ensures { IfOk result (λ found. found ≡ option_map (signal_literals circuit.now) (signal_named circuit.now name.now)) }
+    ensures { IfOk result (λ found. found
+        ≡ option_map (signal_literals circuit.now) (signal_named circuit.now name.now)) }
 {
     match signal_of(signals, name) {
         Some(signal) => Ok(Some(literals_between(
@@ -240,8 +244,8 @@ fn after_not(name: &[u8]) -> Option<&[u8]>
     }
 }
 
-/// The literals that a name means, from bit 0 up; none where it means none. The signals are those of the circuit. Linear
-/// in the circuit and its names.
+/// The literals that a name means, from bit 0 up; none where it means none. The signals are those of the circuit.
+/// Linear in the circuit and its names.
 pub fn look_up(
     alloc: Global,
     circuit: &Circuit,

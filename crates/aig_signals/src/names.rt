@@ -67,7 +67,8 @@ pub(crate) fn has_further_name(
     position: u32,
     name: &[u8],
 ) -> Result<bool, Memory>
-    ensures { IfOk result (λ has. has ≡ list_any (λ word. bytes_eq word name.now) (further_names circuit.now kind position)) }
+    ensures { IfOk result (λ has. has
+        ≡ list_any (λ word. bytes_eq word name.now) (further_names circuit.now kind position)) }
 {
     circuit.facts();
     match first_word(symbol_at(circuit.symbols(), kind, position)) {

@@ -1,5 +1,6 @@
 //! What a line names of a section, and the words for it.
-ghost use Rattle.std.specs.Prelude.{◌≡◌, ℕ, ◌++◌, ◌<◌, ◌≤◌, length, None, OnOk, IfOk, Some, slice_get, slice_index_or, slice_set, replicate};
+ghost use Rattle.std.specs.Prelude.{◌≡◌, ℕ, ◌++◌, ◌<◌, ◌≤◌, length, None, OnOk, IfOk, Some, slice_get, slice_index_or};
+ghost use Rattle.std.specs.Prelude.{slice_set, replicate};
 ghost use Rattle.std.specs.List.Sorted.{IsSorted};
 ghost use Rattle.std.specs.Ordering.{nat_cmp};
 ghost use Rattle.aig_signals.specs.Names.{literals_of};
@@ -161,8 +162,8 @@ impl SectionNaming {
         push_signal_word(text, &self.values, signal_at(&self.signals, number))
     }
 
-    /// Adds the words of all signals of which a bit is named, each after a blank. Linear in their bits and names, but for
-    /// the order of what was named.
+    /// Adds the words of all signals of which a bit is named, each after a blank. Linear in their bits and names, but
+    /// for the order of what was named.
     pub fn push_words(&mut self, text: &mut Vec<u8>) -> Result<(), Memory>
         ensures text { OnOk result (text.new.items ≡ text.old.items ++ section_words self.old) }
         ensures kept { self.new ≡ self.old }

@@ -1,10 +1,12 @@
 //! Signals and their names.
-ghost use Rattle.std.specs.Prelude.{◌≡◌, ◌++◌, ◌==◌, ◌-◌, ◌<◌, ◌≤◌, ◌^◌, ℕ, List, Bool, length, map, All, IfOk, IfSome, OnOk, option_map};
+ghost use Rattle.std.specs.Prelude.{◌≡◌, ◌++◌, ◌==◌, ◌-◌, ◌<◌, ◌≤◌, ◌^◌, ℕ, List, Bool, length, map, All, IfOk, IfSome};
+ghost use Rattle.std.specs.Prelude.{OnOk, option_map};
 ghost use Rattle.std.specs.List.{flat_map};
 ghost use Rattle.std.specs.Str.{bytes_eq};
 ghost use Rattle.indexmap.specs.IndexMap.{get_by, hasher_of};
 ghost use Rattle.aig_signals.specs.Signals as spec;
-ghost use Rattle.aig_signals.specs.Signals.{name_by, is_called, vector_name, section_signals, signal_of, count_called, bit_in, size_of};
+ghost use Rattle.aig_signals.specs.Signals.{name_by, is_called, vector_name, section_signals, signal_of, count_called};
+ghost use Rattle.aig_signals.specs.Signals.{bit_in, size_of};
 ghost use Rattle.aig_signals.specs.Names.{first_name};
 ghost use Rattle.aig_signals.specs.state.NameHash.{hash_by};
 ghost use Rattle.aig_signals.specs.state.Seen.{seen, noted, is_once};
@@ -173,8 +175,10 @@ fn push_runs(
     runs: &[Run],
 ) -> Result<(), Memory>
     requires some { All (λ run. run.first < run.end) runs.now }
-    requires known { (x : List ℕ) → get_by (λ key. bytes_eq x key.items) known.now ≡ seen (count_called circuit.now kind x runs.now) }
-    ensures { OnOk result (signals.new.items ≡ signals.old.items ++ map (signal_of circuit.now kind runs.now) runs.now) }
+    requires known { (x : List ℕ) → get_by (λ key. bytes_eq x key.items) known.now
+        ≡ seen (count_called circuit.now kind x runs.now) }
+    ensures { OnOk result (signals.new.items ≡ signals.old.items
+        ++ map (signal_of circuit.now kind runs.now) runs.now) }
 {
     for run in runs {
         signals.push(Signal {

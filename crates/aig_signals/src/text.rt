@@ -1,5 +1,6 @@
 //! Lines that say why as text.
-ghost use Rattle.std.specs.Prelude.{◌≡◌, ◌++◌, ◌∷◌, ◌<◌, ◌≤◌, [], length, take, drop, replicate, None, Some, slice_get, OnOk, IfOk, decimal};
+ghost use Rattle.std.specs.Prelude.{◌≡◌, ◌++◌, ◌∷◌, ◌<◌, ◌≤◌, [], length, take, drop, replicate, None, Some, slice_get};
+ghost use Rattle.std.specs.Prelude.{OnOk, IfOk, decimal};
 ghost use Rattle.aig_signals.specs.declared.signal.Signal.{Signal};
 ghost use Rattle.aig_signals.specs.Names.{literals_of};
 ghost use Rattle.aig_signals.specs.Signals.{section_signals};
@@ -55,8 +56,10 @@ impl Naming {
     pub fn new(alloc: Global, circuit: &Circuit) -> Result<Naming, Memory>
         ensures inputs { IfOk result (λ n. n.inputs.signals ≡ section_signals circuit.now Kind.Input) }
         ensures latches { IfOk result (λ n. n.latches.signals ≡ section_signals circuit.now Kind.Latch) }
-        ensures input_values { IfOk result (λ n. n.inputs.values ≡ replicate (length (literals_of circuit.now Kind.Input)) None) }
-        ensures latch_values { IfOk result (λ n. n.latches.values ≡ replicate (length (literals_of circuit.now Kind.Latch)) None) }
+        ensures input_values { IfOk result
+            (λ n. n.inputs.values ≡ replicate (length (literals_of circuit.now Kind.Input)) None) }
+        ensures latch_values { IfOk result
+            (λ n. n.latches.values ≡ replicate (length (literals_of circuit.now Kind.Latch)) None) }
     {
         Ok(Naming {
             inputs: SectionNaming::new(alloc, circuit, Kind::Input)?,

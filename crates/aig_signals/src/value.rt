@@ -2,7 +2,8 @@
 ghost use Rattle.std.specs.Prelude.{◌≡◌, ◌++◌, ◌∷◌, ◌+◌, ◌<◌, ◌^◌, [], length, decimal, OnOk};
 ghost use Rattle.std.specs.List.{list_all};
 ghost use Rattle.aig_signals.specs.Value as spec;
-ghost use Rattle.aig_signals.specs.Value.{bit_letter, bit_at, bit_number, four_bits, hexadecimal_digit, hexadecimal, binary, value_text, table_text};
+ghost use Rattle.aig_signals.specs.Value.{bit_letter, bit_at, bit_number, four_bits, hexadecimal_digit, hexadecimal};
+ghost use Rattle.aig_signals.specs.Value.{binary, value_text, table_text};
 
 use aig_base::{Memory, Tern};
 use itoa::Buffer;
@@ -125,8 +126,8 @@ pub fn push_value(text: &mut Vec<u8>, bits: &[Option<Tern>]) -> Result<(), Memor
     push_binary(text, bits)
 }
 
-/// Adds the value of a signal as a table shows it, whose bits are given from bit 0 up: digits of base 16, or the letters
-/// of the bits where some of them are x, or `x` where all are. Of one bit it is `0`, `1` or `x`.
+/// Adds the value of a signal as a table shows it, whose bits are given from bit 0 up: digits of base 16, or the
+/// letters of the bits where some of them are x, or `x` where all are. Of one bit it is `0`, `1` or `x`.
 pub fn push_table_value(text: &mut Vec<u8>, bits: &[Option<Tern>]) -> Result<(), Memory>
     ensures { OnOk result (text.new.items ≡ text.old.items ++ table_text bits.now) }
 {

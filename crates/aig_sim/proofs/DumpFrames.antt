@@ -1,5 +1,6 @@
 -- The frames of a value change dump.
-use Rattle.std.proofs.Common.{◌≡◌, ℕ, zero, suc, ◌-◌, ◌^◌, ◌<◌, ◌≤◌, min, List, [], ◌∷◌, ◌++◌, length, map, replicate, All, Some, slice_get, refl, sym, ap, ◌∙◌, subst, arith, add-one}
+use Rattle.std.proofs.Common.{◌≡◌, ℕ, zero, suc, ◌-◌, ◌^◌, ◌<◌, ◌≤◌, min, List, [], ◌∷◌, ◌++◌, length, map, replicate}
+use Rattle.std.proofs.Common.{All, Some, slice_get, refl, sym, ap, ◌∙◌, subst, arith, add-one}
 use Rattle.std.specs.Prelude.{codes}
 use Rattle.std.proofs.lemmas.List.{length_push}
 use Rattle.std.proofs.lemmas.List.Elements.{All-nil, All-cons, All-append, All-contains}
@@ -9,7 +10,8 @@ use Rattle.aig_parts.specs.declared.raw.Raw.{Raw}
 use Rattle.aig_parts.specs.Literal.{variable}
 use Rattle.aig_base.specs.Sections.{IsDefined}
 use Rattle.aig_base.specs.Sound.{IsSound}
-use Rattle.aig_base.proofs.circuits.Circuits.{input_defined, latch_defined, output_defined, input_in_range, latch_in_range, output_in_range}
+use Rattle.aig_base.proofs.circuits.Circuits.{input_defined, latch_defined, output_defined, input_in_range}
+use Rattle.aig_base.proofs.circuits.Circuits.{latch_in_range, output_in_range}
 use Rattle.aig_base.proofs.lists.Positions.{Contains-from_slice_get}
 use Rattle.aig_sim.specs.Dump.{signals, changed_lines, first_text, next_text, IsFrameText, AreFrames}
 use Rattle.aig_sim.specs.state.Dumping.{time_line, dumped_text, characters_of, AreLast, AreDumped}

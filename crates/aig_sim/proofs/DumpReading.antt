@@ -1,5 +1,6 @@
 -- What a viewer sees of a signal after the texts of a dump.
-use Rattle.std.proofs.Common.{◌≡◌, ◌≢◌, ℕ, zero, suc, ◌+◌, ◌-◌, ◌^◌, ◌<◌, ◌≤◌, min, eqb, Bool, true, false, List, [], ◌∷◌, ◌++◌, slice_get, Some, All, inl, inr, refl, ap, ◌∙◌, subst, arith, append_assoc}
+use Rattle.std.proofs.Common.{◌≡◌, ◌≢◌, ℕ, zero, suc, ◌+◌, ◌-◌, ◌^◌, ◌<◌, ◌≤◌, min, eqb, Bool, true, false, List, []}
+use Rattle.std.proofs.Common.{◌∷◌, ◌++◌, slice_get, Some, All, inl, inr, refl, ap, ◌∙◌, subst, arith, append_assoc}
 use Rattle.std.specs.Prelude.{if◌then◌else◌, ◌==◌, ◌&&◌, nat_le, codes, Option}
 use Rattle.std.specs.Fmt.{decimal}
 use Rattle.std.specs.Str.{bytes_eq}
@@ -13,7 +14,8 @@ use Rattle.aig_sim.specs.Dump.{time_line, value_line, all_lines, changed_lines, 
 use Rattle.aig_dump_header.specs.Names.{identifier_code}
 use Rattle.aig_sim.specs.DumpRead.{lines, time_after, is_value, value_after, seen}
 use Rattle.aig_dump_header.proofs.Codes.{one_signal, visible_code}
-use Rattle.aig_sim.proofs.DumpLines.{HasNoEnd, no_end_by_test, no_end_visible, first_line, IsDirective, AreDirectives, no_directive, directive_then}
+use Rattle.aig_sim.proofs.DumpLines.{HasNoEnd, no_end_by_test, no_end_visible, first_line, IsDirective, AreDirectives}
+use Rattle.aig_sim.proofs.DumpLines.{no_directive, directive_then}
 use Rattle.aig_dump_header.proofs.NamePieces.{visible_decimal}
 
 -- a look at signal m at time t, where a time and a value were seen, sees these after the text

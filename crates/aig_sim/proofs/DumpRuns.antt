@@ -1,5 +1,6 @@
 -- What a viewer sees in the dump of a run.
-use Rattle.std.proofs.Common.{◌≡◌, ℕ, zero, suc, ◌^◌, ◌<◌, ◌≤◌, List, [], ◌∷◌, ◌++◌, length, slice_get, Some, None, All, inl, inr, refl, sym, ap, ◌∙◌, subst, arith}
+use Rattle.std.proofs.Common.{◌≡◌, ℕ, zero, suc, ◌^◌, ◌<◌, ◌≤◌, List, [], ◌∷◌, ◌++◌, length, slice_get, Some, None, All}
+use Rattle.std.proofs.Common.{inl, inr, refl, sym, ap, ◌∙◌, subst, arith}
 use Rattle.std.specs.Prelude.{Option}
 use Rattle.std.proofs.lemmas.Bool.{cases_lt}
 use Rattle.std.proofs.lemmas.List.{append-nil}
@@ -19,7 +20,8 @@ use Rattle.aig_dump_header.specs.Names.{identifier_code}
 use Rattle.aig_sim.specs.DumpRead.{lines_after, seen, read_value, ShowsFrames}
 use Rattle.aig_sim.proofs.LineLemmas.{IsCharacter-of_value}
 use Rattle.aig_sim.proofs.DumpLines.{header_directives}
-use Rattle.aig_sim.proofs.DumpReading.{Leads, leads_then, leads_directives, leads_time, leads_first, leads_next, leads_later}
+use Rattle.aig_sim.proofs.DumpReading.{Leads, leads_then, leads_directives, leads_time, leads_first, leads_next}
+use Rattle.aig_sim.proofs.DumpReading.{leads_later}
 
 module _ (raw : Raw) (start : List Tern) (rows : List (List Tern)) where
   are_characters : (t : ℕ) (ls cs : List ℕ) → AreValues raw start rows t ls cs → All IsCharacter cs

@@ -1,11 +1,14 @@
 -- A stimulus text, byte by byte.
-use Rattle.std.proofs.Common.{◌≡◌, ◌≢◌, ℕ, ◌+◌, ◌<◌, ◌≤◌, List, [], ◌∷◌, ◌++◌, length, map, All, inl, inr, refl, sym, ap, ◌∙◌, subst, arith, append_assoc, ◌-◌, take, drop, length-drop, get_or, Some, slice_get}
+use Rattle.std.proofs.Common.{◌≡◌, ◌≢◌, ℕ, ◌+◌, ◌<◌, ◌≤◌, List, [], ◌∷◌, ◌++◌, length, map, All, inl, inr, refl, sym}
+use Rattle.std.proofs.Common.{ap, ◌∙◌, subst, arith, append_assoc, ◌-◌, take, drop, length-drop, get_or, Some}
+use Rattle.std.proofs.Common.{slice_get}
 use Rattle.std.specs.List.{flat_map}
 use Rattle.std.specs.Prelude.{Result, Ok, Err, IfErr, Bool, true, false, ◌&&◌, ◌↔◌, IsTrue}
 use Rattle.std.specs.Result.{IsErrAnd}
 use Rattle.std.proofs.Math.Seq.{take-add, get_or-drop}
 use Rattle.std.proofs.lemmas.Option.{get_or_from_slice_get}
-use Rattle.std.proofs.lemmas.List.{take_all, append-nil, length-append, length-map, length_push, get_or_append_left, get_or-append-add}
+use Rattle.std.proofs.lemmas.List.{take_all, append-nil, length-append, length-map, length_push, get_or_append_left}
+use Rattle.std.proofs.lemmas.List.{get_or-append-add}
 use Rattle.std.proofs.lemmas.Bool.{false≢true}
 use Rattle.std.proofs.lemmas.Result.{err_from_is_err_and}
 use Rattle.std.proofs.lemmas.List.Concat.{flat_map-append}
@@ -17,7 +20,8 @@ use Rattle.aig_sim.specs.declared.stimulus.fault.StimFault.TheVariants as fault
 use Rattle.aig_sim.specs.declared.stimulus.row_parser.Shape.{Shape}
 use Rattle.aig_sim.specs.declared.stimulus.row_parser.Shape.TheVariants.{Row, Long, Wrong}
 use Rattle.aig_values.specs.Characters.{character}
-use Rattle.aig_sim.specs.StimulusText.{row_line, line_number, IsCharacter, EndsLine, HasFault, HasFaultyLine, SpellsRows}
+use Rattle.aig_sim.specs.StimulusText.{row_line, line_number, IsCharacter, EndsLine, HasFault, HasFaultyLine}
+use Rattle.aig_sim.specs.StimulusText.{SpellsRows}
 use Rattle.aig_sim.specs.RowParser.{KeepsLine, HasRead}
 
 pub IsCharacter-of_value : (w : Tern) → IsCharacter (character w)

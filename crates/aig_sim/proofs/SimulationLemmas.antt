@@ -1,5 +1,6 @@
 -- A simulation, byte by byte and chunk by chunk.
-use Rattle.std.proofs.Common.{◌≡◌, ◌≢◌, ℕ, ◌+◌, ◌-◌, ◌^◌, min, List, [], ◌∷◌, ◌++◌, length, All, inl, inr, refl, sym, ap, ◌∙◌, subst, arith, append_assoc, Ok, Err}
+use Rattle.std.proofs.Common.{◌≡◌, ◌≢◌, ℕ, ◌+◌, ◌-◌, ◌^◌, min, List, [], ◌∷◌, ◌++◌, length, All, inl, inr, refl, sym}
+use Rattle.std.proofs.Common.{ap, ◌∙◌, subst, arith, append_assoc, Ok, Err}
 use Rattle.std.specs.Prelude.{Option, Some, None, Result, IfOk, IfErr, OnOk, OnErr}
 use Rattle.std.specs.List.{flat_map}
 use Rattle.std.specs.Result.{IsErrAnd}
@@ -19,11 +20,13 @@ use Rattle.aig_sim.specs.declared.stimulus.fault.StimFault.TheVariants as fault
 use Rattle.aig_values.specs.state.Frame.{HoldsAll, AreStates}
 use Rattle.aig_sim.specs.RowParser.{KeepsLine, HasRead, IsOfLine}
 use Rattle.aig_sim.specs.state.Machine.{Machine, Steps}
-use Rattle.aig_sim.specs.state.Running.{RunText, Recorded, SimulationStarts, Running, StopsBy, Stopped, SimulationGoesOn, SimulationStops, ReadSoFar, Streamed}
+use Rattle.aig_sim.specs.state.Running.{RunText, Recorded, SimulationStarts, Running, StopsBy, Stopped}
+use Rattle.aig_sim.specs.state.Running.{SimulationGoesOn, SimulationStops, ReadSoFar, Streamed}
 use Rattle.aig_sim.specs.Simulated.{Streams, Simulates}
 use Rattle.aig_sim.specs.StimulusText.{row_line, line_number, EndsLine, HasFault, HasFaultyLine}
 use Rattle.aig_values.specs.Trace.{IsTrace}
-use Rattle.aig_sim.proofs.LineLemmas.{read_none, read_piece, read_line, read_fault, read_unfinished, read_end, fault_same}
+use Rattle.aig_sim.proofs.LineLemmas.{read_none, read_piece, read_line, read_fault, read_unfinished, read_end}
+use Rattle.aig_sim.proofs.LineLemmas.{fault_same}
 use Rattle.aig_values.proofs.TraceLemmas.{first_states}
 
 -- ---- reads

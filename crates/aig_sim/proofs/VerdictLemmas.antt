@@ -1,5 +1,6 @@
 -- What a run shows of a witness.
-use Rattle.std.proofs.Common.{◌≡◌, ◌≢◌, inl, inr, ℕ, ◌+◌, ◌-◌, ◌<◌, ◌≤◌, List, [], ◌∷◌, ◌++◌, length, map, flat_map, take, drop, get_or, Some, slice_get, Contains, sym, ap, ◌∙◌, subst, arith, append_assoc}
+use Rattle.std.proofs.Common.{◌≡◌, ◌≢◌, inl, inr, ℕ, ◌+◌, ◌-◌, ◌<◌, ◌≤◌, List, [], ◌∷◌, ◌++◌, length, map, flat_map}
+use Rattle.std.proofs.Common.{take, drop, get_or, Some, slice_get, Contains, sym, ap, ◌∙◌, subst, arith, append_assoc}
 use Rattle.std.proofs.lemmas.Bool.{cases_eq}
 use Rattle.std.proofs.lemmas.List.Elements.{Contains-append_left, Contains-append_right}
 use Rattle.std.proofs.lemmas.Option.{slice_get_within}
@@ -20,7 +21,8 @@ use Rattle.aig_values.specs.Cells.{literal_value}
 use Rattle.aig_sim.specs.declared.witness.verdict.Verdict.{Verdict}
 use Rattle.aig_sim.specs.declared.witness.verdict.Verdict.TheVariants as verdict
 use Rattle.aig_sim.specs.declared.witness.text.WitnessParts.{WitnessParts}
-use Rattle.aig_sim.specs.state.Checking.{ArePartsOf, BeginsWithRow, ReadsNotOne, HasRun, HoldConstraints, IsFirstFailure}
+use Rattle.aig_sim.specs.state.Checking.{ArePartsOf, BeginsWithRow, ReadsNotOne, HasRun, HoldConstraints}
+use Rattle.aig_sim.specs.state.Checking.{IsFirstFailure}
 use Rattle.aig_values.specs.state.Frame.{HoldsAll, AreStates}
 use Rattle.aig_sim.specs.state.Machine.{Steps}
 use Rattle.aig_values.specs.Characters.{character}

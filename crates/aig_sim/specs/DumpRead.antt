@@ -1,6 +1,8 @@
 -- What a viewer sees of a signal in a value change dump (IEEE 1364, value change dump). Where the standard is silent,
 -- reading line by line is our own choice.
-use Rattle.std.specs.Prelude.{◌≡◌, ℕ, ◌<◌, Bool, ◌&&◌, ◌||◌, ◌==◌, nat_le, if◌then◌else◌, List, [], ◌∷◌, ◌++◌, slice_get, Option, Some, None}
+-- Example: `#0/1!/#1/0!/`: code `!` has 1 at time 0 and 0 at time 1.
+use Rattle.std.specs.Prelude.{◌≡◌, ℕ, ◌<◌, Bool, ◌&&◌, ◌||◌, ◌==◌, nat_le, if◌then◌else◌, List, [], ◌∷◌, ◌++◌}
+use Rattle.std.specs.Prelude.{slice_get, Option, Some, None}
 use Rattle.std.specs.Str.{bytes_eq}
 use Rattle.std.specs.Str.Parse.{digits_value}
 use Rattle.aig_parts.specs.declared.ternary.Tern.{Tern}

@@ -1,4 +1,5 @@
 -- What a dump of a simulation read and wrote.
+-- Example: `11/1z/`: the header, frame 0 and no end are written, `Char(2)`.
 use Rattle.std.specs.Prelude.{◌≡◌, ◌⊎◌, ℕ, ◌-◌, ◌^◌, ◌<◌, min, List, [], ◌++◌, length, Option, Result, Ok, Err}
 use Rattle.aig_parts.specs.declared.ternary.Tern.{Tern}
 use Rattle.aig_parts.specs.declared.raw.Raw.{Raw}
@@ -25,7 +26,8 @@ pub record DumpBreaksOff (width : ℕ) (left : Option (List ℕ)) (text : List �
 -- where the greatest number of 64 bits stands for any greater. A fault: the frames of the good rows, without the end. A
 -- failing read: those of all rows that were read whole. A failing write: a prefix. No memory: nothing was read or
 -- written.
-abbrev pub EndsDump : ℕ → Streams → Streams → List ℕ → List (List Tern) → List ℕ → List ℕ → List ℕ → Result ℕ StimFault → Type 0
+abbrev pub EndsDump : ℕ → Streams → Streams → List ℕ → List (List Tern) → List ℕ → List ℕ → List ℕ → Result ℕ StimFault
+    → Type 0
 EndsDump width old new text rows header frames done (Ok n) =
     SpellsRows width text rows × IsAtEnd new.left × (done ≡ header ++ (frames ++ closing (length rows)))
     × (n ≡ min (length rows) (2 ^ 64 - 1)) × NoneFailed old new
@@ -38,7 +40,8 @@ EndsDump width old new text rows header frames done (Err fault) =
     ReadsFault width new text rows fault × (done ≡ header ++ frames) × NoneFailed old new
 
 -- what was read and written by the dump of a run from the start by resets
-pub record Dumps (raw : Raw) (old new : Streams) (written written' : Option (List ℕ)) (result : Result ℕ StimFault) : Type 0 where
+pub record Dumps (raw : Raw) (old new : Streams) (written written' : Option (List ℕ))
+    (result : Result ℕ StimFault) : Type 0 where
   pub text : List ℕ
   pub rows : List (List Tern)
   pub frames : List ℕ

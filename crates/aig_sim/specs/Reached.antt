@@ -1,5 +1,6 @@
 -- The first frame of a run at which a bad state property is reached, and the witness of it. Where the standard is
 -- silent, as about x, this is our own choice.
+-- Example: input 2 is bad: of the rows `x`, `1`, `1` frame 1 is the first.
 use Rattle.std.specs.Prelude.{◌≡◌, ◌⊎◌, ℕ, ◌+◌, ◌<◌, List, length, take, Option, Some, None}
 use Rattle.aig_parts.specs.declared.raw.Raw.{Raw}
 use Rattle.aig_parts.specs.declared.ternary.Tern.{Tern}

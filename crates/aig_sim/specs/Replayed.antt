@@ -1,5 +1,6 @@
 -- What is written of the run that a witness describes. Where the standard is silent, which runs are shown, and how, is
 -- our own choice.
+-- Example: input 2 is bad: of `1/b0//x/./` the trace is ` x  /`, though its verdict is `NotBad`.
 use Rattle.std.specs.Prelude.{◌≡◌, ℕ, ◌+◌, List, Result, Ok, Err}
 use Rattle.aig_parts.specs.declared.ternary.Tern.{Tern}
 use Rattle.aig_parts.specs.declared.raw.Raw.{Raw}
@@ -11,7 +12,8 @@ use Rattle.aig_sim.specs.WitnessText.{Witness, SpellsWitness, IsAdmitted, HasWit
 
 -- The witness's text spells a witness that is admitted, and `reported` is the text of its run: from its own start,
 -- over all its rows, whatever its verdict. `IsText` says which text a run from a start with some rows has.
-pub record ReportsRun (IsText : Raw → List Tern → List (List Tern) → List ℕ → Type 0) (raw : Raw) (text reported : List ℕ)
+pub record ReportsRun (IsText : Raw → List Tern → List (List Tern) → List ℕ → Type 0) (raw : Raw)
+    (text reported : List ℕ)
     : Type 0 where
   pub witness : Witness
   pub spells : SpellsWitness raw text witness

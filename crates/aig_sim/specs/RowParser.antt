@@ -1,4 +1,5 @@
 -- What is kept of a stimulus line that is being read.
+-- Example: of `11` in a stimulus of width 1: that it is too long.
 use Rattle.std.specs.Prelude.{◌≡◌, ◌≢◌, ℕ, ◌<◌, ◌≤◌, List, ◌++◌, length, map, All}
 use Rattle.std.specs.List.{flat_map}
 use Rattle.aig_parts.specs.declared.ternary.Tern.{Tern}

@@ -1,4 +1,5 @@
 -- What a simulation read and wrote.
+-- Example: `11/1z/`: read to line 2, the trace of one row is written, `Char(2)`.
 use Rattle.std.specs.Prelude.{◌≡◌, ◌⊎◌, ℕ, ◌+◌, ◌-◌, ◌^◌, min, List, [], ◌++◌, length, Option, Result, Ok, Err}
 use Rattle.std.specs.List.{flat_map}
 use Rattle.aig_parts.specs.declared.ternary.Tern.{Tern}
@@ -46,9 +47,11 @@ ReadsFault width new text rows fault.Io = ⊥
 -- All went well: the text spells the rows, the whole trace was written, and the answer is the number of rows, where the
 -- greatest number of 64 bits stands for any greater. A fault: so far as the good rows go. A failing read: all rows that
 -- were read whole. A failing write: a beginning; it may be all, where a flush failed.
-abbrev pub SimulationEnds : ℕ → Streams → Streams → List ℕ → List (List Tern) → List ℕ → List ℕ → Result ℕ StimFault → Type 0
+abbrev pub SimulationEnds : ℕ → Streams → Streams → List ℕ → List (List Tern) → List ℕ → List ℕ → Result ℕ StimFault
+    → Type 0
 SimulationEnds width old new text rows trace done (Ok n) =
-    SpellsRows width text rows × IsAtEnd new.left × (done ≡ trace) × (n ≡ min (length rows) (2 ^ 64 - 1)) × NoneFailed old new
+    SpellsRows width text rows × IsAtEnd new.left × (done ≡ trace) × (n ≡ min (length rows) (2 ^ 64 - 1))
+    × NoneFailed old new
 SimulationEnds width old new text rows trace done (Err fault.Io) =
     (HoldsRows width text rows × (done ≡ trace) × OneReadFailed old new)
     ⊎ (BeginsWithRows width text rows × IsBeginning done trace × OneWriteFailed old new)
@@ -56,7 +59,8 @@ SimulationEnds width old new text rows trace done (Err fault) =
     ReadsFault width new text rows fault × (done ≡ trace) × NoneFailed old new
 
 -- what was read and written
-pub record Simulates (raw : Raw) (old new : Streams) (written written' : Option (List ℕ)) (result : Result ℕ StimFault) : Type 0 where
+pub record Simulates (raw : Raw) (old new : Streams) (written written' : Option (List ℕ))
+    (result : Result ℕ StimFault) : Type 0 where
   pub text : List ℕ
   pub rows : List (List Tern)
   pub trace : List ℕ

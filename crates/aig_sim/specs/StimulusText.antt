@@ -1,5 +1,6 @@
 -- The text of a stimulus: one line per frame, one character per input, each line ended by LF. Where the standard is
 -- silent, this is our own choice.
+-- Example: `11/1z/` of width 2 is one row and then `Char(2)`.
 use Rattle.std.specs.Prelude.{◌≡◌, ◌≢◌, ◌⊎◌, ℕ, ◌+◌, ◌-◌, ◌^◌, min, List, [], ◌∷◌, ◌++◌, length, map, All}
 use Rattle.std.specs.List.{flat_map}
 use Rattle.aig_parts.specs.declared.ternary.Tern.{Tern}

@@ -1,5 +1,6 @@
 -- What a witness shows of a circuit (AIGER 1.9, witnesses and resets). Where the standard is silent, as about x, this
 -- is our own choice.
+-- Example: input 2 is bad: `x` gives `NotBad`, `1` gives `Confirmed`.
 use Rattle.std.specs.Prelude.{◌≡◌, ◌≢◌, ◌⊎◌, ℕ, ◌-◌, ◌<◌, List, length, Some, slice_get}
 use Rattle.aig_parts.specs.declared.ternary.Tern.{Tern}
 use Rattle.aig_parts.specs.declared.ternary.Tern.TheVariants.{One}

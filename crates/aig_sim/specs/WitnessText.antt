@@ -1,5 +1,6 @@
 -- The text of a witness: the line `1`, the line `b` and a position, a line of latches' values, one line of inputs'
 -- values per frame, and the line `.` (AIGER 1.9, witnesses). Where the standard is silent, this is our own choice.
+-- Example: `1/b0//x/./` is property 0, an empty start and the row `x`; `1/b00//x/./` is none.
 use Rattle.std.specs.Prelude.{◌≡◌, ◌≢◌, ℕ, ◌+◌, ◌*◌, ◌<◌, ◌≤◌, List, [], ◌∷◌, ◌++◌, length, flat_map}
 use Rattle.aig_parts.specs.declared.ternary.Tern.{Tern}
 use Rattle.aig_parts.specs.declared.raw.Raw.{Raw}
@@ -13,7 +14,8 @@ use Rattle.aig_sim.specs.StimulusText.{row_line}
 -- digit
 pub data IsDecimal : List ℕ → ℕ → Type 0 where
   digit : (d : ℕ) → d < 10 → IsDecimal ((48 + d) ∷ []) d
-  more : (digits : List ℕ) (n d : ℕ) → 0 < n → d < 10 → IsDecimal digits n → IsDecimal (digits ++ (48 + d) ∷ []) (n * 10 + d)
+  more : (digits : List ℕ) (n d : ℕ) → 0 < n → d < 10 → IsDecimal digits n
+      → IsDecimal (digits ++ (48 + d) ∷ []) (n * 10 + d)
 
 -- the position of a bad state property, a start value a latch, and a row of inputs' values a frame
 pub record Witness : Type 0 where

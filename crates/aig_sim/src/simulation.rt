@@ -4,7 +4,8 @@ ghost use Rattle.std.specs.Prelude.{IfOk, IfErr, OnOk, OnErr};
 ghost use Rattle.aig_base.specs.Value.{start_of};
 ghost use Rattle.aig_sim.specs.declared.stimulus.row_parser.Shape.TheVariants as shapes;
 ghost use Rattle.aig_sim.specs.RowParser.{KeepsLine};
-ghost use Rattle.aig_sim.specs.state.Running.{HasRowRoom, SimulationStarts, SimulationGoesOn, SimulationStops, Streamed};
+ghost use Rattle.aig_sim.specs.state.Running.{HasRowRoom, SimulationStarts, SimulationGoesOn, SimulationStops};
+ghost use Rattle.aig_sim.specs.state.Running.{Streamed};
 ghost use Rattle.aig_sim.specs.Simulated.{Simulates};
 
 mod frame_cells;
@@ -61,7 +62,8 @@ impl<'a, T: Recorder + Drop> Simulation<'a, T> {
         ensures room { HasRowRoom T.fits self.new }
         ensures ok { OnOk result (SimulationGoesOn T.is_text T.has_recorded (10 ∷ []) self.old self.new
             (W.written out.old) (W.written out.new) (W.failures out.old) (W.failures out.new)) }
-        ensures err { IfErr result (λ fault. (more : List ℕ) → SimulationStops T.is_text T.has_recorded (10 ∷ more) self.old
+        ensures err { IfErr result (λ fault. (more : List ℕ)
+            → SimulationStops T.is_text T.has_recorded (10 ∷ more) self.old
             (W.written out.old) (W.written out.new) (W.failures out.old) (W.failures out.new) fault) }
     {
         let number = self.frames.saturating_add(1);
@@ -97,7 +99,8 @@ impl<'a, T: Recorder + Drop> Simulation<'a, T> {
         ensures room { HasRowRoom T.fits self.new }
         ensures bound { IfOk result (λ count. count ≤ length bytes.now) }
         ensures some { IfOk result (λ count. 0 < length bytes.now → 0 < count) }
-        ensures ok { IfOk result (λ count. SimulationGoesOn T.is_text T.has_recorded (take count bytes.now) self.old self.new
+        ensures ok { IfOk result (λ count. SimulationGoesOn T.is_text T.has_recorded (take count bytes.now) self.old
+            self.new
             (W.written out.old) (W.written out.new) (W.failures out.old) (W.failures out.new)) }
         ensures err { IfErr result (SimulationStops T.is_text T.has_recorded bytes.now self.old
             (W.written out.old) (W.written out.new) (W.failures out.old) (W.failures out.new)) }

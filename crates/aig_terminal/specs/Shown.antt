@@ -1,5 +1,7 @@
 -- How bytes of files are shown, so that a terminal obeys none of them.
-use Rattle.std.specs.Prelude.{ℕ, ◌+◌, ◌/◌, ◌%◌, ◌&&◌, ◌||◌, nat_eq, nat_lt, nat_le, IsTrue, Bool, if◌then◌else◌, List, [], ◌∷◌, All, flat_map}
+-- Example: of `a`, ESC, LF `escaped` is `a\x1b\x0a`, and `shown` is `a\x1b/`.
+use Rattle.std.specs.Prelude.{ℕ, ◌+◌, ◌/◌, ◌%◌, ◌&&◌, ◌||◌, nat_eq, nat_lt, nat_le, IsTrue, Bool, if◌then◌else◌, List}
+use Rattle.std.specs.Prelude.{[], ◌∷◌, All, flat_map}
 
 -- a byte that a terminal shows as it is: 32 to 126
 abbrev pub is_printable : ℕ → Bool

@@ -1,5 +1,5 @@
-//! What the user of a run sees on a terminal: standard output, the line that says how far the run is, and bytes of files
-//! that no terminal obeys.
+//! What the user of a run sees on a terminal: standard output, the line that says how far the run is, and bytes of
+//! files that no terminal obeys.
 #![tactic(auto)]
 
 mod escape;

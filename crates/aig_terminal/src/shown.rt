@@ -37,7 +37,8 @@ impl<W: Write> Write for Shown<W> {
         ensures bytes { WriteAppends None None result bytes.now }
 
         // The other writer gets each byte that is taken, shown.
-        ensures shown { IfOk result (λ n. Appends (W.contents self.old) (W.contents self.new) (shown (take n bytes.now))) }
+        ensures shown { IfOk result (λ n. Appends (W.contents self.old) (W.contents self.new)
+            (shown (take n bytes.now))) }
     {
         let plain = plain_length(bytes);
         if plain > 0 || bytes.is_empty() {

@@ -20,8 +20,8 @@ pub struct Terminals {
     pub error: bool,
 }
 
-/// The runtime of a run, with the line that says how far the run is. If standard output is a terminal, it gets the bytes
-/// that it may obey escaped, and no line comes after the first of them.
+/// The runtime of a run, with the line that says how far the run is. If standard output is a terminal, it gets the
+/// bytes that it may obey escaped, and no line comes after the first of them.
 #[derive(Drop)]
 pub struct Terminal<'a, R> {
     rt: &'a R,

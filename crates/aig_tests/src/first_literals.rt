@@ -4,8 +4,8 @@ use aig_base::{Lit, MemReader};
 use aig_sat::{ProofReader, Refutation, StepKind};
 use std::alloc::Global;
 
-// The formula's variables and those of the proof's own; the formula's clauses as text, and how many; a proof; how many of
-// its steps are right up to the first that is not; and whether they refute the formula.
+// The formula's variables and those of the proof's own; the formula's clauses as text, and how many; a proof; how many
+// of its steps are right up to the first that is not; and whether they refute the formula.
 type Steps = (u8, u8, &'static [u8], usize, &'static [u8], usize, bool);
 
 static PROOFS: [Steps; 66] = [

@@ -10,8 +10,8 @@ const ONE_BAD: &[u8] = b"aag 3 2 0 0 1 1\n2\n4\n6\n6 4 2\ni1 a b\n";
 // A latch that starts at 0 and keeps its value, as a bad literal.
 const KEPT_BAD: &[u8] = b"aag 1 0 1 0 0 1\n2 2\n2\n";
 
-// Latches with all three kinds of resets, as bad literal the AND of the first two, and a gate that it needs only a frame
-// later.
+// Latches with all three kinds of resets, as bad literal the AND of the first two, and a gate that it needs only a
+// frame later.
 const THREE_RESETS: &[u8] = b"aag 6 1 3 0 2 1\n2\n4 10 1\n6 4\n8 6 8\n12\n10 8 2\n12 6 4\n";
 
 // A bad state property and an output that have names.
@@ -72,8 +72,8 @@ const FORMULAS: [Asked; 9] = [
             c l 2 0 \nc b 2 0\nc b 2 1\np cnf 2 3\n-1 0\n-2 0\n2 0\n",
         true,
     ),
-    // One of the two is true. If it is the one of frame 0, the latches have their resets, as far as these are 0 or 1. The
-    // gate of frame 1 that no bad literal needs has no clauses.
+    // One of the two is true. If it is the one of frame 0, the latches have their resets, as far as these are 0 or 1.
+    // The gate of frame 1 that no bad literal needs has no clauses.
     (
         THREE_RESETS,
         Goal::Induction,

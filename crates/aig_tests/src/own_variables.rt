@@ -3,7 +3,8 @@ use aig_base::{Lit, MemReader, Memory};
 use aig_sat::{ProofReader, Refutation, StepKind};
 use std::alloc::Global;
 
-// A proof; how many variables the formula has; the literals of its steps, in order; and how many variables there are then.
+// A proof; how many variables the formula has; the literals of its steps, in order; and how many variables there are
+// then.
 type Named = (&'static [u8], u32, &'static [u32], u32);
 
 static NAMED: [Named; 7] = [
@@ -112,8 +113,8 @@ const PIGEONS: &[u8] =
     -8 -2 0 -8 -5 0 -11 -2 0 -11 -5 0 -11 -8 0 -6 -3 0 -9 -3 0 -9 -6 0 -12 -3 0 -12 -6 0 -12 -9 0";
 
 static PROOFS: [Steps; 4] = [
-    // Cook's refutation: for one hole fewer, pigeon i is in hole j if it was, or if it was in the last hole and the last
-    // pigeon in j.
+    // Cook's refutation: for one hole fewer, pigeon i is in hole j if it was, or if it was in the last hole and the
+    // last pigeon in j.
     (
         12,
         PIGEONS,

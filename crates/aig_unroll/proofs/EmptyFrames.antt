@@ -1,5 +1,6 @@
 -- A circuit without gates and properties has no entries in any frame.
-use Rattle.std.proofs.Common.{◌≡◌, ℕ, zero, suc, Bool, false, if◌then◌else◌, List, [], ◌++◌, length, map, nat_lt, ◌&&◌, refl, sym, ◌∙◌, ap, ap₂}
+use Rattle.std.proofs.Common.{◌≡◌, ℕ, zero, suc, Bool, false, if◌then◌else◌, List, [], ◌++◌, length, map, nat_lt, ◌&&◌}
+use Rattle.std.proofs.Common.{refl, sym, ◌∙◌, ap, ap₂}
 use Rattle.std.specs.List.{range_with_len}
 use Rattle.aig_parts.specs.declared.gate.Gate.{Gate}
 use Rattle.aig_parts.specs.declared.raw.Raw.{Raw}
@@ -7,7 +8,8 @@ use Rattle.aig_base.specs.Renumbered.{ordered_gates}
 use Rattle.aig_unroll.specs.declared.unrolling.sections.Sections.{Sections}
 use Rattle.aig_unroll.specs.FrameLiteral.{frame_literal, has_guards, chain_count, guard_count}
 use Rattle.aig_unroll.specs.state.FrameTable.{AddsNothing, AreSections}
-use Rattle.aig_unroll.specs.Unrolled.{frames, frame_literals, frame_bad, frame_gate, frame_gates, chain_gate, guard_gate, guard_literal, kept_constraints}
+use Rattle.aig_unroll.specs.Unrolled.{frames, frame_literals, frame_bad, frame_gate, frame_gates, chain_gate}
+use Rattle.aig_unroll.specs.Unrolled.{guard_gate, guard_literal, kept_constraints}
 
 frames_of_none : {A : Type 0} (f : ℕ → List A) → ((t : ℕ) → f t ≡ []) → (n : ℕ) → frames f n ≡ []
 frames_of_none f none zero = refl

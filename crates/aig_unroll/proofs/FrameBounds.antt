@@ -1,5 +1,7 @@
 -- How great frame literals are.
-use Rattle.std.proofs.Common.{◌≡◌, inl, inr, ℕ, zero, suc, ◌+◌, ◌-◌, ◌*◌, ◌%◌, ◌<◌, ◌≤◌, nat_eq, Bool, true, false, if◌then◌else◌, List, length, take, count_by, Option, Some, None, slice_get, refl, ◌∙◌, ap, arith}
+use Rattle.std.proofs.Common.{◌≡◌, inl, inr, ℕ, zero, suc, ◌+◌, ◌-◌, ◌*◌, ◌%◌, ◌<◌, ◌≤◌, nat_eq, Bool, true, false}
+use Rattle.std.proofs.Common.{if◌then◌else◌, List, length, take, count_by, Option, Some, None, slice_get, refl, ◌∙◌, ap}
+use Rattle.std.proofs.Common.{arith}
 use Rattle.std.proofs.Math.Nat.{mul-le-mul_right}
 use Rattle.std.proofs.lemmas.Bool.Decides.{nat_tests}
 use Rattle.std.proofs.lemmas.List.Sums.{count_by_more_yes, sum_by-take-le}
@@ -15,7 +17,8 @@ use Rattle.aig_base.specs.Sound.{IsSound, IsReset}
 use Rattle.aig_base.proofs.lists.Counting.{length-order}
 use Rattle.aig_base.proofs.lists.Gets.{All-at}
 use Rattle.aig_base.proofs.renumbered.RenumberedParts.{variable_bound}
-use Rattle.aig_unroll.specs.FrameLiteral.{frame_literal, frame_size, input_count, first_literal, latch_literal, next_literal, role_literal, is_uninitialised}
+use Rattle.aig_unroll.specs.FrameLiteral.{frame_literal, frame_size, input_count, first_literal, latch_literal}
+use Rattle.aig_unroll.specs.FrameLiteral.{next_literal, role_literal, is_uninitialised}
 use Rattle.aig_unroll.proofs.FrameLiterals.{by_role, input_within}
 
 -- a literal of a variable up to w keeps to it when it is negated

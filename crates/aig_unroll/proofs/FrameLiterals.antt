@@ -1,5 +1,7 @@
 -- Frame literals by what a variable is, and by a plan and a frame.
-use Rattle.std.proofs.Common.{◌≡◌, ℕ, zero, suc, ◌+◌, ◌-◌, ◌*◌, ◌/◌, ◌%◌, ◌<◌, ◌==◌, nat_lt, true, false, List, length, map, get_or, slice_index, Contains, Option, Some, None, slice_get, option_map, refl, sym, ◌∙◌, ap, arith}
+use Rattle.std.proofs.Common.{◌≡◌, ℕ, zero, suc, ◌+◌, ◌-◌, ◌*◌, ◌/◌, ◌%◌, ◌<◌, ◌==◌, nat_lt, true, false, List, length}
+use Rattle.std.proofs.Common.{map, get_or, slice_index, Contains, Option, Some, None, slice_get, option_map, refl, sym}
+use Rattle.std.proofs.Common.{◌∙◌, ap, arith}
 use Rattle.std.proofs.lemmas.Bool.Decides.{nat_tests}
 use Rattle.std.proofs.lemmas.List.{length-map}
 use Rattle.std.proofs.lemmas.Option.{slice_get-map, slice_get-get_or, get_or_from_slice_get}
@@ -17,10 +19,12 @@ use Rattle.aig_base.specs.Sound.{IsSound}
 use Rattle.aig_base.proofs.lists.Positions.{stands_at}
 use Rattle.aig_base.proofs.circuits.Places.{input, latch, gate, IsDefinition-of_place}
 use Rattle.aig_base.proofs.renumbered.Renumberings.{place_in}
-use Rattle.aig_base.proofs.circuits.Roles.{only_place, role_input, role_latch, role_gate_at, role_constant, place_within}
+use Rattle.aig_base.proofs.circuits.Roles.{only_place, role_input, role_latch, role_gate_at, role_constant}
+use Rattle.aig_base.proofs.circuits.Roles.{place_within}
 use Rattle.aig_unroll.specs.declared.unrolling.plan.Plan.{Plan}
 use Rattle.aig_unroll.specs.declared.unrolling.frame_literals.Frame.{Frame}
-use Rattle.aig_unroll.specs.FrameLiteral.{frame_literal, frame_gate_variable, first_literal, latch_literal, next_literal, role_literal}
+use Rattle.aig_unroll.specs.FrameLiteral.{frame_literal, frame_gate_variable, first_literal, latch_literal}
+use Rattle.aig_unroll.specs.FrameLiteral.{next_literal, role_literal}
 use Rattle.aig_unroll.specs.state.FrameTable.{IsPlan, IsFrame, literal_at, number_literal}
 
 -- a frame literal by what its variable is

@@ -1,10 +1,13 @@
 -- The frames of an unrolled circuit, one by one.
-use Rattle.std.proofs.Common.{◌≡◌, ℕ, zero, suc, ◌+◌, ◌-◌, ◌*◌, ◌<◌, ◌≤◌, Bool, true, false, if◌then◌else◌, List, [], ◌++◌, length, map, get_or, slice_index, All, Some, slice_get, option_map, refl, sym, ◌∙◌, ap, ap₂, subst, arith, add-one}
+use Rattle.std.proofs.Common.{◌≡◌, ℕ, zero, suc, ◌+◌, ◌-◌, ◌*◌, ◌<◌, ◌≤◌, Bool, true, false, if◌then◌else◌, List, []}
+use Rattle.std.proofs.Common.{◌++◌, length, map, get_or, slice_index, All, Some, slice_get, option_map, refl, sym, ◌∙◌}
+use Rattle.std.proofs.Common.{ap, ap₂, subst, arith, add-one}
 use Rattle.std.specs.List.{range_with_len}
 use Rattle.std.proofs.Math.Nat.{mul-le-mul_right}
 use Rattle.std.proofs.lemmas.List.{length-map, ext_get_or, get_or_default}
 use Rattle.std.proofs.lemmas.List.Elements.{All-weaker, All-nil}
-use Rattle.std.proofs.lemmas.List.FromFn.{length-map-range_with_len, length-range_with_len, get_or-range_with_len, get_or-map-range_with_len}
+use Rattle.std.proofs.lemmas.List.FromFn.{length-map-range_with_len, length-range_with_len, get_or-range_with_len}
+use Rattle.std.proofs.lemmas.List.FromFn.{get_or-map-range_with_len}
 use Rattle.std.proofs.lemmas.Option.{slice_get-map, get_or_from_slice_get}
 use Rattle.std.proofs.lemmas.Simd.{map-map}
 use Rattle.aig_parts.specs.declared.gate.Gate.{Gate}
@@ -22,9 +25,11 @@ use Rattle.aig_base.proofs.renumbered.RenumberedReady.{ordered_gate}
 use Rattle.aig_unroll.specs.declared.unrolling.frame_literals.Frame.{Frame}
 use Rattle.aig_unroll.specs.declared.unrolling.plan.Plan.{Plan}
 use Rattle.aig_unroll.specs.declared.unrolling.sections.Sections.{Sections}
-use Rattle.aig_unroll.specs.FrameLiteral.{frame_literal, frame_gate_variable, first_literal, has_guards, chain_count, guard_count}
+use Rattle.aig_unroll.specs.FrameLiteral.{frame_literal, frame_gate_variable, first_literal, has_guards, chain_count}
+use Rattle.aig_unroll.specs.FrameLiteral.{guard_count}
 use Rattle.aig_unroll.specs.state.FrameTable as table
-use Rattle.aig_unroll.specs.state.FrameTable.{IsPlan, IsFrame, IsWithin, IsNextFrame, AddsFrame, AreSections, IsGateNumbered, literal_at, numbered_gate, plan_gates, bad_at, first_at}
+use Rattle.aig_unroll.specs.state.FrameTable.{IsPlan, IsFrame, IsWithin, IsNextFrame, AddsFrame, AreSections}
+use Rattle.aig_unroll.specs.state.FrameTable.{IsGateNumbered, literal_at, numbered_gate, plan_gates, bad_at, first_at}
 use Rattle.aig_unroll.specs.Unrollable.{FitsLimits}
 use Rattle.aig_unroll.specs.Unrolled as parts
 use Rattle.aig_unroll.specs.Unrolled.{frames, frame_literals, frame_bad, frame_gate, frame_gates, kept_constraints}

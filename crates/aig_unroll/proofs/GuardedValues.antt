@@ -1,5 +1,7 @@
 -- The values of chain gates and of guards.
-use Rattle.std.proofs.Common.{◌≡◌, ◌⊎◌, ◌↔◌, inl, inr, ℕ, zero, suc, ◌+◌, ◌-◌, ◌*◌, ◌<◌, ◌≤◌, nat_lt, Bool, true, false, ◌&&◌, List, [], ◌∷◌, ◌++◌, length, map, slice_index, Contains, Some, slice_get, option_map, refl, sym, ◌∙◌, ap, subst, arith}
+use Rattle.std.proofs.Common.{◌≡◌, ◌⊎◌, ◌↔◌, inl, inr, ℕ, zero, suc, ◌+◌, ◌-◌, ◌*◌, ◌<◌, ◌≤◌, nat_lt, Bool, true, false}
+use Rattle.std.proofs.Common.{◌&&◌, List, [], ◌∷◌, ◌++◌, length, map, slice_index, Contains, Some, slice_get}
+use Rattle.std.proofs.Common.{option_map, refl, sym, ◌∙◌, ap, subst, arith}
 use Rattle.std.specs.List.{range_with_len}
 use Rattle.std.proofs.lemmas.Bool.Decides.{nat_tests}
 use Rattle.std.proofs.lemmas.Option.{slice_get-map, slice_get_within, get_or_from_slice_get}
@@ -21,10 +23,12 @@ use Rattle.aig_base.proofs.circuits.EachUse.{each_use}
 use Rattle.aig_base.proofs.lists.Gets.{All-at}
 use Rattle.aig_base.proofs.values.NegatedValues.{of_ready}
 use Rattle.aig_base.proofs.values.OneValue.{exists_value}
-use Rattle.aig_base.proofs.lists.Positions.{slice_get_left, slice_get_right, Contains-from_slice_get, position_of, stands_at}
+use Rattle.aig_base.proofs.lists.Positions.{slice_get_left, slice_get_right, Contains-from_slice_get, position_of}
+use Rattle.aig_base.proofs.lists.Positions.{stands_at}
 use Rattle.aig_base.proofs.values.UniqueValue.{unique}
 use Rattle.aig_unroll.specs.FrameLiteral.{frame_literal, has_guards, chain_count, guard_count}
-use Rattle.aig_unroll.specs.Unrolled.{unrolled, frame_bad, frame_gate, frame_gates, chain_gate, chain_literal, link_before, guard_gate, guard_literal, last_chain}
+use Rattle.aig_unroll.specs.Unrolled.{unrolled, frame_bad, frame_gate, frame_gates, chain_gate, chain_literal}
+use Rattle.aig_unroll.specs.Unrolled.{link_before, guard_gate, guard_literal, last_chain}
 use Rattle.aig_unroll.specs.UnrolledValues.{UnrolledValue, unrolled_row, IsExcluded, GuardedValue, GuardsBad}
 use Rattle.aig_unroll.proofs.Guarding.{AreGuarded, guarded}
 use Rattle.aig_unroll.proofs.UnrolledCircuit.{unrolled_sound, bad_on, bad_off, length-frame_bad}

@@ -1,5 +1,7 @@
 -- The lines of an input map name the inputs of the unrolled circuit.
-use Rattle.std.proofs.Common.{◌≡◌, ℕ, zero, suc, ◌+◌, ◌*◌, ◌<◌, Bool, true, false, if◌then◌else◌, List, ◌∷◌, ◌++◌, length, map, take, drop, get_or, Some, slice_get, option_map, refl, sym, ◌∙◌, ap, ap₂, arith, zero-mul}
+use Rattle.std.proofs.Common.{◌≡◌, ℕ, zero, suc, ◌+◌, ◌*◌, ◌<◌, Bool, true, false, if◌then◌else◌, List, ◌∷◌, ◌++◌}
+use Rattle.std.proofs.Common.{length, map, take, drop, get_or, Some, slice_get, option_map, refl, sym, ◌∙◌, ap, ap₂}
+use Rattle.std.proofs.Common.{arith, zero-mul}
 use Rattle.std.proofs.lemmas.List.{length-map, map-append, ext_get_or, get_or-map, drop_more, drop_all}
 use Rattle.std.proofs.lemmas.List.FromFn.{length-map-range_with_len, get_or-map-range_with_len}
 use Rattle.std.proofs.lemmas.List.Sums.{sum_by-cons, count_by_more_yes, count_by_more_no}

@@ -1,5 +1,7 @@
 -- The lines of an input map, one by one.
-use Rattle.std.proofs.Common.{◌≡◌, ◌≢◌, ◌⊎◌, inl, inr, ℕ, zero, suc, ◌+◌, ◌*◌, ◌<◌, ◌≤◌, Bool, true, false, ◌&&◌, List, [], ◌∷◌, ◌++◌, length, drop, get_or, Contains, AllPairs, Option, Ok, Err, IsErr, Result, refl, sym, ap, ◌∙◌, arith, append_assoc, add-one}
+use Rattle.std.proofs.Common.{◌≡◌, ◌≢◌, ◌⊎◌, inl, inr, ℕ, zero, suc, ◌+◌, ◌*◌, ◌<◌, ◌≤◌, Bool, true, false, ◌&&◌, List}
+use Rattle.std.proofs.Common.{[], ◌∷◌, ◌++◌, length, drop, get_or, Contains, AllPairs, Option, Ok, Err, IsErr, Result}
+use Rattle.std.proofs.Common.{refl, sym, ap, ◌∙◌, arith, append_assoc, add-one}
 use Rattle.std.specs.Prelude.{◌==◌, if◌then◌else◌}
 use Rattle.std.specs.Map.{keys_of}
 use Rattle.std.proofs.lemmas.Bool.{eqb-true, eq-eqb, false≢true}
@@ -13,7 +15,8 @@ use Rattle.aig_parts.specs.declared.symbols.Kind.{Kind}
 use Rattle.aig_parts.specs.declared.symbols.Kind.TheVariants as kinds
 use Rattle.aig_parts.specs.SymbolPlaces.{Key}
 use Rattle.aig_unroll.specs.FrameLiteral.{is_uninitialised}
-use Rattle.aig_unroll.specs.InputMap.{Origin, input, start, frame_origins, start_origins, is_input, is_latch, symbol_name_at, origin_line, origin_lines}
+use Rattle.aig_unroll.specs.InputMap.{Origin, input, start, frame_origins, start_origins, is_input, is_latch}
+use Rattle.aig_unroll.specs.InputMap.{symbol_name_at, origin_line, origin_lines}
 use Rattle.aig_unroll.specs.state.MapLines.{start_line, position_after}
 use Rattle.aig_unroll.specs.Unrolled.{frames}
 use Rattle.aig_unroll.proofs.UnrolledCircuit.{length-frames}

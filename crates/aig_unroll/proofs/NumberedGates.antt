@@ -1,5 +1,6 @@
 -- Gates with the literals of the renumbered circuit, and what stands for those at a frame.
-use Rattle.std.proofs.Common.{◌≡◌, ℕ, ◌+◌, ◌*◌, ◌/◌, ◌%◌, ◌≤◌, nat_eq, Bool, true, false, List, [], ◌∷◌, ◌++◌, map, slice_index, All, Some, slice_get, refl, sym, ◌∙◌, ap, subst, arith}
+use Rattle.std.proofs.Common.{◌≡◌, ℕ, ◌+◌, ◌*◌, ◌/◌, ◌%◌, ◌≤◌, nat_eq, Bool, true, false, List, [], ◌∷◌, ◌++◌, map}
+use Rattle.std.proofs.Common.{slice_index, All, Some, slice_get, refl, sym, ◌∙◌, ap, subst, arith}
 use Rattle.std.proofs.lemmas.List.{map-append}
 use Rattle.std.proofs.lemmas.Option.{slice_get-map}
 use Rattle.aig_parts.specs.declared.gate.Gate.{Gate}
@@ -12,7 +13,8 @@ use Rattle.aig_base.proofs.lists.Positions.{unmap_option}
 use Rattle.aig_base.proofs.renumbered.Renumberings.{gate_stands}
 use Rattle.aig_unroll.specs.declared.unrolling.frame_literals.Frame.{Frame}
 use Rattle.aig_unroll.specs.declared.unrolling.plan.Plan.{Plan}
-use Rattle.aig_unroll.specs.state.FrameTable.{numbered_at, literal_at, number_literal, numbered_gate, IsNumbered, IsGateNumbered}
+use Rattle.aig_unroll.specs.state.FrameTable.{numbered_at, literal_at, number_literal, numbered_gate, IsNumbered}
+use Rattle.aig_unroll.specs.state.FrameTable.{IsGateNumbered}
 
 -- the sign of a literal turns one or leaves it
 pub turned : (l k : ℕ) → IsNegated l → with_sign l k ≡ negation k

@@ -1,5 +1,6 @@
 -- The unrolled parts are a circuit.
-use Rattle.std.proofs.Common.{◌≡◌, ℕ, zero, suc, ◌+◌, ◌*◌, ◌<◌, ◌≤◌, Bool, true, false, if◌then◌else◌, List, length, map, All, get_or, refl, sym, ◌∙◌, ap, subst, arith, zero-mul, length-append}
+use Rattle.std.proofs.Common.{◌≡◌, ℕ, zero, suc, ◌+◌, ◌*◌, ◌<◌, ◌≤◌, Bool, true, false, if◌then◌else◌, List, length}
+use Rattle.std.proofs.Common.{map, All, get_or, refl, sym, ◌∙◌, ap, subst, arith, zero-mul, length-append}
 use Rattle.std.specs.List.{range_with_len}
 use Rattle.std.proofs.Math.Nat.{mul-le-mul_right}
 use Rattle.std.proofs.lemmas.List.{length-map}
@@ -21,7 +22,8 @@ use Rattle.aig_unroll.specs.Unrollable.{FitsLimits}
 use Rattle.aig_unroll.specs.Unrolled.{unrolled, frames, frame_literals, frame_bad, guard_literal, kept_constraints}
 use Rattle.aig_unroll.proofs.FrameBounds.{any_bound}
 use Rattle.aig_unroll.proofs.Guarding.{guarded}
-use Rattle.aig_unroll.proofs.UnrolledReady.{All-frames, All-range, IsReadyGate, gates_ready, length-gates, unrolled_ready}
+use Rattle.aig_unroll.proofs.UnrolledReady.{All-frames, All-range, IsReadyGate, gates_ready, length-gates}
+use Rattle.aig_unroll.proofs.UnrolledReady.{unrolled_ready}
 
 -- frames of one length, joined
 pub length-frames : {A : Type 0} (f : ℕ → List A) (c n : ℕ) → ((t : ℕ) → length (f t) ≡ c) → length (frames f n) ≡ n * c

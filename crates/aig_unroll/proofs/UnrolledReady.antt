@@ -1,5 +1,7 @@
 -- A binary file can hold the unrolled circuit.
-use Rattle.std.proofs.Common.{◌≡◌, ℕ, zero, suc, ◌+◌, ◌*◌, ◌<◌, ◌≤◌, inl, inr, nat_lt, Bool, true, false, List, ◌++◌, length, map, All, slice_index, Some, slice_get, option_map, refl, sym, ◌∙◌, ap, ap₂, subst, arith, zero-mul}
+use Rattle.std.proofs.Common.{◌≡◌, ℕ, zero, suc, ◌+◌, ◌*◌, ◌<◌, ◌≤◌, inl, inr, nat_lt, Bool, true, false, List, ◌++◌}
+use Rattle.std.proofs.Common.{length, map, All, slice_index, Some, slice_get, option_map, refl, sym, ◌∙◌, ap, ap₂}
+use Rattle.std.proofs.Common.{subst, arith, zero-mul}
 use Rattle.std.specs.List.{range_with_len}
 use Rattle.std.proofs.Math.Nat.{mul-le-mul_right}
 use Rattle.std.proofs.lemmas.List.{length-map, map-append}
@@ -12,15 +14,18 @@ use Rattle.aig_base.specs.Circuit.{IsCircuit}
 use Rattle.aig_parts.specs.Literal.{variable}
 use Rattle.aig_base.specs.Order.{IsCanonicalOrder}
 use Rattle.aig_base.specs.state.BinaryReady.{SectionsInOrder}
-use Rattle.aig_base.specs.Renumbered.{ordered_gates, ready_gate, renumbered, renumbered_gate, renumbered_literal, renumbered_variable, evens, evens_from, IsBinaryReady}
+use Rattle.aig_base.specs.Renumbered.{ordered_gates, ready_gate, renumbered, renumbered_gate, renumbered_literal}
+use Rattle.aig_base.specs.Renumbered.{renumbered_variable, evens, evens_from, IsBinaryReady}
 use Rattle.aig_base.proofs.lists.Positions.{unmap_option}
 use Rattle.aig_base.proofs.lists.Counting.{length-order}
 use Rattle.aig_base.proofs.lists.Evens.{joined, evens-append, length-evens_from}
 use Rattle.aig_base.proofs.lists.Gets.{All-at, All-by_get}
 use Rattle.aig_base.proofs.renumbered.RenumberedParts.{length-ordered}
-use Rattle.aig_base.proofs.renumbered.RenumberedReady.{ordered_gate, gate_literal, renumbered_ready, evens_map, goes_down, lhs_stays, sign_cases}
+use Rattle.aig_base.proofs.renumbered.RenumberedReady.{ordered_gate, gate_literal, renumbered_ready, evens_map}
+use Rattle.aig_base.proofs.renumbered.RenumberedReady.{goes_down, lhs_stays, sign_cases}
 use Rattle.aig_unroll.specs.FrameLiteral.{frame_literal, frame_size, input_count, chain_count, guard_count}
-use Rattle.aig_unroll.specs.Unrolled.{unrolled, frames, frame_gate, frame_gates, chain_gate, chain_literal, link_before, chain_before, guard_gate, guard_literal, last_chain}
+use Rattle.aig_unroll.specs.Unrolled.{unrolled, frames, frame_gate, frame_gates, chain_gate, chain_literal, link_before}
+use Rattle.aig_unroll.specs.Unrolled.{chain_before, guard_gate, guard_literal, last_chain}
 use Rattle.aig_unroll.proofs.FrameBounds.{literal_bound, any_bound}
 use Rattle.aig_unroll.proofs.FrameLiterals.{of_gate}
 use Rattle.aig_unroll.proofs.Guarding.{guarded_by_guard}

@@ -1,5 +1,6 @@
 -- The value of a frame literal in the unrolled circuit.
-use Rattle.std.proofs.Common.{◌≡◌, inl, inr, ℕ, zero, suc, ◌+◌, ◌*◌, ◌<◌, ◌≤◌, Bool, true, false, List, [], ◌∷◌, ◌++◌, length, map, take, flat_map, Some, slice_get, option_map, refl, ◌∙◌, ap, subst, arith}
+use Rattle.std.proofs.Common.{◌≡◌, inl, inr, ℕ, zero, suc, ◌+◌, ◌*◌, ◌<◌, ◌≤◌, Bool, true, false, List, [], ◌∷◌, ◌++◌}
+use Rattle.std.proofs.Common.{length, map, take, flat_map, Some, slice_get, option_map, refl, ◌∙◌, ap, subst, arith}
 use Rattle.std.specs.List.{range_with_len}
 use Rattle.std.proofs.Math.Nat.{mul-le-mul_right}
 use Rattle.std.proofs.lemmas.Bool.Decides.{nat_tests}
@@ -27,7 +28,8 @@ use Rattle.aig_base.proofs.renumbered.RenumberedParts.{ordered_at}
 use Rattle.aig_base.proofs.renumbered.Renumberings.{Contains-map}
 use Rattle.aig_base.proofs.circuits.Roles.{one_place}
 use Rattle.aig_base.proofs.values.UniqueValue.{unique}
-use Rattle.aig_unroll.specs.FrameLiteral.{frame_literal, first_literal, is_uninitialised, uninitialised, input_count, chain_count, guard_count}
+use Rattle.aig_unroll.specs.FrameLiteral.{frame_literal, first_literal, is_uninitialised, uninitialised, input_count}
+use Rattle.aig_unroll.specs.FrameLiteral.{chain_count, guard_count}
 use Rattle.aig_unroll.specs.Unrolled.{unrolled, frame_gate, frame_gates, chain_gate, guard_gate}
 use Rattle.aig_unroll.specs.UnrolledValues.{UnrolledValue, unrolled_row, free_values}
 use Rattle.aig_unroll.proofs.FrameBounds.{count_before}

@@ -1,4 +1,5 @@
 -- What unrolling a circuit for k frames returns. Where the standard is silent, this is our own choice.
+-- Example: for 0 frames `NoFrames`, number 9.
 use Rattle.std.specs.Prelude.{◌≡◌, ℕ, ◌<◌, List, Result, Ok, Err}
 use Rattle.aig_parts.specs.declared.raw.Raw.{Raw}
 use Rattle.aig_base.specs.Order.{IsCanonicalOrder}

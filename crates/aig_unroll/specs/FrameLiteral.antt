@@ -1,6 +1,8 @@
 -- The literal of the unrolled circuit that represents a literal at a frame. Where the standard is silent, this is our
 -- own choice.
-use Rattle.std.specs.Prelude.{ℕ, zero, suc, ◌+◌, ◌*◌, ◌==◌, nat_lt, Bool, ◌&&◌, if◌then◌else◌, List, length, take, count_by, Option, Some, None, slice_get}
+-- Example: literal 4 is 6 at frame 0 and 8 at frame 1.
+use Rattle.std.specs.Prelude.{ℕ, zero, suc, ◌+◌, ◌*◌, ◌==◌, nat_lt, Bool, ◌&&◌, if◌then◌else◌, List, length, take}
+use Rattle.std.specs.Prelude.{count_by, Option, Some, None, slice_get}
 use Rattle.aig_parts.specs.declared.latch.Latch.{Latch}
 use Rattle.aig_parts.specs.declared.raw.Raw.{Raw}
 use Rattle.aig_parts.specs.Literal.{variable, with_sign}
@@ -59,7 +61,8 @@ role_literal raw k t latch_literal (roles.gate q) = 2 * frame_gate_variable raw 
 
 -- the literal of l at frame t by what its variable is; negations are kept, on constants too
 abbrev pub literal_by : Raw → List ℕ → ℕ → ℕ → (ℕ → ℕ) → ℕ → ℕ
-literal_by raw order k t latch_literal l = with_sign l (role_literal raw k t latch_literal (role raw order (variable l)))
+literal_by raw order k t latch_literal l =
+    with_sign l (role_literal raw k t latch_literal (role raw order (variable l)))
 
 -- the literal of the latch at a position at frame t
 unfoldable pub latch_literal : Raw → List ℕ → ℕ → ℕ → ℕ → ℕ

@@ -1,4 +1,5 @@
 -- What can be unrolled. Where the standard is silent, this is our own choice.
+-- Example: 64 inputs fit for 65,535 frames.
 use Rattle.std.specs.Prelude.{ℕ, ◌+◌, ◌*◌, ◌<◌, ◌≤◌, ◌⊎◌, length}
 use Rattle.aig_parts.specs.declared.raw.Raw.{Raw}
 use Rattle.aig_parts.specs.Formed.{limit}

@@ -1,10 +1,14 @@
 -- The circuit unrolled for k frames, its time-frame expansion. Where the standard is silent, this is our own choice.
-use Rattle.std.specs.Prelude.{ℕ, zero, suc, ◌+◌, ◌*◌, ◌-◌, if◌then◌else◌, List, [], ◌++◌, length, map, None, slice_index}
+-- Example: `aag 2 2 0 0 0 1 1`, bad 2, constraint 4, for 2 frames: bad 12 and 16, gates `10 4 1`, `12 10 2`, `14 10 8`,
+-- `16 14 6`.
+use Rattle.std.specs.Prelude.{ℕ, zero, suc, ◌+◌, ◌*◌, ◌-◌, if◌then◌else◌, List, [], ◌++◌, length, map, None}
+use Rattle.std.specs.Prelude.{slice_index}
 use Rattle.std.specs.List.{range_with_len}
 use Rattle.aig_parts.specs.declared.gate.Gate.{Gate}
 use Rattle.aig_parts.specs.declared.raw.Raw.{Raw}
 use Rattle.aig_base.specs.Renumbered.{ready_gate, ordered_gates, evens}
-use Rattle.aig_unroll.specs.FrameLiteral.{frame_literal, frame_gate_variable, frame_size, input_count, has_guards, chain_count, guard_count}
+use Rattle.aig_unroll.specs.FrameLiteral.{frame_literal, frame_gate_variable, frame_size, input_count, has_guards}
+use Rattle.aig_unroll.specs.FrameLiteral.{chain_count, guard_count}
 
 -- the lists of the frames 0, 1, .., k - 1, joined
 abbrev pub frames : {A : Type 0} → (ℕ → List A) → ℕ → List A

@@ -1,7 +1,9 @@
 -- Bytes of a trace that are gathered piece by piece.
-use Rattle.std.proofs.Common.{◌≡◌, ℕ, ◌+◌, ◌-◌, ◌≤◌, length-drop, arith, List, [], ◌++◌, length, map, take, drop, refl, sym, ap, ◌∙◌, append_assoc, Ok, Err, IsErr, Result}
+use Rattle.std.proofs.Common.{◌≡◌, ℕ, ◌+◌, ◌-◌, ◌≤◌, length-drop, arith, List, [], ◌++◌, length, map, take, drop, refl}
+use Rattle.std.proofs.Common.{sym, ap, ◌∙◌, append_assoc, Ok, Err, IsErr, Result}
 use Rattle.std.specs.Prelude.{Option}
-use Rattle.std.proofs.lemmas.List.{append-nil, take-append-drop, take_all, take_at, length-take-le, length-map, length-append, map-append}
+use Rattle.std.proofs.lemmas.List.{append-nil, take-append-drop, take_all, take_at, length-take-le, length-map}
+use Rattle.std.proofs.lemmas.List.{length-append, map-append}
 use Rattle.std.proofs.Math.Seq.{take-add}
 use Rattle.aig_bytes.specs.Gathered.{Gathers}
 use Rattle.aig_bytes.proofs.GatherLemmas.{gathers_then, gathers_stop, gathers_failed, gathers_same, gathers_none}

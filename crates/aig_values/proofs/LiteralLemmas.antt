@@ -1,11 +1,14 @@
 -- Rows of cells by literal.
-use Rattle.std.proofs.Common.{◌≡◌, inl, inr, ℕ, zero, suc, ◌+◌, ◌-◌, ◌*◌, ◌/◌, ◌%◌, ◌^◌, ◌<◌, ◌≤◌, List, [], ◌∷◌, ◌++◌, length, map, All, fold, take, drop, get_or, set, refl, sym, ap, ap₂, ◌∙◌, subst, arith}
+use Rattle.std.proofs.Common.{◌≡◌, inl, inr, ℕ, zero, suc, ◌+◌, ◌-◌, ◌*◌, ◌/◌, ◌%◌, ◌^◌, ◌<◌, ◌≤◌, List, [], ◌∷◌, ◌++◌}
+use Rattle.std.proofs.Common.{length, map, All, fold, take, drop, get_or, set, refl, sym, ap, ap₂, ◌∙◌, subst, arith}
 use Rattle.std.proofs.Math.Nat.{div-one}
 use Rattle.std.proofs.lemmas.Nat.{and_mask}
 use Rattle.std.specs.Prelude.{nat_eq, if◌then◌else◌}
 use Rattle.std.proofs.lemmas.Bool.{cases_lt, cases_eq}
 use Rattle.std.proofs.lemmas.Grind.{get_or_default_zero}
-use Rattle.std.proofs.lemmas.List.{append_assoc, append-nil, take_more, take_more_set, take_all, get_or-take, get_or-drop, get_or_default, get_or-set_same, get_or-set_other, get_or-map, ext_get_or}
+use Rattle.std.proofs.lemmas.List.{append_assoc, append-nil, take_more, take_more_set, take_all, get_or-take}
+use Rattle.std.proofs.lemmas.List.{get_or-drop, get_or_default, get_or-set_same, get_or-set_other, get_or-map}
+use Rattle.std.proofs.lemmas.List.{ext_get_or}
 use Rattle.std.specs.List.{range_with_len}
 use Rattle.std.proofs.lemmas.List.FromFn.{length-map-range_with_len, get_or-map-range_with_len}
 use Rattle.aig_parts.specs.declared.gate.Gate.{Gate}

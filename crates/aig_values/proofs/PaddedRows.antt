@@ -1,9 +1,14 @@
 -- Rows with room for more than n cells, seen as rows of n.
-use Rattle.std.proofs.Common.{◌≡◌, inl, inr, ℕ, suc, zero, ◌+◌, ◌-◌, ◌<◌, ◌≤◌, Bool, true, List, [], ◌∷◌, ◌++◌, Some, slice_get, length, map, replicate, take, drop, nat_lt, All, get_or, set, refl, sym, ap, ◌∙◌, subst, arith, get_or-set_other, length-append}
+use Rattle.std.proofs.Common.{◌≡◌, inl, inr, ℕ, suc, zero, ◌+◌, ◌-◌, ◌<◌, ◌≤◌, Bool, true, List, [], ◌∷◌, ◌++◌, Some}
+use Rattle.std.proofs.Common.{slice_get, length, map, replicate, take, drop, nat_lt, All, get_or, set, refl, sym, ap}
+use Rattle.std.proofs.Common.{◌∙◌, subst, arith, get_or-set_other, length-append}
 use Rattle.std.proofs.Math.Seq.{take-set-lt}
 use Rattle.std.proofs.lemmas.Bool.{cases_eq}
 use Rattle.std.proofs.lemmas.Bool.Decides.{nat_tests}
-use Rattle.std.proofs.lemmas.List.{length-set, length-map, length_push, length-replicate, length-take, get_or-set_same, get_or-take, get_or-map, get_or_default, take-replicate, take-append-le, take_more, drop-replicate, drop-append-le, drop-set-lt, map-set, map_push, replicate-append-replicate, append_assoc, ext_get_or}
+use Rattle.std.proofs.lemmas.List.{length-set, length-map, length_push, length-replicate, length-take, get_or-set_same}
+use Rattle.std.proofs.lemmas.List.{get_or-take, get_or-map, get_or_default, take-replicate, take-append-le, take_more}
+use Rattle.std.proofs.lemmas.List.{drop-replicate, drop-append-le, drop-set-lt, map-set, map_push}
+use Rattle.std.proofs.lemmas.List.{replicate-append-replicate, append_assoc, ext_get_or}
 use Rattle.std.proofs.lemmas.Option.{slice_get_within}
 use Rattle.std.proofs.lemmas.List.Elements.{All-set, All-push}
 use Rattle.aig_parts.specs.declared.ternary.Tern.{Tern}

@@ -1,5 +1,6 @@
 -- Gates that are evaluated at a frame one after the other.
-use Rattle.std.proofs.Common.{◌≡◌, ℕ, ◌+◌, ◌<◌, ◌≤◌, List, [], ◌∷◌, length, All, fold, take, get_or, set, refl, sym, ap, ◌∙◌, subst}
+use Rattle.std.proofs.Common.{◌≡◌, ℕ, ◌+◌, ◌<◌, ◌≤◌, List, [], ◌∷◌, length, All, fold, take, get_or, set, refl, sym, ap}
+use Rattle.std.proofs.Common.{◌∙◌, subst}
 use Rattle.std.proofs.lemmas.List.{length-set, get_or-set_same, set-set, set-get_or, take_all}
 use Rattle.std.proofs.lemmas.List.Sums.{fold_more}
 use Rattle.aig_parts.specs.declared.ternary.Tern.{Tern}

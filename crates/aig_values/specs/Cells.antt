@@ -1,5 +1,7 @@
 -- The cells of a grid: a row a frame, a value a variable.
-use Rattle.std.specs.Prelude.{◌≡◌, ℕ, ◌-◌, ◌%◌, ◌<◌, Bool, true, List, [], ◌∷◌, ◌++◌, length, replicate, fold, Some, slice_get, slice_set, slice_index_or, nat_eq, if◌then◌else◌}
+-- Example: in the cells 0, 1, x literal 5 is x and literal 3 is 0; with a new cell they are 0, 1, x, x.
+use Rattle.std.specs.Prelude.{◌≡◌, ℕ, ◌-◌, ◌%◌, ◌<◌, Bool, true, List, [], ◌∷◌, ◌++◌, length, replicate, fold, Some}
+use Rattle.std.specs.Prelude.{slice_get, slice_set, slice_index_or, nat_eq, if◌then◌else◌}
 use Rattle.aig_parts.specs.declared.ternary.Tern.{Tern}
 use Rattle.aig_parts.specs.declared.ternary.Tern.TheVariants.{Zero, X}
 use Rattle.aig_parts.specs.declared.gate.Gate.{Gate}
@@ -45,8 +47,8 @@ fresh_row n = Zero ∷ replicate (n - 1) X
 abbrev pub with_new_cell : List Tern → List Tern
 with_new_cell row = row ++ X ∷ []
 
--- what a grid is seen as: the values row by row, which variables are gates, how many evaluations there were, and whether
--- one more gate fits without memory
+-- what a grid is seen as: the values row by row, which variables are gates, how many evaluations there were, and
+-- whether one more gate fits without memory
 pub record Cells : Type 0 where
   pub cells : List (List Tern)
   pub gate_flags : List Bool

@@ -1,4 +1,5 @@
 -- The character of a value in a stimulus and in a trace (our own choice).
+-- Example: x is `x`, byte 120.
 use Rattle.std.specs.Prelude.{ℕ}
 use Rattle.aig_parts.specs.declared.ternary.Tern.{Tern}
 use Rattle.aig_parts.specs.declared.ternary.Tern.TheVariants.{Zero, One, X}

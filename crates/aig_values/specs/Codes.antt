@@ -1,4 +1,5 @@
 -- Values in two bits.
+-- Example: 11 and 01 have the AND 01: 1 AND x is x.
 use Rattle.std.specs.Prelude.{◌≡◌, ℕ, zero, suc}
 use Rattle.aig_parts.specs.declared.ternary.Tern.{Tern}
 use Rattle.aig_parts.specs.declared.ternary.Tern.TheVariants.{Zero, One, X}

@@ -1,4 +1,5 @@
 -- Gates in a topological order, in which they can be evaluated (our own choice).
+-- Example: for `examples/two_gates.aag` the gate of 6, then that of 8.
 use Rattle.std.specs.Prelude.{◌≡◌, ◌↔◌, Bool, ◌⊎◌, ℕ, ◌<◌, List, map, All, Contains, Some, slice_get}
 use Rattle.aig_parts.specs.declared.gate.Gate.{Gate}
 use Rattle.aig_parts.specs.declared.raw.Raw.{Raw}

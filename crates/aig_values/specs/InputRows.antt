@@ -1,4 +1,5 @@
 -- What a stimulus is seen as: rows of one width, a row a frame, a value a primary input (our own choice).
+-- Example: `with_cell` at frame 0, place 1, value 0: `11` becomes `10`.
 use Rattle.std.specs.Prelude.{◌≡◌, ℕ, List, [], length, All, slice_set, slice_index_or}
 use Rattle.aig_parts.specs.declared.ternary.Tern.{Tern}
 

@@ -1,5 +1,6 @@
 -- The text of a trace: a line a frame, with the values of the latches, the inputs, the outputs and the next states
 -- (our own choice, after the stimulus traces of AIGER 1.0).
+-- Example: `examples/two_gates.aag` with `11/`: ` 11 1 /`.
 use Rattle.std.specs.Prelude.{◌≡◌, ℕ, zero, suc, List, [], ◌∷◌, ◌++◌, length, map}
 use Rattle.std.specs.List.{AllZip}
 use Rattle.aig_parts.specs.declared.ternary.Tern.{Tern}
@@ -28,7 +29,8 @@ pub record IsTraceLine (raw : Raw) (start : List Tern) (rows : List (List Tern))
 abbrev pub AreLines : Raw → List Tern → List (List Tern) → ℕ → List ℕ → Type 0
 AreLines raw start rows zero text = text ≡ []
 AreLines raw start rows (suc t) text =
-    (before : List ℕ) × (line : List ℕ) × AreLines raw start rows t before × IsTraceLine raw start rows t line × (text ≡ before ++ line)
+    (before : List ℕ) × (line : List ℕ) × AreLines raw start rows t before × IsTraceLine raw start rows t line
+    × (text ≡ before ++ line)
 
 -- the lines of all frames
 abbrev pub IsTrace : Raw → List Tern → List (List Tern) → List ℕ → Type 0

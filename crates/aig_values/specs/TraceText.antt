@@ -1,4 +1,5 @@
 -- The text of a trace by the cells of its frames (our own choice).
+-- Example: the cells 0, 1, 1, 1, 1 of `examples/two_gates.aag` give ` 11 1 /`.
 use Rattle.std.specs.Prelude.{ℕ, List, [], ◌∷◌, ◌++◌, map, flat_map}
 use Rattle.aig_parts.specs.declared.ternary.Tern.{Tern}
 use Rattle.aig_parts.specs.declared.raw.Raw.{Raw}

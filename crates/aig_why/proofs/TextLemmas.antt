@@ -1,5 +1,7 @@
 -- A line, from what is named and what is added.
-use Rattle.std.proofs.Common.{◌≡◌, ◌≢◌, ℕ, suc, ◌<◌, ◌≤◌, Bool, true, false, List, [], ◌∷◌, ◌++◌, map, replicate, Contains, Option, None, Some, slice_get, refl, sym, ap, ◌∙◌, subst, append_assoc, append-nil}
+use Rattle.std.proofs.Common.{◌≡◌, ◌≢◌, ℕ, suc, ◌<◌, ◌≤◌, Bool, true, false, List, [], ◌∷◌, ◌++◌, map, replicate}
+use Rattle.std.proofs.Common.{Contains, Option, None, Some, slice_get, refl, sym, ap, ◌∙◌, subst, append_assoc}
+use Rattle.std.proofs.Common.{append-nil}
 use Rattle.std.specs.List.{AllZip}
 use Rattle.std.proofs.lemmas.List.{length-map}
 use Rattle.aig_parts.specs.declared.latch.Latch.{Latch}
@@ -17,7 +19,8 @@ use Rattle.aig_signals.specs.declared.text.Origin.{Origin}
 use Rattle.aig_signals.specs.declared.signal.Signal.{Signal}
 use Rattle.aig_signals.specs.Naming.{SectionNamed, signal_word}
 use Rattle.aig_signals.specs.Text.{asked_head, latches_head, line, named_words, names_none, origin_head}
-use Rattle.aig_why.specs.Lines.{AreBits, AreLineTexts, AreNamed, IsAskedText, IsLineText, IsOriginText, Names, ShowsLine, latches_alone}
+use Rattle.aig_why.specs.Lines.{AreBits, AreLineTexts, AreNamed, IsAskedText, IsLineText, IsOriginText, Names}
+use Rattle.aig_why.specs.Lines.{ShowsLine, latches_alone}
 use Rattle.aig_why.specs.Named.{IsNamingOf, NamesNothing}
 use Rattle.aig_why.specs.state.Naming.{Adds, HasSameSignals, NamesValues}
 use Rattle.aig_why.proofs.NamingLemmas.{named_none}

@@ -1,5 +1,7 @@
 -- The lines of an explanation as text (our own choice).
-use Rattle.std.specs.Prelude.{◌≡◌, ◌⊎◌, ℕ, suc, ◌<◌, ◌≤◌, ◌↔◌, Bool, true, false, List, [], ◌∷◌, ◌++◌, length, map, Contains, Option, None, Some, slice_get}
+-- Example: `full=0 at 9, by 8: count=4'b??1?`.
+use Rattle.std.specs.Prelude.{◌≡◌, ◌⊎◌, ℕ, suc, ◌<◌, ◌≤◌, ◌↔◌, Bool, true, false, List, [], ◌∷◌, ◌++◌, length, map}
+use Rattle.std.specs.Prelude.{Contains, Option, None, Some, slice_get}
 use Rattle.std.specs.List.{AllZip}
 use Rattle.aig_parts.specs.declared.latch.Latch.{Latch}
 use Rattle.aig_parts.specs.declared.raw.Raw.{Raw}
@@ -40,7 +42,8 @@ abbrev pub AreBits : Raw → Moment → List ℕ → List (Option Tern) → Type
 AreBits raw m literals bits = AllZip (λ l bit. (w : Tern) × (bit ≡ Some w) × Has raw m l w) literals bits
 
 -- the line of the literals that were asked for by a name; none where they are latches alone
-pub record IsAskedText (raw : Raw) (m : Moment) (name literals : List ℕ) (asked : Sources) (text : List ℕ) : Type 0 where
+pub record IsAskedText (raw : Raw) (m : Moment) (name literals : List ℕ) (asked : Sources) (text : List ℕ) : Type
+    0 where
   pub bits : List (Option Tern)
   pub bits_are : AreBits raw m literals bits
   pub named : Naming
@@ -67,7 +70,8 @@ ShowsLine false raw m x text = IsLineText raw m x text
 unfoldable pub AreLineTexts : Raw → Moment → List LineState → List ℕ → Type 0
 AreLineTexts raw m [] text = text ≡ []
 AreLineTexts raw m (x ∷ more) text =
-    (here : List ℕ) × (rest : List ℕ) × ShowsLine x.kept raw m x here × AreLineTexts raw m more rest × (text ≡ here ++ rest)
+    (here : List ℕ) × (rest : List ℕ) × ShowsLine x.kept raw m x here × AreLineTexts raw m more rest
+    × (text ≡ here ++ rest)
 
 -- the lines of the frames from m on, the lowest frame first here, and last in the text
 unfoldable pub AreFrameTexts : Raw → Moment → List (List LineState) → List ℕ → Type 0
@@ -97,4 +101,5 @@ pub record AreLastTexts (raw : Raw) (m : Moment) (latches : List ℕ) (text : Li
   pub at_start : m.frame ≡ 0 → (reset : List ℕ) × (other : List ℕ) × (first : List ℕ) × (second : List ℕ)
       × ((p : ℕ) → Contains reset p ↔ (Contains latches p × StartsByReset raw m p))
       × ((p : ℕ) → Contains other p ↔ (Contains latches p × (StartsByReset raw m p → ⊥)))
-      × IsOriginText raw m origin.Reset reset first × IsOriginText raw m origin.Start other second × (text ≡ first ++ second)
+      × IsOriginText raw m origin.Reset reset first × IsOriginText raw m origin.Start other second
+      × (text ≡ first ++ second)

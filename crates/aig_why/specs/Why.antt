@@ -1,5 +1,7 @@
 -- What `aig why` writes (our own choice).
-use Rattle.std.specs.Prelude.{◌≡◌, ◌≢◌, ℕ, ◌+◌, ◌-◌, ◌*◌, ◌<◌, ◌≤◌, List, [], ◌∷◌, ◌++◌, length, All, Option, None, Some, Result, Ok, Err, slice_get}
+-- Example: with depth 3 at frame 10 the least frame is 7.
+use Rattle.std.specs.Prelude.{◌≡◌, ◌≢◌, ℕ, ◌+◌, ◌-◌, ◌*◌, ◌<◌, ◌≤◌, List, [], ◌∷◌, ◌++◌, length, All, Option, None}
+use Rattle.std.specs.Prelude.{Some, Result, Ok, Err, slice_get}
 use Rattle.aig_base.specs.Sections.{IsLatchLiteral}
 use Rattle.aig_base.specs.Value.{start_of}
 use Rattle.aig_parts.specs.Limits.{cell_limit}
@@ -44,8 +46,8 @@ abbrev pub least_frame : Option ℕ → ℕ → ℕ
 least_frame None t = 0
 least_frame (Some depth) t = t - depth
 
--- A text of lines. The literals that were asked for are explained down to frame f by lines that are right, each by itself and all
--- together; that is the least frame, or no latch is named there.
+-- A text of lines. The literals that were asked for are explained down to frame f by lines that are right, each by
+-- itself and all together; that is the least frame, or no latch is named there.
 pub record IsExplanation (raw : Raw) (run : Run) (name literals : List ℕ) (t least : ℕ) (text : List ℕ) : Type 0 where
   pub asked : Sources
   pub frames : List (List LineState)
@@ -78,7 +80,8 @@ IsWithinCells raw run = (raw.max_var + 1) * length run.rows ≤ cell_limit
 
 -- the first fault after those of the files: too many cells; no such name; no such frame
 abbrev pub RefusesRun : Raw → Run → ℕ → Option (List ℕ) → Span → RunFault → Type 0
-RefusesRun raw run property name span (run_faults.Bench benches.Limit) = cell_limit < (raw.max_var + 1) * length run.rows
+RefusesRun raw run property name span (run_faults.Bench benches.Limit) =
+    cell_limit < (raw.max_var + 1) * length run.rows
 RefusesRun raw run property name span (run_faults.Bench benches.Memory) = Unit {0}
 RefusesRun raw run property name span (run_faults.Why why_faults.Name) = IsWithinCells raw run × IsNoQuestion raw name
 RefusesRun raw run property name span (run_faults.Why why_faults.Frame) =
@@ -88,7 +91,8 @@ RefusesRun raw run property name span run_faults.Memory = Unit {0}
 RefusesRun raw run property name span _ = ⊥
 
 -- the text explains what is asked for, at the frame that is asked for
-pub record ExplainsRun (raw : Raw) (run : Run) (property : ℕ) (name : Option (List ℕ)) (span : Span) (text : List ℕ) : Type 0 where
+pub record ExplainsRun (raw : Raw) (run : Run) (property : ℕ) (name : Option (List ℕ)) (span : Span)
+    (text : List ℕ) : Type 0 where
   pub cells : IsWithinCells raw run
   pub shown : List ℕ
   pub literals : List ℕ
@@ -112,7 +116,8 @@ WritesWhy stimulus name span raw answer written =
 
 -- what `aig why --witness` returns and writes for a witness of a circuit
 abbrev pub WritesWhyWitness : List ℕ → Option (List ℕ) → Span → Raw → Result (Unit {0}) RunFault → List ℕ → Type 0
-WritesWhyWitness text name span raw (Err (run_faults.Witness fault)) written = HasWitnessFault raw text fault × (written ≡ [])
+WritesWhyWitness text name span raw (Err (run_faults.Witness fault)) written =
+    HasWitnessFault raw text fault × (written ≡ [])
 WritesWhyWitness text name span raw answer written =
     (w : Witness) × SpellsWitness raw text w × IsAdmitted raw w
     × WritesRun raw (record { start = w.start; rows = w.rows }) w.property name span answer written

@@ -1,5 +1,6 @@
 //! The command `why`.
-ghost use Rattle.std.specs.Prelude.{◌≡◌, ℕ, ◌+◌, ◌*◌, ◌≤◌, List, [], length, All, Option, option_copied, Ok, Err, IfErr, IfNone, IfOk, IfSome};
+ghost use Rattle.std.specs.Prelude.{◌≡◌, ℕ, ◌+◌, ◌*◌, ◌≤◌, List, [], length, All, Option, option_copied, Ok, Err};
+ghost use Rattle.std.specs.Prelude.{IfErr, IfNone, IfOk, IfSome};
 ghost use Rattle.aig_bytes.specs.Bytes.{Writes};
 ghost use Rattle.aig_bytes.specs.Flow.{flow};
 ghost use Rattle.aig_parts.specs.Limits.{cell_limit};
@@ -31,7 +32,8 @@ pub struct Span {
 impl Span {
     /// The frames of a run of so many frames; none where it has no such frame.
     fn frames(self, count: u32) -> Option<Frames>
-        ensures some { IfSome result (λ f. IsFrame self.frame count f.first × (f.last ≡ least_frame self.depth f.first)) }
+        ensures some { IfSome result (λ f. IsFrame self.frame count f.first
+            × (f.last ≡ least_frame self.depth f.first)) }
         ensures none { IfNone result ((t : ℕ) → IsFrame self.frame count t → ⊥) }
     {
         let first = match self.frame {
@@ -57,8 +59,10 @@ fn explain_run(
     span: Span,
 ) -> Result<Vec<u8>, RunFault>
     requires cells { (run.now.bench.pair.circuit.max_var + 1) * length run.now.bench.pair.rows ≤ cell_limit }
-    requires range { IfSome (option_copied question) (λ q. All (λ l. variable l ≤ run.now.bench.pair.circuit.max_var) q.literals) }
-    requires defined { IfSome (option_copied question) (λ q. All (λ l. IsDefined run.now.bench.pair.circuit (variable l)) q.literals) }
+    requires range { IfSome (option_copied question)
+        (λ q. All (λ l. variable l ≤ run.now.bench.pair.circuit.max_var) q.literals) }
+    requires defined { IfSome (option_copied question)
+        (λ q. All (λ l. IsDefined run.now.bench.pair.circuit (variable l)) q.literals) }
     requires size { length run.now.latches.items ≡ length run.now.bench.pair.circuit.latches }
     requires none { NamesNothing run.now.bench.pair.circuit naming.old }
     requires of { (raw : Raw) × IsNamingOf raw run.now.bench.pair naming.old }
@@ -91,9 +95,12 @@ fn explain(
     requires width { rows.width ≡ length circuit.inputs }
     requires range { IfSome (option_copied question) (λ q. All (λ l. variable l ≤ circuit.max_var) q.literals) }
     requires defined { IfSome (option_copied question) (λ q. All (λ l. IsDefined circuit (variable l)) q.literals) }
-    ensures text { (property : ℕ) (name : Option (List ℕ)) → IsAskedAs circuit property name (option_copied question.entry) →
-        IfOk result (λ text. ExplainsRun circuit (record { start = start.now; rows = rows.rows }) property name span text.items) }
-    ensures fault { (property : ℕ) (name : Option (List ℕ)) → IsAskedAs circuit property name (option_copied question.entry) →
+    ensures text { (property : ℕ) (name : Option (List ℕ))
+        → IsAskedAs circuit property name (option_copied question.entry) →
+        IfOk result (λ text. ExplainsRun circuit (record { start = start.now; rows = rows.rows }) property name span
+        text.items) }
+    ensures fault { (property : ℕ) (name : Option (List ℕ))
+        → IsAskedAs circuit property name (option_copied question.entry) →
         IfErr result (RefusesRun circuit (record { start = start.now; rows = rows.rows }) property name span) }
 {
     let mut naming = Naming::new(alloc, &circuit)?;
@@ -127,8 +134,10 @@ fn explain_witness(
     name: Option<&[u8]>,
     span: Span,
 ) -> Result<Vec<u8>, RunFault>
-    ensures text { IfOk result (λ text. WritesWhyWitness witness.now (option_copied name.entry) span circuit (Ok tt) text.items) }
-    ensures fault { IfErr result (λ fault. WritesWhyWitness witness.now (option_copied name.entry) span circuit (Err fault) []) }
+    ensures text { IfOk result (λ text. WritesWhyWitness witness.now (option_copied name.entry) span circuit (Ok tt)
+        text.items) }
+    ensures fault { IfErr result (λ fault. WritesWhyWitness witness.now (option_copied name.entry) span circuit
+        (Err fault) []) }
 {
     let Witness {
         property,
@@ -184,8 +193,8 @@ fn read_and_explain_witness<W: Write>(
     write_text(&text, out)
 }
 
-/// The command `why --of NAME`: writes why the literals that a name means are what they are at a frame of the run over a
-/// stimulus, from the start by the resets, in lines of which each is right by itself. It flushes the writer before it
+/// The command `why --of NAME`: writes why the literals that a name means are what they are at a frame of the run over
+/// a stimulus, from the start by the resets, in lines of which each is right by itself. It flushes the writer before it
 /// returns.
 pub fn why<W: Write>(
     alloc: Global,

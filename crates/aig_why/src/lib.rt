@@ -1,5 +1,5 @@
-//! `why`: which inputs and latches make a signal what it is, in lines each of which is right by itself. It knows no file
-//! name, argument or standard stream.
+//! `why`: which inputs and latches make a signal what it is, in lines each of which is right by itself. It knows no
+//! file name, argument or standard stream.
 #![tactic(auto)]
 
 mod command;

@@ -1,5 +1,6 @@
 //! The lines of an explanation.
-ghost use Rattle.std.specs.Prelude.{◌≡◌, ℕ, ◌+◌, ◌-◌, ◌<◌, ◌≤◌, ◌↔◌, List, [], ◌∷◌, ◌++◌, length, map, replicate, All, Contains, IfOk, None, OnOk, Some, slice_get, IsTrue};
+ghost use Rattle.std.specs.Prelude.{◌≡◌, ℕ, ◌+◌, ◌-◌, ◌<◌, ◌≤◌, ◌↔◌, List, [], ◌∷◌, ◌++◌, length, map, replicate, All};
+ghost use Rattle.std.specs.Prelude.{Contains, IfOk, None, OnOk, Some, slice_get, IsTrue};
 ghost use Rattle.aig_parts.specs.declared.raw.Raw.{Raw};
 ghost use Rattle.aig_parts.specs.Literal.{variable};
 ghost use Rattle.aig_base.specs.Sections.{IsDefined};
@@ -8,7 +9,8 @@ ghost use Rattle.aig_bench.specs.BenchState.{HasValue};
 ghost use Rattle.aig_causes.specs.Causes.{AreThere, moment};
 ghost use Rattle.aig_causes.specs.Explanation.{HasCome, IsNamed, IsOf, LineState, named_at};
 ghost use Rattle.aig_signals.specs.declared.signal.Signal.{Signal};
-ghost use Rattle.aig_why.specs.Lines.{AreBits, AreFrameTexts, AreLastTexts, AreLineTexts, AreNamed, IsAskedText, IsOriginText, IsResetValue};
+ghost use Rattle.aig_why.specs.Lines.{AreBits, AreFrameTexts, AreLastTexts, AreLineTexts, AreNamed, IsAskedText};
+ghost use Rattle.aig_why.specs.Lines.{IsOriginText, IsResetValue};
 ghost use Rattle.aig_why.specs.Why.{IsExplanation, run_of};
 ghost use Rattle.aig_why.specs.Named.{IsNamingOf, NamesNothing};
 ghost use Rattle.aig_why.specs.state.Naming.{Adds, HasSameSignals, NamesValues, StartsBy};
@@ -115,7 +117,8 @@ fn name_causes<G: Grid>(
     requires frame { frame < length bench.now.pair.rows }
     requires there { AreThere bench.now.pair.circuit causes.now }
     requires none { NamesNothing bench.now.pair.circuit naming.old }
-    ensures values { OnOk result (NamesValues bench.now.pair.circuit (moment bench.now.pair frame) causes.now naming.new) }
+    ensures values { OnOk result (NamesValues bench.now.pair.circuit (moment bench.now.pair frame) causes.now
+        naming.new) }
     ensures signals { OnOk result (HasSameSignals naming.old naming.new) }
 {
     name_inputs(&mut naming.inputs, bench, frame, causes.inputs())?;

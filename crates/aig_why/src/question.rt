@@ -27,8 +27,10 @@ impl Question {
         ensures name { IfOk result (λ found. IfSome found (λ q. q.name ≡ name.now)) }
         ensures means { IfOk result (λ found. IfSome found (λ q. Means circuit.now name.now q.literals)) }
         ensures unknown { IfOk result (λ found. IfNone found (Unknown circuit.now name.now)) }
-        ensures range { IfOk result (λ found. IfSome found (λ q. All (λ l. variable l ≤ circuit.now.max_var) q.literals)) }
-        ensures defined { IfOk result (λ found. IfSome found (λ q. All (λ l. IsDefined circuit.now (variable l)) q.literals)) }
+        ensures range { IfOk result (λ found. IfSome found
+            (λ q. All (λ l. variable l ≤ circuit.now.max_var) q.literals)) }
+        ensures defined { IfOk result (λ found. IfSome found
+            (λ q. All (λ l. IsDefined circuit.now (variable l)) q.literals)) }
     {
         let signals = signals_of(alloc, circuit)?;
         let found = look_up(alloc, circuit, signals.as_slice(), name)?;
@@ -66,8 +68,10 @@ impl Question {
     ) -> Result<Option<Question>, Memory>
         requires { option_copied name ≡ None → property < length circuit.now.bad }
         ensures asked { IfOk result (IsAskedAs circuit.now property (option_copied name.entry)) }
-        ensures range { IfOk result (λ found. IfSome found (λ q. All (λ l. variable l ≤ circuit.now.max_var) q.literals)) }
-        ensures defined { IfOk result (λ found. IfSome found (λ q. All (λ l. IsDefined circuit.now (variable l)) q.literals)) }
+        ensures range { IfOk result (λ found. IfSome found
+            (λ q. All (λ l. variable l ≤ circuit.now.max_var) q.literals)) }
+        ensures defined { IfOk result (λ found. IfSome found
+            (λ q. All (λ l. IsDefined circuit.now (variable l)) q.literals)) }
     {
         match name {
             Some(name) => Question::of_name(alloc, circuit, name),

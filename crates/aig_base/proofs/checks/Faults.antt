@@ -16,7 +16,8 @@ use Rattle.aig_base.specs.state.Entries.{AreEntries}
 use Rattle.aig_base.specs.FirstFault.{IsLeast, HasBadReset, IsUngrounded, FaultApplies, fault_order, IsFirstFault}
 use Rattle.aig_parts.specs.Formed.{IsFormed}
 use Rattle.aig_base.specs.Grounded.{Grounded, IsAcyclic}
-use Rattle.aig_base.specs.state.LeastFaulty.{IsLeastAmong, IsKnownLiteral, IsGroundedGate, gate_variable, latch_variable}
+use Rattle.aig_base.specs.state.LeastFaulty.{IsLeastAmong, IsKnownLiteral, IsGroundedGate, gate_variable}
+use Rattle.aig_base.specs.state.LeastFaulty.{latch_variable}
 use Rattle.aig_parts.specs.Literal.{variable}
 use Rattle.aig_base.specs.state.Ranged.{AreInRange, AreDefinedOnce, AreDefinitions}
 use Rattle.aig_base.specs.Sections.{definitions, uses, IsDefined}

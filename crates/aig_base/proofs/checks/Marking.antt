@@ -21,7 +21,8 @@ use Rattle.aig_base.specs.state.LeastFaulty.{latch_variable}
 use Rattle.aig_base.specs.state.KeyChains.{LeadsTo, AreKeyChains}
 use Rattle.aig_parts.specs.Formed.{limit}
 use Rattle.aig_parts.specs.Literal.{variable}
-use Rattle.aig_base.specs.state.Marks.{IsMarked, AreGroundedMarks, sides, AreStarted, AddsMark, AddsMarks, IsQueuedFrom, IsMarking}
+use Rattle.aig_base.specs.state.Marks.{IsMarked, AreGroundedMarks, sides, AreStarted, AddsMark, AddsMarks, IsQueuedFrom}
+use Rattle.aig_base.specs.state.Marks.{IsMarking}
 use Rattle.aig_base.specs.state.Walk.{Meets}
 use Rattle.aig_base.proofs.lists.Chains.{leads_cases, leads_nowhere, side_first, side_second}
 use Rattle.aig_base.proofs.circuits.Entering.{same_or_not}

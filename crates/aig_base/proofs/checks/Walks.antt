@@ -19,7 +19,8 @@ use Rattle.aig_base.specs.Sections.{IsDefined, IsGate, IsLeftSide}
 use Rattle.aig_base.specs.Sound.{IsSound}
 use Rattle.aig_base.specs.state.Walk.{Meets}
 use Rattle.aig_base.proofs.circuits.Defined.{Grounded-of_defined}
-use Rattle.aig_base.proofs.circuits.Gates.{defined_in_range, sides_in_range, IsGate-of_gate, gate_of, same_gate, source-gate}
+use Rattle.aig_base.proofs.circuits.Gates.{defined_in_range, sides_in_range, IsGate-of_gate, gate_of, same_gate}
+use Rattle.aig_base.proofs.circuits.Gates.{source-gate}
 use Rattle.aig_base.proofs.lists.Positions.{unmap, unmap_option, no_element}
 
 -- what the walk from the variables a and b back over right sides meets, where it does not go on from t

@@ -1,5 +1,6 @@
 -- One more definition in the table.
-use Rattle.std.proofs.Common.{◌≡◌, ◌≢◌, ℕ, zero, suc, ◌+◌, ◌<◌, ◌⊎◌, inl, inr, min, List, [], ◌∷◌, ◌++◌, length, set, map, take}
+use Rattle.std.proofs.Common.{◌≡◌, ◌≢◌, ℕ, zero, suc, ◌+◌, ◌<◌, ◌⊎◌, inl, inr, min, List, [], ◌∷◌, ◌++◌, length, set}
+use Rattle.std.proofs.Common.{map, take}
 use Rattle.std.proofs.Common.{get_or, append_assoc, Option, Some, None, refl, sym, ap, subst, ◌∙◌, arith, slice_get}
 use Rattle.std.proofs.Common.{Contains}
 use Rattle.std.proofs.lemmas.List.{length-append, length-map, length-set, length-take-le, map-append, map_more}

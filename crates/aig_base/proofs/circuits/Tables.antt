@@ -14,7 +14,8 @@ use Rattle.aig_base.specs.Sound.{IsSound, IsInRange}
 use Rattle.aig_base.proofs.lists.Gets.{slice_get_left, slice_get_right}
 use Rattle.aig_base.proofs.lists.Joined.{All-left}
 use Rattle.aig_base.proofs.checks.Marking.{slice_get_unmap}
-use Rattle.aig_base.proofs.circuits.InOrder.{free_past_all, free_zero, gate_defines, input_defines, latch_defines, size_is}
+use Rattle.aig_base.proofs.circuits.InOrder.{free_past_all, free_zero, gate_defines, input_defines, latch_defines}
+use Rattle.aig_base.proofs.circuits.InOrder.{size_is}
 use Rattle.aig_base.specs.Definition.{Defines, IsFree, IsInOrder}
 use Rattle.aig_base.specs.state.Definitions.{HasNumber, IsNoNumber, IsNumberOf, IsDefinitionTable}
 

@@ -11,10 +11,13 @@ use Rattle.aig_base.specs.Readers.{GateList}
 use Rattle.aig_base.specs.state.FanOuts.{AreFanOuts, AreTidy}
 use Rattle.aig_base.specs.state.GateLists.{GetsRoom}
 use Rattle.aig_base.specs.state.ListPlaces.{short, StandsAt, HasPlace, HasListPlaces, AreKept, Extends}
-use Rattle.aig_base.specs.state.ListPlaces.{RenewsPlace, WritesPlaces, Stays, Shifts, StaysOrShifts, StandsNew, TakesFrom}
-use Rattle.aig_base.specs.state.ReaderSlots.{capacity_at, items_at, no_list, with_items_at, tally, FitsOneReader, KeepsLists, Loses}
+use Rattle.aig_base.specs.state.ListPlaces.{RenewsPlace, WritesPlaces, Stays, Shifts, StaysOrShifts, StandsNew}
+use Rattle.aig_base.specs.state.ListPlaces.{TakesFrom}
+use Rattle.aig_base.specs.state.ReaderSlots.{capacity_at, items_at, no_list, with_items_at, tally, FitsOneReader}
+use Rattle.aig_base.specs.state.ReaderSlots.{KeepsLists, Loses}
 use Rattle.aig_base.proofs.lists.Gets.{slice_get-set_same, slice_get-set_other, slice_get_push}
-use Rattle.aig_base.proofs.fan_outs.ReaderLists.{Contains-of_count, count-of_get, count-cons, gets_keeps, here_is, kept_items, loses_none}
+use Rattle.aig_base.proofs.fan_outs.ReaderLists.{Contains-of_count, count-of_get, count-cons, gets_keeps, here_is}
+use Rattle.aig_base.proofs.fan_outs.ReaderLists.{kept_items, loses_none}
 use Rattle.aig_base.proofs.fan_outs.ReaderLists.{one_same, other_is}
 
 get_taken : (xs : List ℕ) (n i x : ℕ) → slice_get (take n xs) i ≡ Some x → slice_get xs i ≡ Some x

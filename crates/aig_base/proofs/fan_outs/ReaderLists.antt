@@ -1,6 +1,7 @@
 -- The lists of readers: what taking out, adding and making room do to how often a gate stands in a list.
 use Rattle.std.proofs.Common.{◌≡◌, ◌≢◌, ◌⊎◌, ◌↔◌, inl, inr, ℕ, zero, suc, ◌+◌, ◌-◌, ◌<◌, ◌≤◌, List, [], ◌∷◌, ◌++◌}
-use Rattle.std.proofs.Common.{length, map, get_or, set, true, cond, nat_eq, nat_lt, count_by, Contains, slice_get, Some, Result}
+use Rattle.std.proofs.Common.{length, map, get_or, set, true, cond, nat_eq, nat_lt, count_by, Contains, slice_get, Some}
+use Rattle.std.proofs.Common.{Result}
 use Rattle.std.proofs.Common.{Ok, Err, OnErr, OnOk, refl, sym, ◌∙◌, ap, subst, arith, swap_remove, get_or-set_other}
 use Rattle.std.proofs.Common.{get_or-set_same, length-set}
 use Rattle.std.proofs.lemmas.Bool.{cases_eq, eq-eqb, ne_eqb}
@@ -19,11 +20,13 @@ use Rattle.aig_base.proofs.circuits.Gates.{same_gate}
 use Rattle.aig_base.proofs.circuits.Places.{gate}
 use Rattle.aig_base.proofs.circuits.Roles.{one_place}
 use Rattle.aig_base.proofs.checks.Walks.{gate_new, gate_old, kept, rewired_other, rewired_same}
-use Rattle.aig_base.specs.Readers.{AreReaders, GateList, HasReaderRoom, KeepsReaders, ReaderLists, ReadsVariable, reader_lists, list_of}
+use Rattle.aig_base.specs.Readers.{AreReaders, GateList, HasReaderRoom, KeepsReaders, ReaderLists, ReadsVariable}
+use Rattle.aig_base.specs.Readers.{reader_lists, list_of}
 use Rattle.aig_base.specs.declared.readers.list_places.Places.{Places}
 use Rattle.aig_base.specs.state.GateLists.{GetsRoom}
 use Rattle.aig_base.specs.state.ListPlaces.{TakesFrom}
-use Rattle.aig_base.specs.state.ReaderSlots.{capacity_at, items_at, no_list, with_items_at, tally, FitsOneReader, HasRoom, Loses, TakesOut}
+use Rattle.aig_base.specs.state.ReaderSlots.{capacity_at, items_at, no_list, with_items_at, tally, FitsOneReader}
+use Rattle.aig_base.specs.state.ReaderSlots.{HasRoom, Loses, TakesOut}
 use Rattle.aig_base.specs.state.ReaderSlots.{AddsReader, AddsBoth, MovesReader, KeepsLists, AreTallied, ReadsBefore}
 
 abbrev one : ℕ → ℕ → ℕ

@@ -1,6 +1,8 @@
 -- Positions in lists.
-use Rattle.std.proofs.Common.{◌≡◌, ◌⊎◌, inl, inr, ℕ, zero, suc, ◌+◌, ◌<◌, List, [], ◌∷◌, ◌++◌, length, map, Option, Some}
-use Rattle.std.proofs.Common.{None, get_or, slice_get, Contains, refl, sym, ◌∙◌, ap, arith, option_map, zero-add, suc-add}
+use Rattle.std.proofs.Common.{◌≡◌, ◌⊎◌, inl, inr, ℕ, zero, suc, ◌+◌, ◌<◌, List, [], ◌∷◌, ◌++◌, length, map, Option}
+use Rattle.std.proofs.Common.{Some}
+use Rattle.std.proofs.Common.{None, get_or, slice_get, Contains, refl, sym, ◌∙◌, ap, arith, option_map, zero-add}
+use Rattle.std.proofs.Common.{suc-add}
 use Rattle.std.proofs.lemmas.Option.{slice_get-map, slice_get_within, get_or_from_slice_get, slice_get-get_or}
 
 pub no_element : (v : ℕ) → Contains {X = ℕ} [] v → ⊥

@@ -16,7 +16,8 @@ use Rattle.aig_parts.specs.Literal.{variable, with_sign}
 use Rattle.aig_base.specs.Order.{IsCanonicalOrder}
 use Rattle.aig_base.specs.Renumbered.{gate_of, ordered_gates, renumbered, renumbered_gate, renumbered_latch}
 use Rattle.aig_base.specs.Renumbered.{renumbered_literal, renumbered_variable, role_variable}
-use Rattle.aig_base.specs.RenumberingTable.{IsRenumbering, IsInTable, IsLatchListed, IsGateListed, HasAllEntries, literal_by}
+use Rattle.aig_base.specs.RenumberingTable.{IsRenumbering, IsInTable, IsLatchListed, IsGateListed, HasAllEntries}
+use Rattle.aig_base.specs.RenumberingTable.{literal_by}
 use Rattle.aig_base.specs.RenumberingTable.{latch_by, gate_by, renumbered_by}
 use Rattle.aig_base.specs.Role.{place_of, first_role}
 use Rattle.aig_base.specs.Sections.{definitions, uses}

@@ -26,7 +26,8 @@ use Rattle.aig_base.proofs.lists.Evens.{joined, length-evens_from, get_or-evens_
 use Rattle.aig_base.proofs.levels.OneLevel.{level_of, same_level}
 use Rattle.aig_base.proofs.circuits.Places.{Place, IsSection, input, latch, gate, At, IsDefinition-of_place}
 use Rattle.aig_base.proofs.renumbered.RenumberedParts.{length-ordered, ordered_at}
-use Rattle.aig_base.proofs.renumbered.Renumberings.{gate_at, place_in, input_variable, latch_renumbered, gate_renumbered}
+use Rattle.aig_base.proofs.renumbered.Renumberings.{gate_at, place_in, input_variable, latch_renumbered}
+use Rattle.aig_base.proofs.renumbered.Renumberings.{gate_renumbered}
 use Rattle.aig_base.proofs.circuits.Roles.{only_place, role_constant}
 
 -- a definition's literal is even in the renumbered circuit

@@ -28,8 +28,10 @@ use Rattle.aig_base.proofs.rewires.FanOutLemmas.{acyclic_from_before, changed_le
 use Rattle.aig_base.proofs.circuits.Defined.{Grounded-of_defined}
 use Rattle.aig_base.proofs.circuits.Gates.{IsGate-of_gate, gate_in_range, sides_in_range}
 use Rattle.aig_base.proofs.levels.LevelBound.{level_bound}
-use Rattle.aig_base.proofs.rewires.LevelSteps.{IsDone, among_step, capacity_step, cell_here, cell_other, cell_size, done_cases}
-use Rattle.aig_base.proofs.rewires.LevelSteps.{done_step, entry_from_queued, left_step, list_queued, newly_queued, once_step}
+use Rattle.aig_base.proofs.rewires.LevelSteps.{IsDone, among_step, capacity_step, cell_here, cell_other, cell_size}
+use Rattle.aig_base.proofs.rewires.LevelSteps.{done_cases}
+use Rattle.aig_base.proofs.rewires.LevelSteps.{done_step, entry_from_queued, left_step, list_queued, newly_queued}
+use Rattle.aig_base.proofs.rewires.LevelSteps.{once_step}
 use Rattle.aig_base.proofs.rewires.LevelSteps.{queued_cases, queued_from_entry, stays_queued, visited_step}
 use Rattle.aig_base.proofs.fan_outs.ListedReaders.{reads}
 use Rattle.aig_base.proofs.levels.OneLevel.{level_of, same_level}

@@ -20,7 +20,8 @@ use Rattle.aig_base.specs.Grounded as grounded
 use Rattle.aig_base.specs.Grounded.{IsSource, Grounded, Level}
 use Rattle.aig_base.specs.Levels.{AreLevels}
 use Rattle.aig_base.specs.Sections.{IsDefined}
-use Rattle.aig_base.specs.Selected.{properties_in, kind_of, bad_in, outputs_in, with_properties, places_from, moved, kept_entries, kept_symbols, selected_at, selected, AreProperties}
+use Rattle.aig_base.specs.Selected.{properties_in, kind_of, bad_in, outputs_in, with_properties, places_from, moved}
+use Rattle.aig_base.specs.Selected.{kept_entries, kept_symbols, selected_at, selected, AreProperties}
 use Rattle.aig_base.specs.Sound.{IsInRange, IsSound}
 use Rattle.aig_base.proofs.checks.Faults.{in_range_joined, in_range_parted, uses_joined, uses_parted}
 use Rattle.aig_base.proofs.rewires.Rewiring.{in_range_from_defined}

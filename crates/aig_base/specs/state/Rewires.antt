@@ -1,5 +1,6 @@
 -- Levels that are renewed in place where a gate gets other right sides: the search for a cycle, and the pass over the
 -- fan-out of the gate, in the order of the old levels.
+-- Example: in `examples/two_gates.aag` the fan-out of variable 3 is 3 and 4.
 use Rattle.std.specs.Prelude.{◌≡◌, ◌≢◌, ◌⊎◌, ℕ, ◌+◌, ◌<◌, ◌≤◌, List, false, not, length, count_by, Some, Contains}
 use Rattle.std.specs.Prelude.{slice_get, slice_set, slice_index, slice_index_or, if◌then◌else◌}
 use Rattle.aig_parts.specs.declared.gate.Gate.{Gate}
@@ -70,7 +71,8 @@ pub record Renewing (raw : Raw) (lhs r0 r1 : ℕ) (old row : List ℕ) (queued d
   pub others : (q : ℕ) (g : Gate) → slice_get raw.gates q ≡ Some g → variable g.lhs ≢ variable lhs
       → (done (variable g.lhs) → ⊥) → slice_get row (variable g.lhs) ≡ slice_get old (variable g.lhs)
   pub linked : (q : ℕ) (g : Gate) (u : ℕ) → slice_get raw.gates q ≡ Some g → variable g.lhs ≢ variable lhs → IsSide g u
-      → (u ≡ variable lhs) ⊎ done u → slice_get row u ≢ slice_get old u → queued (variable g.lhs) ⊎ done (variable g.lhs)
+      → (u ≡ variable lhs) ⊎ done u → slice_get row u ≢ slice_get old u → queued (variable g.lhs)
+      ⊎ done (variable g.lhs)
   pub touched : (v : ℕ) → queued v ⊎ done v → NeedsLevel raw (variable lhs) old row done v
   pub fresh : (v : ℕ) → queued v → done v → ⊥
   pub over : (v m k : ℕ) → queued v → Level raw v m → Level raw (variable lhs) k → k < m

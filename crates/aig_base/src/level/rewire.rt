@@ -19,8 +19,8 @@ impl Levels {
     /// Makes these the levels of the circuit with other right sides at a gate, and refuses that where it would close a
     /// cycle. `circuit` is the circuit before that, with its levels and readers; `gate` is the gate's even literal, and
     /// the right sides are defined. It looks at the fan-out of `gate` alone: for a cycle only at gates whose level is
-    /// below that of a new right side, and then at those that read a level that changed. It makes the same changes to `copy`.
-    /// No memory.
+    /// below that of a new right side, and then at those that read a level that changed. It makes the same changes to
+    /// `copy`. No memory.
     pub fn rewire<C: LevelCopy>(
         &mut self,
         circuit: &Circuit,

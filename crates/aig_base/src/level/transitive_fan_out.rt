@@ -55,7 +55,8 @@ fn search(
     requires levels { AreLevels circuit.now levels.now }
     requires readers { AreReaders circuit.now readers.now }
     requires visits { AreNoVisits (length levels.now) visits.old }
-    ensures found { OnTrue result (IsInFanOut circuit.now gate sought.first ⊎ IsInFanOut circuit.now gate sought.second) }
+    ensures found { OnTrue result (IsInFanOut circuit.now gate sought.first
+        ⊎ IsInFanOut circuit.now gate sought.second) }
     ensures none { OnFalse result
         (IsApart circuit.now gate sought.bound sought.first × IsApart circuit.now gate sought.bound sought.second) }
     ensures visits { AreVisits visits.new }

@@ -41,7 +41,8 @@ impl Model for FanOuts {
 // Takes a gate out of the list of a variable, if it is there, in constant time; the last gate moves to its place.
 fn take_out_of(lists: &mut GateLists, places: &mut [Places], variable: u32, gate: u32)
     requires within { variable < length lists.old.slots }
-    requires kept { (i w : ℕ) → short ≤ i → slice_get (items_at lists.old.slots variable) i ≡ Some w → HasPlace places.old w i }
+    requires kept { (i w : ℕ) → short ≤ i → slice_get (items_at lists.old.slots variable) i ≡ Some w
+        → HasPlace places.old w i }
     requires narrow { length (items_at lists.old.slots variable) < 2 ^ 32 }
     ensures takes { TakesFrom variable gate lists.old.slots lists.new.slots places.old places.new }
     ensures fitting { lists.new.fitting ≡ lists.old.fitting }
@@ -138,7 +139,8 @@ impl FanOuts {
         requires room1 { FitsOneReader self.old.slots second }
         requires elsewhere { (v : ℕ) → v ≢ variable before.now.rhs0 → v ≢ variable before.now.rhs1
             → tally self.old.slots v (variable before.now.lhs) ≡ 0 }
-        ensures { MovesReader (variable before.now.rhs0) (variable before.now.rhs1) first second (variable before.now.lhs)
+        ensures { MovesReader (variable before.now.rhs0) (variable before.now.rhs1) first second
+            (variable before.now.lhs)
             self.old.slots self.new.slots }
     {
         let number = before.lhs.var();

@@ -19,7 +19,8 @@ pub fn law_of_renumbering()
     ensures values { (raw : Raw) (order : List ℕ) (start : List Tern) (rows : List (List Tern)) →
         IsSound raw → IsCanonicalOrder raw order → RenumberingKeepsValues raw order start rows }
     ensures no_other { (raw : Raw) (order : List ℕ) (start : List Tern) (rows : List (List Tern)) →
-        IsCircuit raw → IsCanonicalOrder raw order → Fits raw start rows → RenumberingAddsNoValues raw order start rows }
+        IsCircuit raw → IsCanonicalOrder raw order → Fits raw start rows
+        → RenumberingAddsNoValues raw order start rows }
     ensures start { (raw : Raw) (order : List ℕ) →
         IsCircuit raw → IsCanonicalOrder raw order → start_of (renumbered raw order) ≡ start_of raw }
 {}

@@ -1,7 +1,8 @@
 //! The parts of a circuit by a table of variables.
 ghost use Rattle.std.specs.Prelude.{◌≡◌, ◌≤◌, map, All, IfOk};
 ghost use Rattle.aig_parts.specs.Formed.{limit};
-ghost use Rattle.aig_base.specs.RenumberingTable.{literal_by, latch_by, gate_by, IsInTable, IsLatchListed, IsGateListed};
+ghost use Rattle.aig_base.specs.RenumberingTable.{literal_by, latch_by, gate_by, IsInTable, IsLatchListed};
+ghost use Rattle.aig_base.specs.RenumberingTable.{IsGateListed};
 
 use crate::circuit::Circuit;
 use aig_bytes::Memory;

@@ -1,5 +1,7 @@
 -- Lists of latches: one chain of all that is marked.
-use Rattle.std.proofs.Common.{◌≡◌, ◌≢◌, ◌⊎◌, ◌↔◌, inl, inr, ℕ, zero, suc, ◌+◌, ◌<◌, Bool, true, false, List, [], ◌∷◌, length, replicate, set, get_or, Some, slice_get, nat_eq, refl, sym, ap, ◌∙◌, arith, IsTrue}
+use Rattle.std.proofs.Common.{◌≡◌, ◌≢◌, ◌⊎◌, ◌↔◌, inl, inr, ℕ, zero, suc, ◌+◌, ◌<◌, Bool, true, false, List, [], ◌∷◌}
+use Rattle.std.proofs.Common.{length, replicate, set, get_or, Some, slice_get, nat_eq, refl, sym, ap, ◌∙◌, arith}
+use Rattle.std.proofs.Common.{IsTrue}
 use Rattle.std.proofs.lemmas.Bool.{false≢true}
 use Rattle.std.proofs.lemmas.Bool.Decides.{eqb_tells}
 use Rattle.std.proofs.lemmas.List.{length-replicate}
@@ -9,7 +11,8 @@ use Rattle.aig_bench.specs.declared.propagate.latch_list.LatchList.{LatchList}
 use Rattle.aig_bench.specs.state.Buckets.{AreChained}
 use Rattle.aig_bench.specs.state.Latches.{IsLatchList, IsInLatchList}
 use Rattle.aig_bench.specs.state.Sweep.{queued_count}
-use Rattle.aig_bench.proofs.queues.Chained.{linked, linked_queued, none_of_level, first_queued, first_inside, first_inside_marks, taken_queued, taken, none_marked}
+use Rattle.aig_bench.proofs.queues.Chained.{linked, linked_queued, none_of_level, first_queued, first_inside}
+use Rattle.aig_bench.proofs.queues.Chained.{first_inside_marks, taken_queued, taken, none_marked}
 use Rattle.aig_bench.proofs.queues.Queued.{queued_count_less}
 
 zero_at : (n v : ℕ) → v < n → slice_get {X = ℕ} (replicate n 0) v ≡ Some 0

@@ -1,5 +1,6 @@
 -- Latches that are carried from a frame into the next one.
-use Rattle.std.proofs.Common.{◌≡◌, ◌≢◌, ◌⊎◌, inl, inr, ℕ, suc, Bool, List, Option, Some, None, slice_get, slice_set, get_or, unwrap_or, refl, sym, ap, ◌∙◌, subst}
+use Rattle.std.proofs.Common.{◌≡◌, ◌≢◌, ◌⊎◌, inl, inr, ℕ, suc, Bool, List, Option, Some, None, slice_get, slice_set}
+use Rattle.std.proofs.Common.{get_or, unwrap_or, refl, sym, ap, ◌∙◌, subst}
 use Rattle.std.proofs.lemmas.Bool.{cases_eq}
 use Rattle.std.proofs.lemmas.Option.{slice_get_within, unwrap_or-slice_get}
 use Rattle.aig_parts.specs.declared.latch.Latch.{Latch}

@@ -1,5 +1,6 @@
 -- What the definition of a variable says of it.
-use Rattle.std.proofs.Common.{◌≢◌, inl, inr, ℕ, suc, map, Option, Some, None, is_some, IsTrue, IfSome, IfNone, ◌↔◌, Contains, refl, subst, arith}
+use Rattle.std.proofs.Common.{◌≢◌, inl, inr, ℕ, suc, map, Option, Some, None, is_some, IsTrue, IfSome, IfNone, ◌↔◌}
+use Rattle.std.proofs.Common.{Contains, refl, subst, arith}
 use Rattle.std.proofs.lemmas.Bool.{false≢true}
 use Rattle.aig_parts.specs.declared.raw.Raw.{Raw}
 use Rattle.aig_base.specs.declared.circuit.definition.Definition.{Definition}

@@ -5,7 +5,8 @@ use Rattle.aig_parts.specs.declared.raw.Raw.{Raw}
 use Rattle.aig_base.specs.Grounded.{IsSource}
 use Rattle.aig_parts.specs.Literal.{variable}
 use Rattle.aig_base.specs.Sound.{IsSound}
-use Rattle.aig_base.proofs.circuits.Circuits.{gate_definition, gate_in_range, gate_is, rhs0_in_range, rhs1_in_range, source-gate}
+use Rattle.aig_base.proofs.circuits.Circuits.{gate_definition, gate_in_range, gate_is, rhs0_in_range, rhs1_in_range}
+use Rattle.aig_base.proofs.circuits.Circuits.{source-gate}
 use Rattle.aig_values.specs.Cells.{HasCells}
 use Rattle.aig_bench.specs.state.Current.{AreGateFlags}
 

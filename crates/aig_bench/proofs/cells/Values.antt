@@ -1,5 +1,6 @@
 -- The rules of values, for the cells of a row of a pair.
-use Rattle.std.proofs.Common.{◌≡◌, ℕ, suc, ◌*◌, ◌<◌, List, length, Some, slice_get, slice_set, refl, ap, ◌∙◌, option_map}
+use Rattle.std.proofs.Common.{◌≡◌, ℕ, suc, ◌*◌, ◌<◌, List, length, Some, slice_get, slice_set, refl, ap, ◌∙◌}
+use Rattle.std.proofs.Common.{option_map}
 use Rattle.std.proofs.lemmas.Option.{slice_get-map, slice_get-get_or}
 use Rattle.aig_parts.specs.declared.ternary.Tern.{Tern}
 use Rattle.aig_parts.specs.declared.ternary.Tern.TheVariants.{Zero}
@@ -15,7 +16,8 @@ use Rattle.aig_values.specs.Cells.{literal_value, gate_value}
 use Rattle.aig_values.specs.InputRows.{row_at}
 use Rattle.aig_values.proofs.Evaluation as cells
 use Rattle.aig_bench.specs.BenchState.{CircuitAndRows, HasValue}
-use Rattle.aig_bench.specs.state.Current.{HoldsInPair, HoldsInputsInPair, HoldsLatchesInPair, HoldsSourcesInPair, IsCurrentRow}
+use Rattle.aig_bench.specs.state.Current.{HoldsInPair, HoldsInputsInPair, HoldsLatchesInPair, HoldsSourcesInPair}
+use Rattle.aig_bench.specs.state.Current.{IsCurrentRow}
 
 module _ (p : CircuitAndRows) (t : ℕ) where
   pub input_value : (i l : ℕ) (w : Tern) → IsSound p.circuit → t < length p.rows

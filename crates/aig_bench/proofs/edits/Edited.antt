@@ -1,5 +1,7 @@
 -- From the cells of a bench before an edit to those after it.
-use Rattle.std.proofs.Common.{◌≡◌, ◌≢◌, ◌⊎◌, ◌↔◌, inl, inr, ℕ, zero, suc, ◌+◌, ◌-◌, ◌*◌, ◌<◌, ◌≤◌, Bool, true, false, nat_eq, get_or, List, [], ◌∷◌, ◌++◌, map, length, take, Some, slice_get, slice_set, Contains, refl, sym, ap, ◌∙◌, subst, arith, length-append, length-take}
+use Rattle.std.proofs.Common.{◌≡◌, ◌≢◌, ◌⊎◌, ◌↔◌, inl, inr, ℕ, zero, suc, ◌+◌, ◌-◌, ◌*◌, ◌<◌, ◌≤◌, Bool, true, false}
+use Rattle.std.proofs.Common.{nat_eq, get_or, List, [], ◌∷◌, ◌++◌, map, length, take, Some, slice_get, slice_set}
+use Rattle.std.proofs.Common.{Contains, refl, sym, ap, ◌∙◌, subst, arith, length-append, length-take}
 use Rattle.std.proofs.lemmas.Bool.{cases_eq, eqb-true}
 use Rattle.std.proofs.lemmas.Bool.Decides.{eqb_tells}
 use Rattle.std.proofs.lemmas.List.{length-map}
@@ -29,7 +31,8 @@ use Rattle.aig_bench.specs.declared.engine.driven_circuit.DrivenCircuit.{DrivenC
 use Rattle.aig_bench.specs.declared.engine.fanouts.Fanouts.{Fanouts}
 use Rattle.aig_bench.specs.state.Buckets.{AreBuckets, IsBucketChain, HasChain, IsQueued, without_levels}
 use Rattle.aig_values.specs.Cells.{literal_value}
-use Rattle.aig_bench.specs.state.Current.{IsLaidOut, HoldsInPair, HoldsLatchesInPair, IsCurrentRow, IsCurrentBefore, AreCurrent, IsBench}
+use Rattle.aig_bench.specs.state.Current.{IsLaidOut, HoldsInPair, HoldsLatchesInPair, IsCurrentRow, IsCurrentBefore}
+use Rattle.aig_bench.specs.state.Current.{AreCurrent, IsBench}
 use Rattle.aig_bench.specs.Edit.{Edit, edited, set_bit, rewire, set_reset, add_frame, drop_frame}
 use Rattle.aig_bench.specs.declared.propagate.pending.Pending.{Pending}
 use Rattle.aig_bench.specs.state.Latches.{AreLatchReaders, IsLatchAt}

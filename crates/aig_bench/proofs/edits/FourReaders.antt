@@ -1,5 +1,6 @@
 -- Variables that at least four gates read.
-use Rattle.std.proofs.Common.{◌≡◌, ◌⊎◌, inl, inr, ℕ, ◌≤◌, List, [], ◌∷◌, length, nat_eq, count_by, Result, Ok, Err, IfErr, IsErrAnd, sym, subst, arith}
+use Rattle.std.proofs.Common.{◌≡◌, ◌⊎◌, inl, inr, ℕ, ◌≤◌, List, [], ◌∷◌, length, nat_eq, count_by, Result, Ok, Err}
+use Rattle.std.proofs.Common.{IfErr, IsErrAnd, sym, subst, arith}
 use Rattle.aig_parts.specs.declared.raw.Raw.{Raw}
 use Rattle.aig_base.specs.Readers.{AreReaders, ReaderLists, list_of}
 use Rattle.aig_base.proofs.fan_outs.ReaderLists.{count-cons, count-of_Contains, one_same}

@@ -1,5 +1,6 @@
 -- Whether a literal names a gate or a latch, by what defines its variable.
-use Rattle.std.proofs.Common.{◌≡◌, ◌≢◌, ◌↔◌, ℕ, nat_eq, false, IsTrue, IfSome, IfNone, Option, Some, List, get_or, slice_get, refl, sym, ap, ◌∙◌, subst, option_map}
+use Rattle.std.proofs.Common.{◌≡◌, ◌≢◌, ◌↔◌, ℕ, nat_eq, false, IsTrue, IfSome, IfNone, Option, Some, List, get_or}
+use Rattle.std.proofs.Common.{slice_get, refl, sym, ap, ◌∙◌, subst, option_map}
 use Rattle.std.proofs.lemmas.Bool.{false≢true, eqb-true}
 use Rattle.std.proofs.lemmas.Bool.Decides.{Decides-eqb}
 use Rattle.std.proofs.lemmas.Option.{slice_get-map, same_Some, get_or_from_slice_get}

@@ -1,5 +1,6 @@
 -- Which fault of a question or an edit applies first.
-use Rattle.std.proofs.Common.{◌≡◌, ◌≢◌, ◌⊎◌, inl, inr, ℕ, ◌<◌, ◌≤◌, length, Result, Ok, Err, IsErrAnd, refl, sym, subst, arith}
+use Rattle.std.proofs.Common.{◌≡◌, ◌≢◌, ◌⊎◌, inl, inr, ℕ, ◌<◌, ◌≤◌, length, Result, Ok, Err, IsErrAnd, refl, sym, subst}
+use Rattle.std.proofs.Common.{arith}
 use Rattle.aig_parts.specs.declared.ternary.Tern.{Tern}
 use Rattle.aig_base.specs.Changes.{with_gate}
 use Rattle.aig_base.specs.Grounded.{IsAcyclic}
@@ -9,7 +10,8 @@ use Rattle.aig_base.specs.Sound.{IsInRange}
 use Rattle.aig_bench.specs.declared.edit.EditFault.{EditFault}
 use Rattle.aig_bench.specs.declared.edit.EditFault.TheVariants as fault
 use Rattle.aig_bench.specs.BenchState.{CircuitAndRows}
-use Rattle.aig_bench.specs.Edit.{Edit, Edits, rewire, set_reset, edit_fault_number, Forbids, NoneApplies, IsLeastFault, LacksMemory}
+use Rattle.aig_bench.specs.Edit.{Edit, Edits, rewire, set_reset, edit_fault_number, Forbids, NoneApplies, IsLeastFault}
+use Rattle.aig_bench.specs.Edit.{LacksMemory}
 use Rattle.aig_bench.specs.Question.{ForbidsValue}
 
 module _ (p : CircuitAndRows) (t l : ℕ) where

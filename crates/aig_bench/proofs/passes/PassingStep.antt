@@ -1,5 +1,7 @@
--- One evaluation of a pass: a waiting gate of the lowest level becomes the value, and where that differs its readers wait.
-use Rattle.std.proofs.Common.{◌≡◌, ◌≢◌, ◌⊎◌, inl, inr, ℕ, ◌*◌, ◌<◌, ◌≤◌, Bool, true, List, length, Some, slice_get, slice_set, sym, ap, ◌∙◌, subst, arith}
+-- One evaluation of a pass: a waiting gate of the lowest level becomes the value, and where that differs its readers
+-- wait.
+use Rattle.std.proofs.Common.{◌≡◌, ◌≢◌, ◌⊎◌, inl, inr, ℕ, ◌*◌, ◌<◌, ◌≤◌, Bool, true, List, length, Some, slice_get}
+use Rattle.std.proofs.Common.{slice_set, sym, ap, ◌∙◌, subst, arith}
 use Rattle.std.proofs.lemmas.Bool.{cases_eq}
 use Rattle.aig_parts.specs.declared.ternary.Tern.{Tern}
 use Rattle.aig_parts.specs.declared.gate.Gate.{Gate}

@@ -1,5 +1,6 @@
 -- One more frame is renewed: gates are forced, and a pass goes over it.
-use Rattle.std.proofs.Common.{◌≡◌, ◌≢◌, ◌↔◌, ◌⊎◌, ◌∙◌, inr, ℕ, suc, ◌+◌, ◌<◌, ◌≤◌, Bool, List, [], ◌∷◌, Some, slice_get, length, Contains, refl, sym, ap, subst, arith}
+use Rattle.std.proofs.Common.{◌≡◌, ◌≢◌, ◌↔◌, ◌⊎◌, ◌∙◌, inr, ℕ, suc, ◌+◌, ◌<◌, ◌≤◌, Bool, List, [], ◌∷◌, Some, slice_get}
+use Rattle.std.proofs.Common.{length, Contains, refl, sym, ap, subst, arith}
 use Rattle.aig_parts.specs.declared.ternary.Tern.{Tern}
 use Rattle.aig_parts.specs.Literal.{variable}
 use Rattle.aig_base.specs.state.Marks.{IsMarked}

@@ -1,5 +1,7 @@
 -- Gates that wait, in a chain for each level (our own choice).
-use Rattle.std.specs.Prelude.{◌≡◌, ◌≢◌, ◌⊎◌, ◌↔◌, ℕ, ◌+◌, ◌*◌, ◌<◌, ◌≤◌, Bool, IsTrue, List, [], ◌∷◌, length, slice_get, slice_index, Contains, Option, Some, None, IfSome, IfNone}
+-- Example: an empty queue: the row is current, and what was evaluated is what was touched.
+use Rattle.std.specs.Prelude.{◌≡◌, ◌≢◌, ◌⊎◌, ◌↔◌, ℕ, ◌+◌, ◌*◌, ◌<◌, ◌≤◌, Bool, IsTrue, List, [], ◌∷◌, length, slice_get}
+use Rattle.std.specs.Prelude.{slice_index, Contains, Option, Some, None, IfSome, IfNone}
 use Rattle.std.specs.Vec.{vec_capacity}
 use Rattle.aig_base.specs.state.Marks.{IsMarked}
 use Rattle.aig_parts.specs.declared.gate.Gate.{Gate}

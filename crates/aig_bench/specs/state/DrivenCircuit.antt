@@ -1,4 +1,5 @@
 -- What a bench simulates: a circuit and the stimulus that drives it (our own choice).
+-- Example: a frame's cell of variable 4 is the value of literal 8.
 use Rattle.std.specs.Prelude.{◌≡◌, ◌+◌, ◌*◌, ◌≤◌, length}
 use Rattle.aig_base.specs.Circuit.{IsCircuit}
 use Rattle.aig_parts.specs.Limits.{cell_limit, frame_limit}

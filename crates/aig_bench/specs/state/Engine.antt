@@ -35,7 +35,8 @@ pub record IsSettled (s : EngineState) : Type 0 where
   pub current : AreCurrent s.pair (length s.pair.rows) s.cells
   pub idle : IsIdle s.queued s.here s.ahead
 
--- only the row of this frame changed, by so many evaluations, and each latch that follows a changed cell is carried ahead
+-- only the row of this frame changed, by so many evaluations, and each latch that follows a changed cell is carried
+-- ahead
 pub record ChangesRow (t n : ℕ) (old new : EngineState) : Type 0 where
   pub pair : new.pair ≡ old.pair
   pub levels : new.levels ≡ old.levels

@@ -1,5 +1,7 @@
 -- Which latches read a variable, and lists of latches. A latch's number is one more than its position (our own choice).
-use Rattle.std.specs.Prelude.{◌≡◌, ◌≢◌, ◌⊎◌, ◌↔◌, ℕ, suc, ◌+◌, ◌<◌, ◌≤◌, Bool, List, [], ◌∷◌, length, replicate, Some, slice_get}
+-- Example: a latch whose next literal is 5 is listed where the cell of variable 2 changed.
+use Rattle.std.specs.Prelude.{◌≡◌, ◌≢◌, ◌⊎◌, ◌↔◌, ℕ, suc, ◌+◌, ◌<◌, ◌≤◌, Bool, List, [], ◌∷◌, length, replicate, Some}
+use Rattle.std.specs.Prelude.{slice_get}
 use Rattle.aig_parts.specs.declared.latch.Latch.{Latch}
 use Rattle.aig_parts.specs.declared.raw.Raw.{Raw}
 use Rattle.aig_parts.specs.declared.ternary.Tern.{Tern}
@@ -29,7 +31,8 @@ pub record AreLatchReaders (raw : Raw) (readers : LatchReaders) : Type 0 where
   pub variables : length readers.last.items ≡ raw.max_var + 1
   pub latches : length readers.before.items ≡ length raw.latches + 1
   pub last : (v i : ℕ) → slice_get readers.last.items v ≡ Some i → IsLast raw v (length raw.latches) i
-  pub before : (p i : ℕ) (x : Latch) → slice_get raw.latches p ≡ Some x → slice_get readers.before.items (suc p) ≡ Some i
+  pub before : (p i : ℕ) (x : Latch) → slice_get raw.latches p ≡ Some x → slice_get readers.before.items (suc p)
+      ≡ Some i
       → IsLast raw (variable x.next) p i
   pub read : HaveBits readers.last.items readers.read.words.items
 
@@ -47,7 +50,8 @@ abbrev pub Lists : (ℕ → Type 0) → LatchList → LatchList → Type 0
 Lists P old new = (i : ℕ) → IsInLatchList new i ↔ (IsInLatchList old i ⊎ P i)
 
 -- what was in the list is in it, and so is each latch that follows a variable whose cell changed
-pub record QueuesNextLatches (raw : Raw) (row : List Tern) (marks : List Bool) (row' : List Tern) (marks' : List Bool) : Type 0 where
+pub record QueuesNextLatches (raw : Raw) (row : List Tern) (marks : List Bool) (row' : List Tern)
+    (marks' : List Bool) : Type 0 where
   pub kept : (i : ℕ) → IsMarked marks i → IsMarked marks' i
   pub changed : (i v : ℕ) → TakesNextFrom raw i v → slice_get row' v ≢ slice_get row v → IsMarked marks' i
 

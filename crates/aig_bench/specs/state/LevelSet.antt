@@ -1,4 +1,5 @@
 -- Sets of numbers by bits, 64 a word (our own choice).
+-- Example: in the words 34 and 1: the numbers 1, 5 and 64.
 use Rattle.std.specs.Prelude.{◌≡◌, ◌≢◌, ◌↔◌, ℕ, ◌+◌, ◌*◌, ◌/◌, ◌<◌, ◌≤◌, List, length, slice_index, Option, Some, None}
 use Rattle.std.specs.Int.{bit_at}
 use Rattle.aig_parts.specs.state.Bits.{HasBit}

@@ -1,4 +1,5 @@
--- A pass over one frame: some gates were evaluated, some wait, and the others have their cells of before (our own choice).
+-- A pass over one frame: some gates were evaluated, some wait, and the others have their cells of before (our own
+-- choice).
 use Rattle.std.specs.Prelude.{◌≡◌, ◌≢◌, ◌⊎◌, ℕ, ◌*◌, Bool, List, Some, slice_get}
 use Rattle.aig_parts.specs.declared.ternary.Tern.{Tern}
 use Rattle.aig_parts.specs.declared.gate.Gate.{Gate}
@@ -26,7 +27,8 @@ IsTouchedSoFar p t forced old done g =
     forced (variable g.lhs)
     ⊎ ((u : ℕ) × IsSide g u × (IsSource p.circuit u ⊎ IsMarked done u) × Differs p t old u)
 
-pub record Passing (p : CircuitAndRows) (t : ℕ) (forced : ℕ → Type 0) (old row : List Tern) (marks done : List Bool) : Type 0 where
+pub record Passing (p : CircuitAndRows) (t : ℕ) (forced : ℕ → Type 0) (old row : List Tern)
+    (marks done : List Bool) : Type 0 where
   pub sources : HoldsSourcesInPair p t row
   pub evaluated : (q : ℕ) (g : Gate) → slice_get p.circuit.gates q ≡ Some g → IsMarked done (variable g.lhs)
       → HoldsInPair p t row (variable g.lhs) × IsTouched p t forced old g

@@ -1,4 +1,5 @@
--- What a propagation works on besides the cells: gates that wait, and latches that are carried into a frame (our own choice).
+-- What a propagation works on besides the cells: gates that wait, and latches that are carried into a frame (our own
+-- choice).
 use Rattle.std.specs.Prelude.{◌≡◌, ℕ, Bool, List, length, Some, slice_get}
 use Rattle.aig_parts.specs.declared.latch.Latch.{Latch}
 use Rattle.aig_parts.specs.declared.raw.Raw.{Raw}
@@ -31,7 +32,8 @@ pub record HasLists (driven : DrivenCircuit) (fanouts : Fanouts) (pending : Pend
 
 -- what an engine keeps: a grid for its driven circuit, buckets in which gates alone wait, lists, and an order of its
 -- gates or none
-pub record IsEngine (driven : DrivenCircuit) (fanouts : Fanouts) (pending : Pending) (order : Order) (flags : List Bool) (cells : List (List Tern)) : Type 0 where
+pub record IsEngine (driven : DrivenCircuit) (fanouts : Fanouts) (pending : Pending) (order : Order) (flags : List Bool)
+    (cells : List (List Tern)) : Type 0 where
   pub work : IsWork driven fanouts flags cells pending.buckets
   pub lists : HasLists driven fanouts pending
   pub orders : Orders driven.circuit order
@@ -50,7 +52,8 @@ state_of driven fanouts pending order cells n = record {
 }
 
 -- what a bench keeps: the cells are the values of all frames, and there is nothing to be looked at
-pub record IsSettledBench (driven : DrivenCircuit) (fanouts : Fanouts) (pending : Pending) (flags : List Bool) (cells : List (List Tern)) : Type 0 where
+pub record IsSettledBench (driven : DrivenCircuit) (fanouts : Fanouts) (pending : Pending) (flags : List Bool)
+    (cells : List (List Tern)) : Type 0 where
   pub working : IsWorking driven fanouts pending.buckets flags cells
   pub lists : HasLists driven fanouts pending
   pub idle : IsIdle pending.buckets.marks.items pending.here.marks.items pending.ahead.marks.items

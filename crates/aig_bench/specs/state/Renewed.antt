@@ -27,13 +27,14 @@ IsTouchedCell p forced old t v =
 abbrev pub IsChangedCell : CircuitAndRows → List (List Tern) → ℕ → ℕ → Type 0
 IsChangedCell p old t v = IsGate p.circuit v × Differs p t (row_at old t) v
 
--- the cells are those of before an edit: from this frame on each follows from the others, but for those of gates that are
--- evaluated in any case
+-- the cells are those of before an edit: from this frame on each follows from the others, but for those of gates that
+-- are evaluated in any case
 pub record AreStaleFrom (p : CircuitAndRows) (cells : List (List Tern)) (forced : List ℕ) (first : ℕ) : Type 0 where
   pub first_is : first ≤ length p.rows
   pub before : IsCurrentBefore p first cells
   pub gates : (v : ℕ) → Contains forced v → IsGate p.circuit v
-  pub consistent : (t : ℕ) → first ≤ t → t < length p.rows → IsConsistent p (Contains forced) (row_at cells t) × HasOtherSources p t (row_at cells t) []
+  pub consistent : (t : ℕ) → first ≤ t → t < length p.rows → IsConsistent p (Contains forced) (row_at cells t)
+      × HasOtherSources p t (row_at cells t) []
   pub next : (t : ℕ) → first ≤ t → suc t < length p.rows → IsNextRow p.circuit (row_at cells t) (row_at cells (suc t))
 
 -- the same of an engine in which no gate waits: the latches that are not carried into the frame have their values there
@@ -48,13 +49,16 @@ pub record IsStaleFromBit (s : EngineState) (frame position : ℕ) : Type 0 wher
   pub idle : IsIdle s.queued s.here s.ahead
   pub before : IsCurrentBefore s.pair frame s.cells
   pub consistent : (t : ℕ) → frame ≤ t → t < length s.pair.rows → IsConsistent s.pair (Contains []) (row_at s.cells t)
-  pub here : (l : ℕ) → slice_get s.pair.circuit.inputs position ≡ Some l → HasOtherSources s.pair frame (row_at s.cells frame) (variable l ∷ [])
+  pub here : (l : ℕ) → slice_get s.pair.circuit.inputs position ≡ Some l
+      → HasOtherSources s.pair frame (row_at s.cells frame) (variable l ∷ [])
   pub stale : (t : ℕ) → frame < t → t < length s.pair.rows → HasOtherSources s.pair t (row_at s.cells t) []
   pub latches : HoldsLatchesInPair s.pair frame (row_at s.cells frame)
-  pub next : (t : ℕ) → frame ≤ t → suc t < length s.pair.rows → IsNextRow s.pair.circuit (row_at s.cells t) (row_at s.cells (suc t))
+  pub next : (t : ℕ) → frame ≤ t → suc t < length s.pair.rows
+      → IsNextRow s.pair.circuit (row_at s.cells t) (row_at s.cells (suc t))
 
 -- from the old cells on, the rows of these frames became current, and so many of their cells were touched and changed
-pub record Renewed (p : CircuitAndRows) (forced : List ℕ) (first end : ℕ) (old new : List (List Tern)) (evaluated changed : ℕ) : Type 0 where
+pub record Renewed (p : CircuitAndRows) (forced : List ℕ) (first end : ℕ) (old new : List (List Tern))
+    (evaluated changed : ℕ) : Type 0 where
   pub others : (t : ℕ) → (t < first) ⊎ (end ≤ t) → row_at new t ≡ row_at old t
   pub current : (t : ℕ) → IsBetween first end t → IsCurrentRow p t (row_at new t)
   pub touched : AreCells (λ t v. IsBetween first end t × IsTouchedCell p forced old t v) evaluated

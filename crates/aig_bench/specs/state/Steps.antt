@@ -29,7 +29,8 @@ pub record PutsSource (t v : ℕ) (old new : EngineState) : Type 0 where
 pub record PutsLatches (t : ℕ) (old new : EngineState) : Type 0 where
   pub row : ChangesRow t 0 old new
   pub none : IsClear new.here
-  pub carries : Carries old.pair t (λ i. IsMarked old.here (suc i)) (row_at old.cells t) old.queued (row_at new.cells t) new.queued
+  pub carries : Carries old.pair t (λ i. IsMarked old.here (suc i)) (row_at old.cells t) old.queued (row_at new.cells t)
+      new.queued
 
 -- the waiting gates from one level up to another were evaluated
 pub record SettlesLevels (t n m : ℕ) (old new : EngineState) (report : EditReport) : Type 0 where
@@ -54,6 +55,7 @@ pub record PassesOver (t : ℕ) (old new : EngineState) (report : EditReport) : 
   pub none : IsClear new.here
   pub few : report.changed ≤ report.evaluated
   pub ends : (forced : List ℕ) (before : List Tern) (put : List ℕ) → IsConsistent old.pair (Contains forced) before
-      → Entering old.pair t (Contains forced) before (row_at old.cells t) old.queued put → HasOtherSources old.pair t before put
+      → Entering old.pair t (Contains forced) before (row_at old.cells t) old.queued put
+      → HasOtherSources old.pair t before put
       → LatchesRest old.pair t before old.here
       → PassEnds old.pair t (Contains forced) before (row_at new.cells t) new.queued report.evaluated report.changed

@@ -1,4 +1,5 @@
 -- The order in which a bench takes the gates of its circuit (our own choice).
+-- Example: the gates 8 = 6 AND 2 and 6 = 2 AND 5, the second listed first.
 use Rattle.std.specs.Prelude.{◌≡◌, ◌≢◌, ℕ, ◌<◌, List, length}
 use Rattle.std.specs.Vec.{vec_capacity}
 use Rattle.aig_parts.specs.declared.gate.Gate.{Gate}

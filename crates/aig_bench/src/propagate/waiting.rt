@@ -49,7 +49,8 @@ fn slot_of(circuit: &Circuit, levels: &Levels, variable: u32) -> Slot
     ensures level { slice_get levels.now variable ≡ Some result.level }
     ensures first { (q : ℕ) (g : gate.Gate) → slice_get circuit.now.gates q ≡ Some g → literal.variable g.lhs ≡ variable
         → result.rhs0 ≡ g.rhs0 }
-    ensures second { (q : ℕ) (g : gate.Gate) → slice_get circuit.now.gates q ≡ Some g → literal.variable g.lhs ≡ variable
+    ensures second { (q : ℕ) (g : gate.Gate) → slice_get circuit.now.gates q ≡ Some g → literal.variable g.lhs
+        ≡ variable
         → result.rhs1 ≡ g.rhs1 }
 {
     circuit.facts();
@@ -119,7 +120,8 @@ impl Waiting {
         ensures next { self.new.next ≡ self.old.next ++ idle ∷ [] }
         ensures marks { self.new.items ≡ self.old.items ++ false ∷ [] }
         ensures levels { self.new.levels ≡ self.old.levels ++ level ∷ [] }
-        ensures sides { self.new.sides ≡ self.old.sides ++ (let s : Sides = record { rhs0 = rhs0; rhs1 = rhs1 } in s) ∷ [] }
+        ensures sides { self.new.sides ≡ self.old.sides ++ (let s : Sides = record { rhs0 = rhs0; rhs1 = rhs1 } in s)
+            ∷ [] }
     {
         let slot = Slot::idle(level, rhs0, rhs1);
         self.slots.push_reserved(slot);

@@ -1,5 +1,6 @@
 -- A walk from literals to the inputs and latches that they have their values by.
-use Rattle.std.specs.Prelude.{◌≡◌, ◌⊎◌, ℕ, ◌+◌, ◌*◌, ◌<◌, ◌≤◌, List, ◌++◌, length, count_by, not, nat_eq, All, Contains, Some, IfSome, slice_get, [], ◌∷◌}
+use Rattle.std.specs.Prelude.{◌≡◌, ◌⊎◌, ℕ, ◌+◌, ◌*◌, ◌<◌, ◌≤◌, List, ◌++◌, length, count_by, not, nat_eq, All, Contains}
+use Rattle.std.specs.Prelude.{Some, IfSome, slice_get, [], ◌∷◌}
 use Rattle.aig_parts.specs.declared.gate.Gate.{Gate}
 use Rattle.aig_parts.specs.declared.raw.Raw.{Raw}
 use Rattle.aig_parts.specs.declared.ternary.Tern.{Tern}

@@ -1,5 +1,6 @@
 -- The table of literals: for each variable of the certificate the literal of the strengthened circuit that it is.
-use Rattle.std.specs.Prelude.{◌≡◌, ◌≢◌, ℕ, ◌+◌, ◌*◌, ◌<◌, List, [], ◌∷◌, ◌++◌, length, replicate, Option, Some, None, slice_index, All}
+use Rattle.std.specs.Prelude.{◌≡◌, ◌≢◌, ℕ, ◌+◌, ◌*◌, ◌<◌, List, [], ◌∷◌, ◌++◌, length, replicate, Option, Some, None}
+use Rattle.std.specs.Prelude.{slice_index, All}
 use Rattle.aig_parts.specs.declared.fault.Fault.TheVariants as circuit_faults
 use Rattle.aig_parts.specs.declared.raw.Raw.{Raw}
 use Rattle.aig_parts.specs.Literal.{variable, with_sign}

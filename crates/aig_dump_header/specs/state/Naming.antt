@@ -1,4 +1,5 @@
 -- Names as the program holds them.
+-- Example: the names left of `a b` after its first are `b`.
 use Rattle.std.specs.Prelude.{◌≡◌, ℕ, ◌+◌, List, [], ◌∷◌, length, map, sum, decimal}
 use Rattle.aig_dump_header.specs.declared.names.Name.{Name}
 use Rattle.aig_dump_header.specs.declared.names.Name.TheVariants as name

@@ -115,8 +115,8 @@ fn are_of_lrat(lists: &[u8]) -> bool {
     additions > 1
 }
 
-// What a proof in a binary form is, by its steps that are whole in a block. Steps of FRAT have more letters than those of
-// DRAT, and each of LRAT has hints where DRAT has a letter.
+// What a proof in a binary form is, by its steps that are whole in a block. Steps of FRAT have more letters than those
+// of DRAT, and each of LRAT has hints where DRAT has a letter.
 fn of_binary(block: &[u8]) -> Option<KnownFile> {
     let end = block.iter().rposition(|byte| *byte == 0)?;
     let lists = block.get(..end)?;

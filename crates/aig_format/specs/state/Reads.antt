@@ -32,7 +32,8 @@ pub record KeepsSource {S : Type 0} (source : Ghosts S) (old new : S) : Type 0 w
 
 -- So many entries, of the variables from first on, are in so many bytes at the front of hand and were added to a list.
 -- Whatever comes after hand, reading them and the rest after old is reading the rest after new.
-pub record AddsItems {X : Type 0} (line : ℕ → List ℕ → Read X) (first taken size : ℕ) (buffered : List ℕ) (old new : List X)
+pub record AddsItems {X : Type 0} (line : ℕ → List ℕ → Read X) (first taken size : ℕ) (buffered : List ℕ)
+    (old new : List X)
     : Type 0 where
   pub within : size ≤ length buffered
   pub count : length new ≡ length old + taken

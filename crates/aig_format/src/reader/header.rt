@@ -5,7 +5,8 @@ ghost use Rattle.aig_format.specs.Header.{AreWithin, are_wrong};
 ghost use Rattle.aig_format.specs.state.ReaderAnswers.{of_token};
 ghost use Rattle.aig_format.specs.state.Reads.{ReadsAs, ReadsToken};
 ghost use Rattle.aig_format.specs.state.Reading.{byte_at};
-ghost use Rattle.aig_format.specs.state.ReadingSections.{format_at, format_word_at, count_at, line_end_at, tail_at, header_at};
+ghost use Rattle.aig_format.specs.state.ReadingSections.{format_at, format_word_at, count_at, line_end_at, tail_at};
+ghost use Rattle.aig_format.specs.state.ReadingSections.{header_at};
 ghost use Rattle.aig_format.specs.state.ReadingNames.{count_of};
 
 use crate::reader::source::Source;

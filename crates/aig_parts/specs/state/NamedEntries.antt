@@ -1,5 +1,6 @@
 -- Which entries have a name while names are read, and where the names lie.
-use Rattle.std.specs.Prelude.{◌≢◌, ◌↔◌, ℕ, ◌+◌, ◌*◌, ◌/◌, ◌%◌, ◌≤◌, List, [], length, All, AllPairs, Contains, slice_index_or}
+use Rattle.std.specs.Prelude.{◌≢◌, ◌↔◌, ℕ, ◌+◌, ◌*◌, ◌/◌, ◌%◌, ◌≤◌, List, [], length, All, AllPairs, Contains}
+use Rattle.std.specs.Prelude.{slice_index_or}
 use Rattle.std.specs.Map.{keys_of}
 use Rattle.aig_parts.specs.declared.symbols.Kind.{Kind}
 use Rattle.aig_parts.specs.declared.symbols.Kind.TheVariants.{Input, Latch, Output, Bad, Constraint, Justice, Fairness}

@@ -21,7 +21,8 @@ AreFindable listed None = Ascend listed
 AreFindable listed (Some ranks) = AreEntered ranks listed
 
 -- listed entries are findable, and no entry comes twice
-pub record IsSymbolTable (listed : List (Key × Place)) (ranks : Option Ranks) (others : List (Key × Place)) : Type 0 where
+pub record IsSymbolTable (listed : List (Key × Place)) (ranks : Option Ranks) (others : List (Key × Place)) : Type
+    0 where
   pub findable : AreFindable listed ranks
   pub once : AllPairs (λ x y. x ≢ y) (keys_of (listed ++ others))
 

@@ -92,7 +92,8 @@ impl NamedEntries {
 
     /// Notes that an entry has a name. Where memory is refused none more has one.
     pub(crate) fn insert(&mut self, kind: Kind, position: u32) -> Result<(), AllocError>
-        ensures ok { OnOk result ((k : Key) → IsMarkedEntry self.new k ↔ (IsMarkedEntry self.old k ⊎ (k ≡ (kind, position)))) }
+        ensures ok { OnOk result ((k : Key) → IsMarkedEntry self.new k
+            ↔ (IsMarkedEntry self.old k ⊎ (k ≡ (kind, position)))) }
         ensures err { OnErr result ((k : Key) → IsMarkedEntry self.new k ↔ IsMarkedEntry self.old k) }
     {
         let page = page_of(kind, position);

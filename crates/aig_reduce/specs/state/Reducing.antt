@@ -53,7 +53,8 @@ pub record TriesPlace (raw : Raw) (old : CircuitAndRows) (property : ℕ) (start
   pub tries : Tries (Confirms raw property) (start ∷ old.rows) (start' ∷ new.rows) t p
 
 -- a value was put at a place of what the bench runs
-pub record PutsValue (raw : Raw) (old : CircuitAndRows) (start : List Tern) (t p : ℕ) (value : Tern) (new : CircuitAndRows)
+pub record PutsValue (raw : Raw) (old : CircuitAndRows) (start : List Tern) (t p : ℕ) (value : Tern)
+    (new : CircuitAndRows)
     (start' : List Tern) : Type 0 where
   pub runs : Runs raw new start'
   pub values : start' ∷ new.rows ≡ with_cell (start ∷ old.rows) t p value

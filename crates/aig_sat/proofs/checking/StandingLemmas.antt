@@ -11,7 +11,8 @@ use Rattle.aig_sat.specs.declared.checker.propagator.Propagator.{Propagator}
 use Rattle.aig_sat.specs.checker.Agreement.{Agrees}
 use Rattle.aig_sat.specs.checker.Clause.{is_true, meets, Satisfies}
 use Rattle.aig_sat.specs.checker.Knowledge.{IsKnown, MakesTrue}
-use Rattle.aig_sat.specs.checker.Standing.{clause_at, clauses_at, conflict_clause, literals_at, standing, unit_at, units_at}
+use Rattle.aig_sat.specs.checker.Standing.{clause_at, clauses_at, conflict_clause, literals_at, standing, unit_at}
+use Rattle.aig_sat.specs.checker.Standing.{units_at}
 use Rattle.aig_sat.specs.checker.Words.{HasTrue, MeetsAll, StandsAt, literal_at, size_at}
 use Rattle.aig_sat.proofs.checking.WordLemmas.{same_or_other}
 

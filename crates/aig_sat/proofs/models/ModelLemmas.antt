@@ -1,13 +1,16 @@
 -- A model's text, piece by piece.
 use Rattle.std.specs.Prelude.{Result, Ok, Err, IfErr}
 use Rattle.std.specs.Result.{IsErrAnd}
-use Rattle.std.proofs.Common.{◌≡◌, ◌≢◌, ◌⊎◌, inl, inr, ℕ, zero, suc, ◌+◌, ◌-◌, ◌<◌, ◌≤◌, List, [], ◌∷◌, ◌++◌, length, take, drop, get_or, All, Some, slice_get, refl, sym, ap, ◌∙◌, subst, arith, append_assoc}
-use Rattle.std.proofs.lemmas.List.{get_or-append-add, get_or-take, get_or_append_left, length-take-le, take_more, take-append-le, drop-append-le, length-drop, length_push, take-append-drop, take_all}
+use Rattle.std.proofs.Common.{◌≡◌, ◌≢◌, ◌⊎◌, inl, inr, ℕ, zero, suc, ◌+◌, ◌-◌, ◌<◌, ◌≤◌, List, [], ◌∷◌, ◌++◌, length}
+use Rattle.std.proofs.Common.{take, drop, get_or, All, Some, slice_get, refl, sym, ap, ◌∙◌, subst, arith, append_assoc}
+use Rattle.std.proofs.lemmas.List.{get_or-append-add, get_or-take, get_or_append_left, length-take-le, take_more}
+use Rattle.std.proofs.lemmas.List.{take-append-le, drop-append-le, length-drop, length_push, take-append-drop, take_all}
 use Rattle.std.proofs.lemmas.Option.{get_or_from_slice_get, slice_get-get_or}
 use Rattle.std.proofs.Math.Seq.{take-add}
 use Rattle.aig_parts.specs.Literal.{variable}
 use Rattle.aig_parts.specs.declared.ternary.Tern.{Tern}
-use Rattle.aig_sat.specs.model.ModelText.{BeginsLine, HasStatus, IsSatisfiable, IsSpace, Names, SpellsModel, number_text}
+use Rattle.aig_sat.specs.model.ModelText.{BeginsLine, HasStatus, IsSatisfiable, IsSpace, Names, SpellsModel}
+use Rattle.aig_sat.specs.model.ModelText.{number_text}
 use Rattle.aig_sat.specs.model.Named.{AreNamed}
 use Rattle.aig_sat.specs.declared.model.fault.ModelFault.{ModelFault}
 use Rattle.aig_sat.specs.declared.model.fault.ModelFault.TheVariants.{Memory}

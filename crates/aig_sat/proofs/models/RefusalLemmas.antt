@@ -1,8 +1,11 @@
 -- Where a text is refused, no model goes on.
-use Rattle.std.proofs.Common.{◌≡◌, ◌≢◌, inl, inr, ℕ, zero, suc, ◌+◌, ◌-◌, ◌<◌, ◌≤◌, Bool, false, List, [], ◌∷◌, ◌++◌, length, take, drop, Contains, All, Some, slice_get, sym, ap, ◌∙◌, subst, arith, append_assoc}
+use Rattle.std.proofs.Common.{◌≡◌, ◌≢◌, inl, inr, ℕ, zero, suc, ◌+◌, ◌-◌, ◌<◌, ◌≤◌, Bool, false, List, [], ◌∷◌, ◌++◌}
+use Rattle.std.proofs.Common.{length, take, drop, Contains, All, Some, slice_get, sym, ap, ◌∙◌, subst, arith}
+use Rattle.std.proofs.Common.{append_assoc}
 use Rattle.std.specs.Prelude.{IsTrue}
 use Rattle.std.proofs.lemmas.Bool.{false≢true}
-use Rattle.std.proofs.lemmas.List.{append-nil, append_cancel_left, drop_all, length-drop, length-take-le, length_push, take-append-drop}
+use Rattle.std.proofs.lemmas.List.{append-nil, append_cancel_left, drop_all, length-drop, length-take-le, length_push}
+use Rattle.std.proofs.lemmas.List.{take-append-drop}
 use Rattle.std.proofs.lemmas.List.Elements.{All-nil, Contains-append_left, Contains-push}
 use Rattle.aig_parts.specs.Literal.{negation, variable}
 use Rattle.aig_parts.specs.declared.ternary.Tern.{Tern}
@@ -14,7 +17,8 @@ use Rattle.aig_sat.specs.model.state.Reading.{BeginsLineAt, IsAnswerByte, ReadUp
 use Rattle.aig_sat.proofs.models.ModelLemmas.{line_stands}
 use Rattle.aig_sat.proofs.models.NamedLemmas.{both_signs}
 use Rattle.aig_sat.proofs.models.OneModel.{Goes, Next, ended, next_piece, only_answer, passed, turned}
-use Rattle.aig_sat.proofs.models.PieceLemmas.{FirstByte, MayBe, MayStand, Piece, Word, begins, no_space_in_word, piece_text, split_at, with_named, word_text}
+use Rattle.aig_sat.proofs.models.PieceLemmas.{FirstByte, MayBe, MayStand, Piece, Word, begins, no_space_in_word}
+use Rattle.aig_sat.proofs.models.PieceLemmas.{piece_text, split_at, with_named, word_text}
 
 -- the first byte that is left stands at the place
 there : (xs : List ℕ) (at x : ℕ) (rest : List ℕ) → drop at xs ≡ x ∷ rest → slice_get xs at ≡ Some x

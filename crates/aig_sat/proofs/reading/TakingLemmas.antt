@@ -1,5 +1,7 @@
 -- What is taken of a proof, piece by piece.
-use Rattle.std.proofs.Common.{◌≡◌, ◌≢◌, ◌⊎◌, inl, inr, ℕ, suc, ◌+◌, ◌-◌, ◌*◌, ◌/◌, ◌%◌, ◌<◌, ◌≤◌, List, [], ◌∷◌, ◌++◌, length, slice_set, take, drop, get_or, All, Option, Some, None, slice_get, refl, sym, ap, ◌∙◌, subst, arith, append_assoc}
+use Rattle.std.proofs.Common.{◌≡◌, ◌≢◌, ◌⊎◌, inl, inr, ℕ, suc, ◌+◌, ◌-◌, ◌*◌, ◌/◌, ◌%◌, ◌<◌, ◌≤◌, List, [], ◌∷◌, ◌++◌}
+use Rattle.std.proofs.Common.{length, slice_set, take, drop, get_or, All, Option, Some, None, slice_get, refl, sym, ap}
+use Rattle.std.proofs.Common.{◌∙◌, subst, arith, append_assoc}
 use Rattle.std.specs.Prelude.{Bool, true, false}
 use borrow.Rule.Slice.PartMut.{put_mid}
 use Rattle.std.proofs.Common.{take-take}
@@ -25,7 +27,8 @@ use Rattle.aig_sat.specs.model.ModelText.{IsSpace, number_text}
 use Rattle.aig_sat.specs.proof.ProofBytes.{Groups, SpellsLiterals, first_byte}
 use Rattle.aig_sat.specs.proof.ProofText.{EndsStep, Gap, IsBlank, SpellsClause, SpellsStep, last_byte}
 use Rattle.aig_sat.specs.proof.Steps.{AreRenamed, BeginsSo, Block, TakesText, text_to_come, bytes_to_come}
-use Rattle.aig_sat.specs.proof.state.Taking.{Begins, Ends, GoesOn, LeadsAll, LeadsBy, LeadsClause, LeadsGap, LeadsLiterals, LeadsStep, LeadsWord, TakesBytes, held, sign}
+use Rattle.aig_sat.specs.proof.state.Taking.{Begins, Ends, GoesOn, LeadsAll, LeadsBy, LeadsClause, LeadsGap}
+use Rattle.aig_sat.specs.proof.state.Taking.{LeadsLiterals, LeadsStep, LeadsWord, TakesBytes, held, sign}
 use Rattle.aig_sat.proofs.models.DigitLemmas.{digit_joins}
 
 pub before_none : (left : Option (List ℕ)) → before [] left ≡ left

@@ -23,7 +23,8 @@ pub record Propagates (old new : Propagator) : Type 0 where
 -- The same, where the literals of a clause are taken to be false.
 pub record Assumes (clause : List ℕ) (old new : Propagator) : Type 0 where
   pub same : Shrinks old.clauses.words.items new.clauses.words.items
-  pub known : (values : ℕ → Bool) → Agrees values old → meets values clause ≡ false → MakesTrue values new.known.truths.items
+  pub known : (values : ℕ → Bool) → Agrees values old → meets values clause ≡ false
+      → MakesTrue values new.known.truths.items
   pub found : (before : List Bool) → IsFound before old.known → IsFound before new.known
 
 -- an assignment that agrees meets the clause

@@ -1,4 +1,6 @@
 -- Clauses of literals, and what satisfies a list of them (propositional logic). Literals are those of circuits.
+-- Example: under values that make variable 1 true alone, literals 1 and 2 are true and 0 and 3 are false; the clause `3
+-- 4` is not met.
 use Rattle.std.specs.Prelude.{ℕ, ◌%◌, nat_eq, Bool, not, IsTrue, if◌then◌else◌, List}
 use Rattle.std.specs.List.{list_all, list_any}
 use Rattle.aig_parts.specs.Literal.{variable}

@@ -1,4 +1,5 @@
 -- What follows from a formula (propositional logic).
+-- Example: from the clauses `2` and `3 4` the clause `4` follows; `2` and `3` are unsatisfiable.
 use Rattle.std.specs.Prelude.{ℕ, Bool, List}
 use Rattle.aig_sat.specs.checker.Clause.{Satisfies}
 

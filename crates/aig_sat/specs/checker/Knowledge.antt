@@ -23,7 +23,8 @@ IsFound before known = (l : ℕ) → IsKnown known.truths.items l → IsKnown be
 abbrev pub Takes : ℕ → Known → Known → Type 0
 Takes literal old new =
     ((new.truths.items ≡ old.truths.items) × (new.trail.items ≡ old.trail.items))
-    ⊎ ((new.truths.items ≡ slice_set old.truths.items literal true) × (new.trail.items ≡ old.trail.items ++ literal ∷ []))
+    ⊎ ((new.truths.items ≡ slice_set old.truths.items literal true)
+    × (new.trail.items ≡ old.trail.items ++ literal ∷ []))
 
 -- all literals but this one are known to be false
 abbrev pub AreFalseBeside : List Bool → List ℕ → ℕ → Type 0

@@ -1,4 +1,5 @@
 -- The formula that a refutation's state stands for.
+-- Example: with literal 2 known and no clause: `2`.
 use Rattle.std.specs.Prelude.{ℕ, zero, suc, Bool, false, nat_le, if◌then◌else◌, List, [], ◌∷◌, ◌++◌, length}
 use Rattle.std.specs.Prelude.{slice_index, slice_index_or}
 use Rattle.aig_sat.specs.declared.checker.propagator.Propagator.{Propagator}

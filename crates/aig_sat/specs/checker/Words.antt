@@ -37,7 +37,8 @@ KeepsMet old new = (values : ℕ → Bool) → MeetsAll values old → MeetsAll 
 -- no clause stands in the second words that does not in the first ones, with the same literals
 pub record Shrinks (old new : List ℕ) : Type 0 where
   pub heads : (p : ℕ) → StandsAt new p → slice_index new p ≡ slice_index old p
-  pub rest : (p q : ℕ) → StandsAt new p → p + 4 ≤ q → q < p + (4 + size_at new p) → slice_index new q ≡ slice_index old q
+  pub rest : (p q : ℕ) → StandsAt new p → p + 4 ≤ q → q < p + (4 + size_at new p) → slice_index new q
+      ≡ slice_index old q
 
 -- A clause that stands has only variables that begin at its place or before, and that are below the number `named`. No
 -- variable begins past the words.

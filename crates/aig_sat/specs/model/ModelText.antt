@@ -1,6 +1,8 @@
 -- The text of a solver's model, as the SAT competitions and older solvers print it. Where they differ, this is our own
 -- choice.
-use Rattle.std.specs.Prelude.{◌≡◌, ◌≢◌, ◌⊎◌, ℕ, ◌+◌, ◌%◌, ◌<◌, nat_eq, if◌then◌else◌, List, [], ◌∷◌, ◌++◌, All, codes, decimal}
+-- Examples: `-2` for literal 3; `v 1 -2 0` names 0 and 3, so of three variables the values are 1, 0 and x.
+use Rattle.std.specs.Prelude.{◌≡◌, ◌≢◌, ◌⊎◌, ℕ, ◌+◌, ◌%◌, ◌<◌, nat_eq, if◌then◌else◌, List, [], ◌∷◌, ◌++◌, All, codes}
+use Rattle.std.specs.Prelude.{decimal}
 use Rattle.aig_parts.specs.Literal.{variable}
 use Rattle.aig_parts.specs.declared.ternary.Tern.{Tern}
 use Rattle.aig_sat.specs.model.Named.{AreNamed}
@@ -56,7 +58,8 @@ SpellsModel variables text literals = Names variables (text ++ 10 ∷ []) After 
 
 -- the text is a model that gives so many variables these values
 abbrev pub IsModelOf : ℕ → List ℕ → List Tern → Type 0
-IsModelOf variables text values = (literals : List ℕ) × SpellsModel variables text literals × AreNamed literals variables values
+IsModelOf variables text values =
+    (literals : List ℕ) × SpellsModel variables text literals × AreNamed literals variables values
 
 -- the line stands in the text where the one stands that says that there is a model
 pub record HasStatus (IsLine : List ℕ → Type 0) (variables : ℕ) (text : List ℕ) : Type 0 where

@@ -1,4 +1,5 @@
 -- The values that literals name (our own choice).
+-- Example: the literals 0 and 3 name 1 and 0, and x for variable 2.
 use Rattle.std.specs.Prelude.{◌≡◌, ℕ, ◌+◌, ◌*◌, ◌<◌, List, length, Contains, slice_index_or}
 use Rattle.aig_parts.specs.declared.ternary.Tern.{Tern}
 use Rattle.aig_parts.specs.declared.ternary.Tern.TheVariants.{Zero, One, X}

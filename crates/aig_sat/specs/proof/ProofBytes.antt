@@ -1,4 +1,5 @@
 -- The binary form of a proof (DRAT).
+-- Example: the bytes 97, 2, 5 and 0 add the clause `0 3`.
 use Rattle.std.specs.Prelude.{◌≡◌, ℕ, ◌+◌, ◌*◌, ◌<◌, List, [], ◌∷◌, ◌++◌}
 use Rattle.aig_parts.specs.Literal.{variable}
 use Rattle.aig_sat.specs.declared.proof.step.StepKind.{StepKind}

@@ -1,5 +1,6 @@
--- The text of a proof (DRAT). Where programs differ, this is our own choice. A text has an LF at its end here, also where
--- the file has none.
+-- The text of a proof (DRAT). Where programs differ, this is our own choice. A text has an LF at its end here, also
+-- where the file has none.
+-- Example: `d 1 -2 0` and a blank delete the clause `0 3`, as the second step.
 use Rattle.std.specs.Prelude.{◌≡◌, ◌≢◌, ◌⊎◌, ℕ, ◌<◌, Bool, true, false, List, [], ◌∷◌, ◌++◌, All}
 use Rattle.aig_parts.specs.Literal.{variable}
 use Rattle.aig_sat.specs.model.ModelText.{IsSpace, number_text}

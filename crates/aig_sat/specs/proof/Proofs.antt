@@ -1,4 +1,5 @@
 -- Proofs, step by step from the first byte on.
+-- Example: `1 0/d 1 0/` is a proof of two steps, and begins with one that adds a clause.
 use Rattle.std.specs.Prelude.{◌≡◌, ◌⊎◌, ℕ, ◌+◌, Bool, true, false, List, [], ◌∷◌, ◌++◌, length}
 use Rattle.aig_sat.specs.declared.proof.step.StepKind.{StepKind}
 use Rattle.aig_sat.specs.declared.proof.step.StepKind.TheVariants.{Add}
@@ -38,7 +39,8 @@ BeginsWith bytes steps =
 abbrev pub IsProof : List ℕ → Type 0
 IsProof bytes =
     (steps : List Step)
-    × (((text : List ℕ) × (gap : List ℕ) × TextSteps text steps × Gap (last_byte 10 text) gap × (bytes ++ 10 ∷ [] ≡ text ++ gap))
+    × (((text : List ℕ) × (gap : List ℕ) × TextSteps text steps × Gap (last_byte 10 text) gap
+    × (bytes ++ 10 ∷ [] ≡ text ++ gap))
     ⊎ BinarySteps bytes steps)
 
 -- the bytes begin with n steps, the last of which adds a clause

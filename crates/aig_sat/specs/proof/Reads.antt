@@ -1,4 +1,5 @@
 -- What reading a step does to the reader.
+-- Example: 1 for `input or output`, else 0.
 use Rattle.std.specs.Prelude.{ℕ, Result, Ok, Err}
 use Rattle.aig_sat.specs.declared.proof.fault.ReadFault.{ReadFault}
 use Rattle.aig_sat.specs.declared.proof.fault.ReadFault.TheVariants as faults

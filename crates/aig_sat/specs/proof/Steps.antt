@@ -1,5 +1,7 @@
 -- What a reader of steps is seen as, and what reading a step does.
-use Rattle.std.specs.Prelude.{◌≡◌, ◌≢◌, ◌⊎◌, ℕ, ◌<◌, ◌≤◌, ◌%◌, Bool, if◌then◌else◌, List, [], ◌∷◌, ◌++◌, All, Option, Some, None, IfSome}
+-- Examples: `1 x` is no step of a text, `1 0` is the first one, and `c` and an LF are the end; for 3 variables, 0 to 5.
+use Rattle.std.specs.Prelude.{◌≡◌, ◌≢◌, ◌⊎◌, ℕ, ◌<◌, ◌≤◌, ◌%◌, Bool, if◌then◌else◌, List, [], ◌∷◌, ◌++◌, All, Option}
+use Rattle.std.specs.Prelude.{Some, None, IfSome}
 use Rattle.std.specs.Option.{is_none}
 use Rattle.aig_bytes.specs.Bytes.{before, IsAtEnd}
 use Rattle.aig_parts.specs.Literal.{variable}
@@ -112,6 +114,7 @@ BinaryStepToCome bytes =
 -- proof is spelled.
 abbrev pub NoStep : StepReader → Option (List ℕ) → Option Spelling → Type 0
 NoStep reader left (Some Text) =
-    IfSome (text_to_come reader.block left) (λ bytes. StepToCome (is_none reader.spelling) reader.block.previous bytes → ⊥)
+    IfSome (text_to_come reader.block left)
+    (λ bytes. StepToCome (is_none reader.spelling) reader.block.previous bytes → ⊥)
 NoStep reader left (Some Binary) = IfSome (bytes_to_come reader.block left) (λ bytes. BinaryStepToCome bytes → ⊥)
 NoStep reader left None = ⊥

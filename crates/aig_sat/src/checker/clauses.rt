@@ -3,7 +3,8 @@ ghost use Rattle.std.specs.Prelude.{◌≡◌, ℕ, ◌+◌, ◌<◌, ◌≤◌,
 ghost use Rattle.aig_parts.specs.Literal.{variable};
 ghost use Rattle.std.specs.Prelude.{Bool, true, IsTrue, IfNone, IfSome, IfOk, OnOk, slice_index};
 ghost use Rattle.aig_sat.specs.checker.Clause.{meets};
-ghost use Rattle.aig_sat.specs.checker.Words.{AreLiterals, AreNamed, Begins, IsClauseAt, IsLaidOut, IsLast, IsPut, KeepsMet, MeetsAll, Shrinks, StandsAt, literal_at};
+ghost use Rattle.aig_sat.specs.checker.Words.{AreLiterals, AreNamed, Begins, IsClauseAt, IsLaidOut, IsLast, IsPut};
+ghost use Rattle.aig_sat.specs.checker.Words.{KeepsMet, MeetsAll, Shrinks, StandsAt, literal_at};
 
 use aig_bytes::Memory;
 use std::alloc::Global;

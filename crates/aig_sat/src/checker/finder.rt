@@ -12,8 +12,8 @@ use std::mem;
 /// solver's proof is nearly as long.
 const LONGEST_WALK: usize = 1024;
 
-/// Chains of the clauses that stand, by a hash of their literals. Clauses are put into chains from the first deletion on:
-/// their number is known then, and a formula whose proof deletes nothing needs no chains.
+/// Chains of the clauses that stand, by a hash of their literals. Clauses are put into chains from the first deletion
+/// on: their number is known then, and a formula whose proof deletes nothing needs no chains.
 #[derive(Drop)]
 pub(crate) struct Finder {
     // The place of the first clause of each chain, 0 where there is none.

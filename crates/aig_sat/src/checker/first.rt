@@ -108,7 +108,8 @@ impl Checker {
     fn may_stand_on(&mut self, clause: &[Lit], literal: u32) -> Result<bool, Memory>
         ensures same { self.new.refuted ≡ self.old.refuted }
         ensures narrows { Narrows self.old.propagator self.new.propagator }
-        ensures true_unknown { IfOk result (λ may. IsTrue may → IsKnown self.old.propagator.known.truths.items literal → ⊥) }
+        ensures true_unknown { IfOk result
+            (λ may. IsTrue may → IsKnown self.old.propagator.known.truths.items literal → ⊥) }
         ensures false_unknown { IfOk result (λ may. IsTrue may
             → IsKnown self.old.propagator.known.truths.items (negation literal) → ⊥) }
         ensures settled { IfOk result (λ may. IsTrue may

@@ -61,8 +61,8 @@ impl Refutation {
         self.checker.add_step(clause)
     }
 
-    /// Adds a clause, if it is a resolution asymmetric tautology on its first literal, and answers whether it is. Such a
-    /// clause need not follow, but the formula stays satisfiable if it was. Neither that literal nor its negation may
+    /// Adds a clause, if it is a resolution asymmetric tautology on its first literal, and answers whether it is. Such
+    /// a clause need not follow, but the formula stays satisfiable if it was. Neither that literal nor its negation may
     /// have been found to be true. Each clause that stands and has the negation has to give, without the negation and
     /// with this clause's literals, a clause that follows by unit propagation. All of them together may take as many
     /// looks at watches and literals as the clauses have words, and 65,536 more.

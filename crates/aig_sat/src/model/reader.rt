@@ -3,9 +3,11 @@ ghost use Rattle.std.specs.Prelude.{◌≡◌, ◌≢◌, ◌↔◌, ◌+◌, �
 ghost use Rattle.std.specs.Prelude.{Contains, None, Some, Err, IfErr, IfOk, IfSome, IsTrue, OnOk, false, slice_get};
 ghost use Rattle.aig_parts.specs.Literal.{negation, variable};
 ghost use Rattle.aig_parts.specs.declared.ternary.Tern.{Tern};
-ghost use Rattle.aig_sat.specs.model.ModelText.{BeginsLine, HasStatus, IsModelOf, IsSatisfiable, IsSpace, IsUnknown, IsUnsatisfiable, number_text};
+ghost use Rattle.aig_sat.specs.model.ModelText.{BeginsLine, HasStatus, IsModelOf, IsSatisfiable, IsSpace, IsUnknown};
+ghost use Rattle.aig_sat.specs.model.ModelText.{IsUnsatisfiable, number_text};
 ghost use Rattle.aig_sat.specs.model.Named.{AreNamed};
-ghost use Rattle.aig_sat.specs.model.state.Reading.{BeginsLineAt, GoesOn, GoesOnLine, HasRead, IsAnswerByte, ReadUpTo, Says};
+ghost use Rattle.aig_sat.specs.model.state.Reading.{BeginsLineAt, GoesOn, GoesOnLine, HasRead, IsAnswerByte, ReadUpTo};
+ghost use Rattle.aig_sat.specs.model.state.Reading.{Says};
 
 use crate::model::assignment::Assignment;
 use crate::model::fault::ModelFault;
@@ -303,8 +305,8 @@ impl Reader {
 
 /// The values that the text of a model gives to so many variables, which its literals count from 1. Blanks, tabs and
 /// line ends separate the literals, up to a `0`; lines that begin with `c` are skipped, and a `v` may begin any other.
-/// A line that says that there is a model may stand before the literals. It takes a byte a variable. It refuses a text as
-/// `Text` only if it is no model, and as `Unsatisfiable` or `Unknown` only if a solver's line says so.
+/// A line that says that there is a model may stand before the literals. It takes a byte a variable. It refuses a text
+/// as `Text` only if it is no model, and as `Unsatisfiable` or `Unknown` only if a solver's line says so.
 pub fn read_model(alloc: Global, text: &[u8], variables: u32) -> Result<Assignment, ModelFault>
     requires { variables ≤ 2147483648 }
     ensures named { IfOk result (IsModelOf variables text.now) }

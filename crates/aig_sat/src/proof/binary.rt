@@ -1,6 +1,7 @@
 //! The binary form of a proof: `a` or `d`, a number for each literal, and 0. A number is twice the variable, which
 //! counts from 1, and one more where the literal is negated; it stands in groups of seven bits, the lowest first.
-ghost use Rattle.std.specs.Prelude.{◌≡◌, ◌≢◌, ◌⊎◌, ◌+◌, ◌<◌, ◌≤◌, ℕ, List, [], ◌∷◌, Err, IfOk, IfSome, IsTrue, None, false};
+ghost use Rattle.std.specs.Prelude.{◌≡◌, ◌≢◌, ◌⊎◌, ◌+◌, ◌<◌, ◌≤◌, ℕ, List, [], ◌∷◌, Err, IfOk, IfSome, IsTrue, None};
+ghost use Rattle.std.specs.Prelude.{false};
 ghost use Rattle.std.specs.Option.{IsSomeAnd};
 ghost use Rattle.aig_bytes.specs.Bytes.{IsAtEnd};
 ghost use Rattle.aig_parts.specs.Literal.{variable};

@@ -119,7 +119,8 @@ impl Names {
         Ok(node + first_digit(digits))
     }
 
-    // Makes the next variable for the name of a slot. There always is one, since no more numbers are over the formula's.
+    // Makes the next variable for the name of a slot. There always is one, since no more numbers are over the
+    // formula's.
     fn add_variable(&mut self, slot: usize) -> Result<u32, Memory>
         requires { slot < length self.old.slots.items }
         ensures formula { self.new.formula ≡ self.old.formula }

@@ -1,7 +1,8 @@
 -- What the program's commands mean.
 use Rattle.aig_bench.specs.Edit as edits
 use Rattle.aig_script.specs.declared.command.Command as code
-use Rattle.aig_script.specs.declared.command.Command.TheVariants.{Rewire, SetReset, SetBit, DropFrame, AppendGate, SetOutput, Value, Trace, Unroll}
+use Rattle.aig_script.specs.declared.command.Command.TheVariants.{Rewire, SetReset, SetBit, DropFrame, AppendGate}
+use Rattle.aig_script.specs.declared.command.Command.TheVariants.{SetOutput, Value, Trace, Unroll}
 use Rattle.aig_script.specs.Command.{Command, edit, value, trace, unroll}
 
 abbrev pub meaning : code.Command → Command

@@ -1,5 +1,6 @@
 -- How the program holds what a line names of a section: numbers of its signals.
-use Rattle.std.specs.Prelude.{◌≡◌, ℕ, zero, suc, ◌<◌, ◌≤◌, ◌==◌, Bool, false, slice_index, List, [], ◌∷◌, length, Contains, Option, Some, slice_get}
+use Rattle.std.specs.Prelude.{◌≡◌, ℕ, zero, suc, ◌<◌, ◌≤◌, ◌==◌, Bool, false, slice_index, List, [], ◌∷◌, length}
+use Rattle.std.specs.Prelude.{Contains, Option, Some, slice_get}
 use Rattle.aig_parts.specs.declared.ternary.Tern.{Tern}
 use Rattle.aig_signals.specs.declared.signal.Signal.{Signal}
 

@@ -1,5 +1,7 @@
 -- How far a check of a witness has come.
-use Rattle.std.specs.Prelude.{◌≡◌, ◌≢◌, ℕ, suc, ◌+◌, ◌<◌, min, List, [], ◌∷◌, ◌++◌, length, map, take, drop, Some, slice_get}
+-- Example: after frame 0 of `1/b0/0///./` the rest is `/./`.
+use Rattle.std.specs.Prelude.{◌≡◌, ◌≢◌, ℕ, suc, ◌+◌, ◌<◌, min, List, [], ◌∷◌, ◌++◌, length, map, take, drop, Some}
+use Rattle.std.specs.Prelude.{slice_get}
 use Rattle.aig_parts.specs.Formed.{limit}
 use Rattle.aig_parts.specs.declared.ternary.Tern.{Tern}
 use Rattle.aig_parts.specs.declared.ternary.Tern.TheVariants.{One}
@@ -14,7 +16,8 @@ use Rattle.aig_sim.specs.WitnessText.{Witness, witness_rows_text}
 
 -- the text begins with a line of so many values
 abbrev pub BeginsWithRow : ℕ → List ℕ → Type 0
-BeginsWithRow width text = (row : List Tern) × (rest : List ℕ) × (length row ≡ width) × (text ≡ map character row ++ (10 ∷ rest))
+BeginsWithRow width text =
+    (row : List Tern) × (rest : List ℕ) × (length row ≡ width) × (text ≡ map character row ++ (10 ∷ rest))
 
 -- the text is so many rows of the width, and the line `.`
 pub record SpellsFrames (width : ℕ) (text : List ℕ) (rows : List (List Tern)) : Type 0 where

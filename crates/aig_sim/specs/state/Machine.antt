@@ -1,4 +1,5 @@
 -- What a circuit that is simulated row by row is seen as.
+-- Example: cells 0, 1, 1, 1, 1 are those after the step `11` of `examples/two_gates.aag`.
 use Rattle.std.specs.Prelude.{◌+◌, List, [], ◌∷◌, ◌++◌, length}
 use Rattle.aig_parts.specs.declared.ternary.Tern.{Tern}
 use Rattle.aig_parts.specs.declared.raw.Raw.{Raw}

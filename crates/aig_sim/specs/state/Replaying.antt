@@ -1,4 +1,5 @@
 -- How far the replay of a witness has come, whatever is written of its frames.
+-- Example: after frame 0 of `1/b0//x/./` the rest is `./`.
 use Rattle.std.specs.Prelude.{◌≡◌, ℕ, ◌≤◌, List, [], length, take, drop, Option, Result, OnOk}
 use Rattle.aig_parts.specs.declared.ternary.Tern.{Tern}
 use Rattle.aig_parts.specs.declared.raw.Raw.{Raw}
@@ -18,7 +19,8 @@ pub record BeginsRun (raw : Raw) (w : Witness) (states : List Tern) (rows : List
   pub frames_are : frames ≡ length w.rows
 
 -- nothing was written of any frame
-pub record NoneReported {T : Type 0} (is_text : RunText) (recorded : Recorded T) (raw : Raw) (w : Witness) (recorder : T)
+pub record NoneReported {T : Type 0} (is_text : RunText) (recorded : Recorded T) (raw : Raw) (w : Witness)
+    (recorder : T)
     : Type 0 where
   pub no_text : is_text raw w.start [] []
   pub none_recorded : recorded recorder raw w.start []

@@ -36,7 +36,8 @@ pub record SimulationStarts {T : Type 0} (is_text : RunText) (recorded : Recorde
   pub none_recorded : recorded s.recorder s.machine.circuit (start_of s.machine.circuit) []
 
 -- The text was read: its rows were simulated, their frames' text was written after `start`, and no write failed.
-pub record Running {T : Type 0} (is_text : RunText) (recorded : Recorded T) (raw : Raw) (start : Option (List ℕ)) (count : ℕ)
+pub record Running {T : Type 0} (is_text : RunText) (recorded : Recorded T) (raw : Raw) (start : Option (List ℕ))
+    (count : ℕ)
     (text : List ℕ) (s : Simulation T) (written : Option (List ℕ)) (failures : ℕ) : Type 0 where
   pub rows : List (List Tern)
   pub trace : List ℕ
@@ -62,7 +63,8 @@ StopsBy raw count text rows trace done failures fault.Limit = ⊥
 StopsBy raw count text rows trace done failures fault.Memory = ⊥
 
 -- the text was read, and the simulation stopped on the way
-pub record Stopped (is_text : RunText) (raw : Raw) (start : Option (List ℕ)) (count : ℕ) (text : List ℕ) (written : Option (List ℕ))
+pub record Stopped (is_text : RunText) (raw : Raw) (start : Option (List ℕ)) (count : ℕ) (text : List ℕ)
+    (written : Option (List ℕ))
     (failures : ℕ) (f : StimFault) : Type 0 where
   pub rows : List (List Tern)
   pub trace : List ℕ
@@ -72,7 +74,8 @@ pub record Stopped (is_text : RunText) (raw : Raw) (start : Option (List ℕ)) (
   pub why : StopsBy raw count text rows trace done failures f
 
 -- whatever was read before, the simulation goes on by these bytes
-abbrev pub SimulationGoesOn : {T : Type 0} → RunText → Recorded T → List ℕ → Simulation T → Simulation T → Option (List ℕ) → Option (List ℕ)
+abbrev pub SimulationGoesOn : {T : Type 0} → RunText → Recorded T → List ℕ → Simulation T → Simulation T
+    → Option (List ℕ) → Option (List ℕ)
     → ℕ → ℕ → Type 0
 SimulationGoesOn is_text recorded bytes s s' written written' failures failures' =
     (raw : Raw) (start : Option (List ℕ)) (count : ℕ) (text : List ℕ)
@@ -80,7 +83,8 @@ SimulationGoesOn is_text recorded bytes s s' written written' failures failures'
     → Running is_text recorded raw start count (text ++ bytes) s' written' failures'
 
 -- whatever was read before, the simulation stops in these bytes
-abbrev pub SimulationStops : {T : Type 0} → RunText → Recorded T → List ℕ → Simulation T → Option (List ℕ) → Option (List ℕ) → ℕ → ℕ
+abbrev pub SimulationStops : {T : Type 0} → RunText → Recorded T → List ℕ → Simulation T → Option (List ℕ)
+    → Option (List ℕ) → ℕ → ℕ
     → StimFault → Type 0
 SimulationStops is_text recorded bytes s written written' failures failures' f =
     (raw : Raw) (start : Option (List ℕ)) (count : ℕ) (text : List ℕ)
@@ -89,7 +93,8 @@ SimulationStops is_text recorded bytes s written written' failures failures' f =
 
 -- What was read and written before the end of the text.
 pub record ReadSoFar {T : Type 0} (is_text : RunText) (recorded : Recorded T) (raw : Raw) (left left' : Option (List ℕ))
-    (reads reads' : ℕ) (start : Option (List ℕ)) (count : ℕ) (s : Simulation T) (written : Option (List ℕ)) (failures : ℕ)
+    (reads reads' : ℕ) (start : Option (List ℕ)) (count : ℕ) (s : Simulation T) (written : Option (List ℕ))
+    (failures : ℕ)
     : Type 0 where
   pub text : List ℕ
   pub read : left ≡ before text left'

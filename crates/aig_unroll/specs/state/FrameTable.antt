@@ -1,5 +1,6 @@
 -- How a frame's literals are found: by a number for each variable, and a literal for each latch.
-use Rattle.std.specs.Prelude.{◌≡◌, ℕ, zero, suc, ◌+◌, ◌*◌, ◌-◌, ◌≤◌, nat_lt, if◌then◌else◌, List, [], ◌++◌, length, map, take, Option, Some, None, slice_get, All, slice_index}
+use Rattle.std.specs.Prelude.{◌≡◌, ℕ, zero, suc, ◌+◌, ◌*◌, ◌-◌, ◌≤◌, nat_lt, if◌then◌else◌, List, [], ◌++◌, length, map}
+use Rattle.std.specs.Prelude.{take, Option, Some, None, slice_get, All, slice_index}
 use Rattle.std.specs.List.{range_with_len}
 use Rattle.aig_parts.specs.declared.gate.Gate.{Gate}
 use Rattle.aig_parts.specs.declared.latch.Latch.{Latch}
@@ -11,7 +12,8 @@ use Rattle.aig_base.specs.RenumberingTable.{IsRenumbering, literal_by}
 use Rattle.aig_unroll.specs.declared.unrolling.plan.Plan.{Plan}
 use Rattle.aig_unroll.specs.declared.unrolling.frame_literals.Frame.{Frame}
 use Rattle.aig_unroll.specs.declared.unrolling.sections.Sections.{Sections}
-use Rattle.aig_unroll.specs.FrameLiteral.{frame_literal, frame_size, input_count, has_guards, chain_count, guard_count, is_uninitialised, uninitialised}
+use Rattle.aig_unroll.specs.FrameLiteral.{frame_literal, frame_size, input_count, has_guards, chain_count, guard_count}
+use Rattle.aig_unroll.specs.FrameLiteral.{is_uninitialised, uninitialised}
 use Rattle.aig_unroll.specs.Unrolled.{frames, frame_literals, frame_bad, frame_gates, kept_constraints}
 
 -- the plan of the circuit unrolled for k frames
@@ -125,7 +127,8 @@ pub record AddsProperties (raw : Raw) (plan : Plan) (frame : Frame) (old new : S
   pub gates : new.gates ≡ old.gates ++ plan_gates raw [] plan frame
 
 -- what a frame adds
-pub record AddsFrame (raw : Raw) (numbered : List Gate) (plan : Plan) (frame : Frame) (old new : Sections) : Type 0 where
+pub record AddsFrame (raw : Raw) (numbered : List Gate) (plan : Plan) (frame : Frame) (old new : Sections) : Type
+    0 where
   pub outputs : new.outputs ≡ old.outputs ++ map (literal_at plan frame) raw.outputs
   pub bad : new.bad ≡ old.bad ++ bad_at raw plan frame
   pub constraints : new.constraints ≡ old.constraints ++ map (literal_at plan frame) (kept_constraints raw)

@@ -1,4 +1,5 @@
 -- When the cells of a frame are the values (AIGER 1.0 and 1.9, semantics; x is our own choice).
+-- Example: cells 0, 1, 1, 1, 1 hold frame 0 of `examples/two_gates.aag` with `11/`.
 use Rattle.std.specs.Prelude.{◌≡◌, ℕ, ◌*◌, List, Some, slice_get}
 use Rattle.std.specs.List.{AllZip}
 use Rattle.aig_parts.specs.declared.ternary.Tern.{Tern}
@@ -12,7 +13,8 @@ use Rattle.aig_base.specs.Value.{Value}
 -- The latches start at the values `start`, and the inputs have the rows `rows`.
 
 -- the cell of the variable is its value at frame t
-pub record Holds (raw : Raw) (start : List Tern) (rows : List (List Tern)) (t : ℕ) (cells : List Tern) (v : ℕ) : Type 0 where
+pub record Holds (raw : Raw) (start : List Tern) (rows : List (List Tern)) (t : ℕ) (cells : List Tern) (v : ℕ) : Type
+    0 where
   pub cell : Tern
   pub cell_is : slice_get cells v ≡ Some cell
   pub value_is : Value raw start rows t (2 * v) cell
@@ -47,5 +49,6 @@ abbrev pub HoldsAll : Raw → List Tern → List (List Tern) → ℕ → List Te
 HoldsAll raw start rows t cells = (v : ℕ) → IsDefined raw v → Holds raw start rows t cells v
 
 -- a value for each latch at frame t
-pub record AreStates (raw : Raw) (start : List Tern) (rows : List (List Tern)) (t : ℕ) (states : List Tern) : Type 0 where
+pub record AreStates (raw : Raw) (start : List Tern) (rows : List (List Tern)) (t : ℕ) (states : List Tern) : Type
+    0 where
   pub each : AllZip (λ x w. Value raw start rows t x.lit w) raw.latches states

@@ -1,4 +1,5 @@
 -- A row of cells by literal (our own choice).
+-- Example: the cells 0, x by literal are 0, 1, x, x.
 use Rattle.std.specs.Prelude.{List, [], ◌∷◌}
 use Rattle.aig_parts.specs.declared.ternary.Tern.{Tern}
 use Rattle.aig_parts.specs.Ternary.{kleene_not}

@@ -1,4 +1,5 @@
 -- Rows with cells after those of their variables: room for variables that come later.
+-- Example: 0, 1, x, x is a row for two variables with room for four.
 use Rattle.std.specs.Prelude.{◌≡◌, ℕ, ◌+◌, ◌-◌, ◌<◌, ◌≤◌, Bool, List, ◌++◌, length, drop, replicate, All}
 use Rattle.aig_parts.specs.Formed.{limit}
 use Rattle.aig_parts.specs.declared.ternary.Tern.{Tern}

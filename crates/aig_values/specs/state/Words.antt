@@ -1,4 +1,5 @@
 -- Cells of two bits, side by side, four cells a word of one byte.
+-- Example: a word that ends in the bits 011100 begins with the cells 0, 1, x.
 use Rattle.std.specs.Prelude.{ℕ, ◌*◌, ◌/◌, ◌^◌, ◌<◌, List, [], ◌∷◌, ◌++◌, map}
 use Rattle.std.specs.Int.Bits.{bit_and}
 use Rattle.std.specs.List.{range_with_len}

@@ -4,7 +4,8 @@ use Rattle.aig_commands.specs.declared.certified.Purpose.TheVariants as purposes
 use Rattle.aig_commands.specs.Refute.{IsFileNeverReached, RefutesInduction}
 use Rattle.aig_terminal.specs.declared.part.Part.TheVariants as parts
 use Rattle.aig.specs.Ends.{Ends, as_meant, end_of}
-use Rattle.aig.proofs.Endings.{answers, of_any, of_any_two, of_both, of_whole, slice_whole, ends_unread, no_end, ok_of, ok_whole}
+use Rattle.aig.proofs.Endings.{answers, of_any, of_any_two, of_both, of_whole, slice_whole, ends_unread, no_end, ok_of}
+use Rattle.aig.proofs.Endings.{ok_whole}
 use Rattle.aig.proofs.certificates.refute_certified.Goals as goal
 
 pub returns-clause-unreachable : goal.returns-clause-unreachable

@@ -8,7 +8,8 @@ use Rattle.aig_run.proofs.Written.{ends_map, got_none}
 use Rattle.aig_run.specs.Command.{CommandEnds}
 use Rattle.aig_run.specs.declared.run_fault.RunFault.TheVariants as run_faults
 use Rattle.aig_sat.specs.model.ModelText.{IsModelOf}
-use Rattle.aig_commands.specs.ModelWitness.{RefusesModel, WritesModel, WritesNamed, no_formula, no_model, names, variable_count}
+use Rattle.aig_commands.specs.ModelWitness.{RefusesModel, WritesModel, WritesNamed, no_formula, no_model, names}
+use Rattle.aig_commands.specs.ModelWitness.{variable_count}
 use Rattle.aig_commands.proofs.model_witness.read_model_and_write.Goals as goal
 
 pub returns : goal.returns

@@ -1,4 +1,5 @@
-use Rattle.std.proofs.Common.{◌≡◌, ◌+◌, ◌++◌, ◌∷◌, [], List, length, Option, Some, refl, sym, ap, ◌∙◌, subst, arith, rules}
+use Rattle.std.proofs.Common.{◌≡◌, ◌+◌, ◌++◌, ◌∷◌, [], List, length, Option, Some, refl, sym, ap, ◌∙◌, subst, arith}
+use Rattle.std.proofs.Common.{rules}
 use Rattle.std.proofs.lemmas.List.{length_push}
 use Rattle.aig_sat.specs.declared.proof.spelling.Spelling.{Spelling}
 use Rattle.aig_sat.specs.declared.proof.step.StepKind.{StepKind}

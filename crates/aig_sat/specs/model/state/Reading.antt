@@ -32,7 +32,8 @@ GoesOnLine old new piece b =
 
 -- the text was read up to a place, where the LF counts that ends its last line
 abbrev pub ReadUpTo : Reader → List ℕ → ℕ → Type 0
-ReadUpTo reader text at = (at ≤ length text + 1) × ((literals : List ℕ) × HasRead reader (take at (text ++ 10 ∷ [])) literals)
+ReadUpTo reader text at =
+    (at ≤ length text + 1) × ((literals : List ℕ) × HasRead reader (take at (text ++ 10 ∷ [])) literals)
 
 -- a byte by which such a line begins
 abbrev pub IsAnswerByte : ℕ → Type 0

@@ -1,5 +1,6 @@
 -- What a call takes of the bytes of a proof.
-use Rattle.std.specs.Prelude.{◌≡◌, ◌≢◌, ◌⊎◌, ℕ, ◌+◌, ◌*◌, ◌-◌, ◌<◌, ◌≤◌, All, decimal, Bool, true, false, List, [], ◌∷◌, ◌++◌, length, take, drop, Option, Some, None}
+use Rattle.std.specs.Prelude.{◌≡◌, ◌≢◌, ◌⊎◌, ℕ, ◌+◌, ◌*◌, ◌-◌, ◌<◌, ◌≤◌, All, decimal, Bool, true, false, List, [], ◌∷◌}
+use Rattle.std.specs.Prelude.{◌++◌, length, take, drop, Option, Some, None}
 use Rattle.std.specs.Option.{IsSomeAnd}
 use Rattle.aig_bytes.specs.Bytes.{before, IsAtEnd}
 use Rattle.aig_parts.specs.Literal.{variable}
@@ -9,7 +10,8 @@ use Rattle.aig_sat.specs.declared.proof.step.StepKind.{StepKind}
 use Rattle.aig_sat.specs.model.ModelText.{IsSpace, number_text}
 use Rattle.aig_sat.specs.proof.ProofText.{EndsStep, Gap, IsBlank, SpellsClause, SpellsStep, last_byte}
 use Rattle.aig_sat.specs.proof.ProofBytes.{Groups, SpellsBinaryStep, SpellsLiterals, first_byte}
-use Rattle.aig_sat.specs.proof.Steps.{AreRenamed, BinaryStepToCome, Block, StepToCome, TakesText, text_to_come, bytes_to_come}
+use Rattle.aig_sat.specs.proof.Steps.{AreRenamed, BinaryStepToCome, Block, StepToCome, TakesText, text_to_come}
+use Rattle.aig_sat.specs.proof.Steps.{bytes_to_come}
 
 -- the bytes from start to end
 abbrev pub held : ℕ → ℕ → List ℕ → List ℕ
@@ -44,12 +46,14 @@ digits_of (Some d) = (48 + d) ∷ []
 
 -- what was taken is a literal and a space, or the 0 of a step and what follows it
 abbrev pub LeadsWord : Bool → ℕ → List ℕ → Option ℕ → Type 0
-LeadsWord is_first previous' taken (Some l) = (variable l < 2147483647) × IsSpace previous' × (taken ≡ number_text l ++ previous' ∷ [])
+LeadsWord is_first previous' taken (Some l) =
+    (variable l < 2147483647) × IsSpace previous' × (taken ≡ number_text l ++ previous' ∷ [])
 LeadsWord is_first previous' taken None = (ends : List ℕ) × EndsStep is_first ends × (taken ≡ 48 ∷ ends)
 
 -- what was taken is a literal, or the end of a clause
 abbrev pub LeadsClause : Bool → ℕ → ℕ → List ℕ → Option ℕ → Type 0
-LeadsClause is_first previous previous' taken (Some l) = (rest clause : List ℕ) → SpellsClause is_first previous' rest clause
+LeadsClause is_first previous previous' taken (Some l) =
+    (rest clause : List ℕ) → SpellsClause is_first previous' rest clause
     → SpellsClause is_first previous (taken ++ rest) (l ∷ clause)
 LeadsClause is_first previous previous' taken None = SpellsClause is_first previous taken []
 
@@ -60,7 +64,8 @@ LeadsStep is_first previous previous' taken kind = (rest clause : List ℕ) → 
 
 -- the same of the binary form
 abbrev pub LeadsLiterals : List ℕ → Option ℕ → Type 0
-LeadsLiterals taken (Some l) = (rest clause : List ℕ) → SpellsLiterals rest clause → SpellsLiterals (taken ++ rest) (l ∷ clause)
+LeadsLiterals taken (Some l) =
+    (rest clause : List ℕ) → SpellsLiterals rest clause → SpellsLiterals (taken ++ rest) (l ∷ clause)
 LeadsLiterals taken None = SpellsLiterals taken []
 
 -- one where the literal is negated
@@ -106,7 +111,8 @@ Begins Binary old new left left' (Some kind) = TakesBytes old new left left' (fi
 Begins Binary old new left left' None = IsAtEnd (bytes_to_come old left)
 
 -- a step was taken, or there is none
-abbrev pub GoesOn : Spelling → Bool → ℕ → Block → Block → Option (List ℕ) → Option (List ℕ) → List ℕ → Option StepKind → Type 0
+abbrev pub GoesOn : Spelling → Bool → ℕ → Block → Block → Option (List ℕ) → Option (List ℕ) → List ℕ → Option StepKind
+    → Type 0
 GoesOn Text is_first formula old new left left' clause (Some kind) = (taken : List ℕ) × (spelled : List ℕ)
     × SpellsStep is_first old.previous taken kind spelled × AreRenamed formula spelled clause
     × TakesText old new left left' taken
@@ -136,7 +142,8 @@ IsUnfinished previous bytes = (line : List ℕ) × (previous ≡ 10) × All (λ 
 -- the same after what separates
 abbrev pub EndsUnfinished : ℕ → List ℕ → Type 0
 EndsUnfinished previous bytes =
-    (gap : List ℕ) × (rest : List ℕ) × Gap previous gap × IsUnfinished (last_byte previous gap) rest × (bytes ≡ gap ++ rest)
+    (gap : List ℕ) × (rest : List ℕ) × Gap previous gap × IsUnfinished (last_byte previous gap) rest
+    × (bytes ≡ gap ++ rest)
 
 -- the rest of a line that is blank
 abbrev pub LineToCome : List ℕ → Type 0

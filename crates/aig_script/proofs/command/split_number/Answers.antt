@@ -3,7 +3,8 @@ use Rattle.std.specs.Fmt.{decimal}
 use Rattle.std.proofs.lemmas.Fmt.{decimal_nonempty}
 use Rattle.std.proofs.lemmas.List.{drop_more}
 use Rattle.aig_script.proofs.Fields.{on_none}
-use Rattle.aig_script.proofs.Digits.{is_digit, is_no_digit, digit_in_front, one_in_front, zero_in_front, leading_zero, some_such, none_such}
+use Rattle.aig_script.proofs.Digits.{is_digit, is_no_digit, digit_in_front, one_in_front, zero_in_front, leading_zero}
+use Rattle.aig_script.proofs.Digits.{some_such, none_such}
 use Rattle.aig_script.proofs.command.split_number.Goals as goal
 
 pub returns-in_err-first-clause-none : goal.returns-in_err-first-clause-none

@@ -1,5 +1,6 @@
 use Rattle.std.proofs.Common.{take, refl, arith}
-use Rattle.aig_script.proofs.ReplyLemmas.{on_ok_from_err, reading_none, reading_more, reading_fails, reading_stops, reading_flushed, reading_unflushed}
+use Rattle.aig_script.proofs.ReplyLemmas.{on_ok_from_err, reading_none, reading_more, reading_fails, reading_stops}
+use Rattle.aig_script.proofs.ReplyLemmas.{reading_flushed, reading_unflushed}
 use Rattle.aig_script.proofs.script.answer_lines.Goals as goal
 use Rattle.aig_parts.proofs.NamedLemmas.{on_error}
 

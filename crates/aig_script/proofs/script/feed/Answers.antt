@@ -3,7 +3,8 @@ use Rattle.std.proofs.lemmas.List.{take_all, take-append-drop, length-drop}
 use Rattle.std.proofs.Math.Seq.{take-add}
 use Rattle.aig_script.specs.Lines.{whole, lines_from, rest_from}
 use Rattle.aig_script.specs.ScriptLine.{KeepsScriptLine}
-use Rattle.aig_script.proofs.ReplyLemmas.{rest_from-append, whole_from-append, answered_then, answered_same, stopped_then, stopped_same}
+use Rattle.aig_script.proofs.ReplyLemmas.{rest_from-append, whole_from-append, answered_then, answered_same}
+use Rattle.aig_script.proofs.ReplyLemmas.{stopped_then, stopped_same}
 use Rattle.aig_script.proofs.script.feed.Goals as goal
 use Rattle.aig_parts.proofs.NamedLemmas.{on_error}
 

@@ -2,7 +2,8 @@ use Rattle.std.proofs.Common.{◌<◌, length, arith, ap, ◌∙◌}
 use Rattle.aig_bench.specs.BenchState.{CircuitAndRows}
 use Rattle.aig_bench.specs.Edit.{drop_frame}
 use Rattle.aig_shell.proofs.Allowed.{drop_allowed}
-use Rattle.aig_shell.proofs.Leading.{leads_one, leads_step, leads_none, repeated_next, repeated_end, rows_less, rows_there}
+use Rattle.aig_shell.proofs.Leading.{leads_one, leads_step, leads_none, repeated_next, repeated_end, rows_less}
+use Rattle.aig_shell.proofs.Leading.{rows_there}
 use Rattle.aig_shell.proofs.edits.drop_frames.Goals as goal
 
 pub loop-dropped-preserved : goal.loop-dropped-preserved

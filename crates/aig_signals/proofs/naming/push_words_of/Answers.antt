@@ -1,7 +1,8 @@
 use Rattle.std.proofs.Common.{List, ℕ, [], ◌∷◌, ◌++◌, get_or, refl, sym, ap, ◌∙◌, arith, append_assoc}
 use Rattle.std.proofs.lemmas.List.Elements.{Contains-get_or}
 use Rattle.aig_signals.specs.Naming.{signal_word}
-use Rattle.aig_signals.proofs.NamingLemmas.{number_within, signal_within, words_start, words_skipped, words_written, words_done}
+use Rattle.aig_signals.proofs.NamingLemmas.{number_within, signal_within, words_start, words_skipped, words_written}
+use Rattle.aig_signals.proofs.NamingLemmas.{words_done}
 use Rattle.aig_signals.proofs.naming.push_words_of.Goals as goal
 
 pub loop-place-init : goal.loop-place-init

@@ -1,5 +1,6 @@
 use Rattle.std.proofs.Common.{◌+◌, arith}
-use Rattle.aig_unroll.proofs.InputMapLines.{partly_none, partly_more, partly_stops, partly_done, frame_start, frame_step, frame_end}
+use Rattle.aig_unroll.proofs.InputMapLines.{partly_none, partly_more, partly_stops, partly_done, frame_start}
+use Rattle.aig_unroll.proofs.InputMapLines.{frame_step, frame_end}
 use Rattle.aig_unroll.proofs.input_map.write_frame.Goals as goal
 
 pub loop-input-init : goal.loop-input-init

@@ -1,5 +1,6 @@
 use Rattle.std.proofs.Common.{refl, arith}
-use Rattle.aig_unroll.proofs.InputMapLines.{partly_none, partly_more, partly_stops, partly_done, starts_step, starts_next, starts_end}
+use Rattle.aig_unroll.proofs.InputMapLines.{partly_none, partly_more, partly_stops, partly_done, starts_step}
+use Rattle.aig_unroll.proofs.InputMapLines.{starts_next, starts_end}
 use Rattle.aig_unroll.proofs.input_map.write_starts.Goals as goal
 
 pub loop-place-init : goal.loop-place-init

@@ -5,7 +5,8 @@ use Rattle.aig_base.proofs.lists.Gets.{Contains-from_get}
 use Rattle.aig_why.specs.state.Naming.{StartsBy}
 use Rattle.aig_why.proofs.StartLemmas.{AreFound, found_none, found_push, found_same}
 use Rattle.aig_why.proofs.lines.latches_that_start.Goals as goal
-use Rattle.aig_why.proofs.lines.latches_that_start.Goals.{then-starts_by_reset-by_reset+in_ok-push, else-starts_by_reset-by_reset}
+use Rattle.aig_why.proofs.lines.latches_that_start.Goals.{then-starts_by_reset-by_reset+in_ok-push}
+use Rattle.aig_why.proofs.lines.latches_that_start.Goals.{else-starts_by_reset-by_reset}
 
 pub loop-position-init : goal.loop-position-init
 loop-position-init g c =

@@ -5,7 +5,8 @@ use Rattle.aig_parts.specs.Literal.{variable}
 use Rattle.aig_base.proofs.circuits.Gates.{defined_in_range}
 use Rattle.aig_base.proofs.rewires.LevelSteps.{left_step}
 use Rattle.aig_base.proofs.fan_outs.ListedReaders.{list_within}
-use Rattle.aig_base.proofs.rewires.Passes.{changed_fits, gate_within, passed_first, passed_more, passed_all, popped_fits}
+use Rattle.aig_base.proofs.rewires.Passes.{changed_fits, gate_within, passed_first, passed_more, passed_all}
+use Rattle.aig_base.proofs.rewires.Passes.{popped_fits}
 use Rattle.aig_base.proofs.rewires.Passes.{popped_gate, popped_room, popped_sides, popped_size, popped_within}
 use Rattle.aig_base.specs.Readers.{list_of}
 use Rattle.aig_base.proofs.level.renewal.renew.Goals as goal

@@ -1,7 +1,8 @@
 use Rattle.std.proofs.Common.{◌≤◌, inl, inr, arith}
 use Rattle.aig_base.proofs.circuits.Gates.{gate_in_range}
 use Rattle.aig_base.proofs.fan_outs.ListedReaders.{list_within}
-use Rattle.aig_base.proofs.rewires.Searches.{element, next_within, searched_none, searched_found, searched_more, searched_all}
+use Rattle.aig_base.proofs.rewires.Searches.{element, next_within, searched_none, searched_found, searched_more}
+use Rattle.aig_base.proofs.rewires.Searches.{searched_all}
 use Rattle.aig_base.proofs.level.transitive_fan_out.search.Goals as goal
 
 pub visit-requires-clause-within : goal.visit-requires-clause-within

@@ -2,7 +2,8 @@ use Rattle.std.proofs.Common.{◌≡◌, ◌≢◌, ◌∙◌, ℕ, List, Some, 
 use Rattle.std.proofs.lemmas.Option.{slice_get_within}
 use Rattle.aig_base.specs.Readers.{GateList}
 use Rattle.aig_base.specs.state.ReaderSlots.{items_at}
-use Rattle.aig_base.proofs.fan_outs.ListPlaceLemmas.{count_none, follows_removed, length_removed, moved_within, takes_none}
+use Rattle.aig_base.proofs.fan_outs.ListPlaceLemmas.{count_none, follows_removed, length_removed, moved_within}
+use Rattle.aig_base.proofs.fan_outs.ListPlaceLemmas.{takes_none}
 use Rattle.aig_base.proofs.fan_outs.ReaderLists.{items_with, loses_at}
 use Rattle.aig_base.proofs.readers.fan_out_lists.take_out_of.Goals as goal
 

@@ -1,5 +1,6 @@
 use Rattle.std.proofs.Common.{◌+◌, ◌∙◌, [], sym, ap, length}
-use Rattle.aig_base.proofs.renumbered.Renumberings.{nothing, input_variable, latch_renumbered, gate_not_yet, free_variable}
+use Rattle.aig_base.proofs.renumbered.Renumberings.{nothing, input_variable, latch_renumbered, gate_not_yet}
+use Rattle.aig_base.proofs.renumbered.Renumberings.{free_variable}
 use Rattle.aig_base.proofs.renumbering.table.source_variable.Goals as goal
 
 pub returns-in-Some-Input : goal.returns-in-Some-Input

@@ -2,7 +2,8 @@ use Rattle.std.proofs.Common.{arith, refl, ◌∙◌, ◌<◌, ◌≤◌, ◌+�
 use Rattle.aig_parts.specs.Limits.{cell_limit, frame_limit}
 use Rattle.aig_bench.proofs.renewals.Engines.{held}
 use Rattle.aig_bench.proofs.renewals.Changed.{room_added, driven_added, current_added, laid_out_added}
-use Rattle.aig_bench.proofs.edits.Edited.{work_for, before_first, added_current, added_touched, added_changed, frames_more, lists_for}
+use Rattle.aig_bench.proofs.edits.Edited.{work_for, before_first, added_current, added_touched, added_changed}
+use Rattle.aig_bench.proofs.edits.Edited.{frames_more, lists_for}
 use Rattle.aig_bench.proofs.bench.Bench.add_frame.Goals as goal
 
 pub add_row-requires-clause-limit : goal.add_row-requires-clause-limit

@@ -4,7 +4,8 @@ use Rattle.aig_parts.specs.Literal.{variable}
 use Rattle.aig_base.proofs.circuits.Gates.{defined_in_range}
 use Rattle.aig_bench.proofs.renewals.Engines.{held}
 use Rattle.aig_bench.proofs.growing.Grown.{new_flag}
-use Rattle.aig_bench.proofs.growing.GrownBench.{even_new, grown_changed, grown_touched, last_is, last_level, ready_grown, ready_still}
+use Rattle.aig_bench.proofs.growing.GrownBench.{even_new, grown_changed, grown_touched, last_is, last_level}
+use Rattle.aig_bench.proofs.growing.GrownBench.{ready_grown, ready_still}
 use Rattle.aig_bench.proofs.growing.Lengthened.{readers_longer}
 use Rattle.aig_parts.specs.declared.gate.Gate.{Gate}
 use Rattle.aig_parts.specs.declared.raw.Raw.{Raw}

@@ -7,7 +7,8 @@ use Rattle.aig_bench.specs.state.DrivenCircuit.{pair_of}
 use Rattle.aig_bench.specs.state.Engine.{EngineState, IsSettled}
 use Rattle.aig_bench.specs.state.Renewed.{IsStaleFrom, RenewsAll}
 use Rattle.aig_bench.proofs.renewals.Engines.{held, settled_renewed}
-use Rattle.aig_bench.proofs.edits.Edited.{none_current, all_latches, all_next, all_consistent, all_touched, all_changed, follows_rewire, forces_gate, gate_forced}
+use Rattle.aig_bench.proofs.edits.Edited.{none_current, all_latches, all_next, all_consistent, all_touched, all_changed}
+use Rattle.aig_bench.proofs.edits.Edited.{follows_rewire, forces_gate, gate_forced}
 use Rattle.aig_bench.proofs.edits.FourReaders.{passed_fault, no_memory}
 use Rattle.aig_bench.proofs.edits.Refusals.{lacking, rewire_refused, rewire_allowed}
 use Rattle.aig_bench.proofs.edits.Rewired.{driven_rewired}

@@ -1,5 +1,6 @@
 use Rattle.std.proofs.Common.{refl, rules, arith}
-use Rattle.aig_bench.proofs.edits.Edited.{lists_for, bit_latches, bit_next, bit_before, bit_consistent, bit_here, bit_stale, bit_below, bit_touched, bit_changed}
+use Rattle.aig_bench.proofs.edits.Edited.{lists_for, bit_latches, bit_next, bit_before, bit_consistent, bit_here}
+use Rattle.aig_bench.proofs.edits.Edited.{bit_stale, bit_below, bit_touched, bit_changed}
 use Rattle.aig_bench.proofs.renewals.Engines.{held, settled_renewed}
 use Rattle.aig_bench.proofs.bench.Bench.set_bit.Goals as goal
 

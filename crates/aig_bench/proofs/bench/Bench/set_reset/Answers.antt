@@ -6,7 +6,8 @@ use Rattle.aig_bench.specs.BenchState.{CircuitAndRows}
 use Rattle.aig_bench.specs.state.DrivenCircuit.{pair_of}
 use Rattle.aig_bench.proofs.renewals.Engines.{held, settled_renewed}
 use Rattle.aig_bench.proofs.renewals.Changed.{driven_restarted, laid_out_restarted, levels_restarted, readers_restarted}
-use Rattle.aig_bench.proofs.edits.Edited.{all_latches, all_next, other_start, work_for, none_current, all_consistent, all_touched, all_changed, follows_reset, forces_none, none_forced}
+use Rattle.aig_bench.proofs.edits.Edited.{all_latches, all_next, other_start, work_for, none_current, all_consistent}
+use Rattle.aig_bench.proofs.edits.Edited.{all_touched, all_changed, follows_reset, forces_none, none_forced}
 use Rattle.aig_bench.proofs.carries.LatchChains.{latches_reset, readers_reset}
 use Rattle.aig_bench.proofs.edits.Named.{latch_at_named}
 use Rattle.aig_bench.proofs.edits.Refusals.{refused, reset_allowed}

@@ -1,4 +1,5 @@
-use Rattle.std.proofs.Common.{◌≡◌, ◌≢◌, ◌⊎◌, ◌↔◌, ◌∙◌, ◌-◌, ◌<◌, inl, inr, ℕ, suc, true, Bool, List, Some, slice_get, refl, rules, ap, subst, arith}
+use Rattle.std.proofs.Common.{◌≡◌, ◌≢◌, ◌⊎◌, ◌↔◌, ◌∙◌, ◌-◌, ◌<◌, inl, inr, ℕ, suc, true, Bool, List, Some, slice_get}
+use Rattle.std.proofs.Common.{refl, rules, ap, subst, arith}
 use Rattle.std.proofs.lemmas.Bool.{cases_eq}
 use Rattle.std.proofs.lemmas.Option.{slice_get_within}
 use Rattle.aig_values.proofs.Evaluation.{item_at}

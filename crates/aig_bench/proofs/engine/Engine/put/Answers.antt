@@ -3,7 +3,9 @@ use Rattle.aig_base.specs.Grounded.{IsSource}
 use Rattle.aig_base.specs.Readers.{ReadsVariable}
 use Rattle.aig_bench.specs.BenchState.{HasValue}
 use Rattle.aig_bench.specs.state.Engine.{EngineState}
-use Rattle.aig_bench.proofs.passes.Puts.{queued_kept, put_moves, put_others, put_next_latches, put_next_latches_none, in_range, inside_flags, inside_readers, no_gate, put_work, source_readers_fit, source_linked, queued_put, not_the_value}
+use Rattle.aig_bench.proofs.passes.Puts.{queued_kept, put_moves, put_others, put_next_latches, put_next_latches_none}
+use Rattle.aig_bench.proofs.passes.Puts.{in_range, inside_flags, inside_readers, no_gate, put_work, source_readers_fit}
+use Rattle.aig_bench.proofs.passes.Puts.{source_linked, queued_put, not_the_value}
 use Rattle.aig_bench.proofs.engine.Engine.put.Goals as goal
 
 pub get-before-requires-clause-variable : goal.get-before-requires-clause-variable

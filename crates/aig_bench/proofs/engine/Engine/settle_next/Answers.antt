@@ -3,7 +3,10 @@ use Rattle.std.proofs.lemmas.Bool.{false≢true}
 use Rattle.aig_bench.specs.state.Buckets.{TakesVariable}
 use Rattle.aig_bench.specs.state.Engine.{EngineState}
 use Rattle.aig_bench.proofs.queues.Queued.{queued_count_less}
-use Rattle.aig_bench.proofs.passes.SweepSteps.{taken_gate, taken_cells, taken_work, queued_less, was_queued, queued_no_more, level_is, readers_fit, linked_work, linked_less, linked_no_more, written_work, sweeps_changed, sweeps_same, next_latches_changed, next_latches_unchanged, other_rows, taken_in_range}
+use Rattle.aig_bench.proofs.passes.SweepSteps.{taken_gate, taken_cells, taken_work, queued_less, was_queued}
+use Rattle.aig_bench.proofs.passes.SweepSteps.{queued_no_more, level_is, readers_fit, linked_work, linked_less}
+use Rattle.aig_bench.proofs.passes.SweepSteps.{linked_no_more, written_work, sweeps_changed, sweeps_same}
+use Rattle.aig_bench.proofs.passes.SweepSteps.{next_latches_changed, next_latches_unchanged, other_rows, taken_in_range}
 use Rattle.aig_bench.proofs.engine.Engine.settle_next.Goals as goal
 
 pub evaluate-changed-requires-clause-gate : goal.evaluate-changed-requires-clause-gate

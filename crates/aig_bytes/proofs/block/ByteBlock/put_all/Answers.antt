@@ -1,6 +1,7 @@
 use Rattle.std.proofs.Common.{ℕ, drop, arith, length-drop}
 use Rattle.std.proofs.lemmas.List.{length-take, take-append-drop, take_all}
-use Rattle.aig_bytes.proofs.GatherLemmas.{gathers_then, gathers_not_forwarded, gathers_held, gathers_same, gathers_more, gathers_straight, gathers_ok}
+use Rattle.aig_bytes.proofs.GatherLemmas.{gathers_then, gathers_not_forwarded, gathers_held, gathers_same, gathers_more}
+use Rattle.aig_bytes.proofs.GatherLemmas.{gathers_straight, gathers_ok}
 use Rattle.aig_bytes.proofs.block.ByteBlock.put_all.Goals as goal
 
 pub loop-at-init : goal.loop-at-init

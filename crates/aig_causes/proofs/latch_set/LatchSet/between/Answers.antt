@@ -1,4 +1,5 @@
-use Rattle.std.proofs.Common.{◌≡◌, ◌≤◌, ◌+◌, ◌∷◌, ◌++◌, [], ℕ, Some, true, false, slice_get, ap, sym, subst, ◌∙◌, refl, arith}
+use Rattle.std.proofs.Common.{◌≡◌, ◌≤◌, ◌+◌, ◌∷◌, ◌++◌, [], ℕ, Some, true, false, slice_get, ap, sym, subst, ◌∙◌, refl}
+use Rattle.std.proofs.Common.{arith}
 use Rattle.std.proofs.lemmas.Option.{slice_get_read}
 use Rattle.aig_causes.specs.Explanation.{AreNamedBetween, IsNamed}
 use Rattle.aig_causes.proofs.LatchSets.{between_more, between_on}

@@ -1,4 +1,5 @@
-use Rattle.std.proofs.Common.{Global, Vec, ◌≡◌, ◌-◌, ◌∷◌, ◌++◌, [], inl, inr, ℕ, List, Contains, Some, slice_get, length, refl, sym, ap, ◌∙◌, subst, arith}
+use Rattle.std.proofs.Common.{Global, Vec, ◌≡◌, ◌-◌, ◌∷◌, ◌++◌, [], inl, inr, ℕ, List, Contains, Some, slice_get}
+use Rattle.std.proofs.Common.{length, refl, sym, ap, ◌∙◌, subst, arith}
 use Rattle.std.proofs.lemmas.Bool.{cases_eq}
 use Rattle.std.proofs.lemmas.List.Elements.{Contains-append_left, Contains-push, Contains-push_cases}
 use Rattle.std.proofs.lemmas.Option.{slice_get_within}

@@ -2,7 +2,8 @@ use Rattle.std.proofs.Common.{ℕ, ◌*◌, List, length, sym, ◌∙◌, ap, su
 use Rattle.aig_parts.specs.declared.raw.Raw.{Raw}
 use Rattle.aig_unroll.specs.Answers.{IsUnrolled}
 use Rattle.aig_cnf.specs.Formula.{gates_for}
-use Rattle.aig_cnf.proofs.GoalLemmas.{goals_in_range, has_formula, is_formula, keeps, refused, starts_of, subject_bad, unrolled_bad}
+use Rattle.aig_cnf.proofs.GoalLemmas.{goals_in_range, has_formula, is_formula, keeps, refused, starts_of, subject_bad}
+use Rattle.aig_cnf.proofs.GoalLemmas.{unrolled_bad}
 use Rattle.aig_cnf.proofs.formula.Formula.of.Goals as goal
 
 pub goals_of-requires-clause-bad : goal.goals_of-requires-clause-bad

@@ -1,6 +1,7 @@
 use Rattle.std.proofs.Common.{◌≡◌, ℕ, ◌-◌, ◌+◌, ◌*◌, ◌∙◌, sym, ap, refl, rules, arith}
 use Rattle.std.proofs.lemmas.Nat.{mul-le}
-use Rattle.aig_format.proofs.Deltas.{number_first, number_cut, number_last, number_more, number_over, fits_worth, worth_more}
+use Rattle.aig_format.proofs.Deltas.{number_first, number_cut, number_last, number_more, number_over, fits_worth}
+use Rattle.aig_format.proofs.Deltas.{worth_more}
 use Rattle.aig_format.proofs.Keeping.{keeps_step, keeps_reads}
 use Rattle.aig_format.proofs.reader.delta.groups.Goals as goal
 

@@ -1,7 +1,8 @@
 use Rattle.std.proofs.Common.{suc, ◌+◌, ◌<◌, List, ◌∷◌, length, slice_get, refl, sym, ap, ◌∙◌, arith}
 use Rattle.std.proofs.lemmas.Bool.{false≢true}
 use Rattle.aig_parts.specs.declared.latch.Latch.{Latch}
-use Rattle.aig_reduce.proofs.Clearings.{clearing_at, clearing_fixed, clearing_named, clearing_x, item_there, runs_length, start_within}
+use Rattle.aig_reduce.proofs.Clearings.{clearing_at, clearing_fixed, clearing_named, clearing_x, item_there}
+use Rattle.aig_reduce.proofs.Clearings.{runs_length, start_within}
 use Rattle.aig_reduce.proofs.NeededTries.{clearing_needed}
 use Rattle.aig_reduce.proofs.reducer.Reducer.clear_at.Goals as goal
 

@@ -1,6 +1,8 @@
 use Rattle.std.proofs.Common.{◌≡◌, ◌-◌, ◌∷◌, ◌∙◌, length, sym, ap, arith}
-use Rattle.aig_sat.proofs.models.DigitLemmas.{at_least, decimal_head, is_digit, is_no_digit, no_digits, one_in_front, some_such}
-use Rattle.aig_sat.proofs.model.number.positive_number.Goals.{then-not-is_ascii_digit-via-then-not-is_ascii_digit, then-not-is_ascii_digit-via-else-not-is_ascii_digit+then-first-eq48}
+use Rattle.aig_sat.proofs.models.DigitLemmas.{at_least, decimal_head, is_digit, is_no_digit, no_digits, one_in_front}
+use Rattle.aig_sat.proofs.models.DigitLemmas.{some_such}
+use Rattle.aig_sat.proofs.model.number.positive_number.Goals.{then-not-is_ascii_digit-via-then-not-is_ascii_digit}
+use Rattle.aig_sat.proofs.model.number.positive_number.Goals.{then-not-is_ascii_digit-via-else-not-is_ascii_digit+then-first-eq48}
 use Rattle.aig_sat.proofs.model.number.positive_number.Goals as goal
 
 pub returns-clause-spelled : goal.returns-clause-spelled

@@ -5,7 +5,8 @@ use Rattle.aig_sat.proofs.reading.TextRefusals.{addition_goes_on, deletion_goes_
 use Rattle.std.proofs.Common.{◌∙◌, ◌++◌, ◌∷◌, [], ℕ, sym, ap, subst, Option, slice_get, ◌≡◌}
 use Rattle.std.proofs.lemmas.List.{append-nil}
 use Rattle.aig_sat.specs.proof.state.Taking.{LeadsGap}
-use Rattle.aig_sat.proofs.reading.TakingLemmas.{gap_whole, nothing_shown, shown, step_adds, step_deletes, text_as, text_at_end, text_step, text_then}
+use Rattle.aig_sat.proofs.reading.TakingLemmas.{gap_whole, nothing_shown, shown, step_adds, step_deletes, text_as}
+use Rattle.aig_sat.proofs.reading.TakingLemmas.{text_at_end, text_step, text_then}
 use Rattle.aig_sat.proofs.proof.text.text_kind.Goals as goal
 
 pub returns-then-byte-eq100-clause-kind : goal.returns-then-byte-eq100-clause-kind

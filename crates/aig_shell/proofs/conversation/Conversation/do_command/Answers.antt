@@ -1,6 +1,7 @@
 use Rattle.std.proofs.Common.{Ok, refl}
 use Rattle.aig_shell.specs.declared.conversation.Next.TheVariants.{GoesOn}
-use Rattle.aig_shell.proofs.Lines.{request_is, query_answered, query_refused, edit_answered, edit_refused, export_answered, export_refused, quit_answered, quit_refused}
+use Rattle.aig_shell.proofs.Lines.{request_is, query_answered, query_refused, edit_answered, edit_refused}
+use Rattle.aig_shell.proofs.Lines.{export_answered, export_refused, quit_answered, quit_refused}
 use Rattle.aig_shell.proofs.conversation.Conversation.do_command.Goals as goal
 
 pub returns-in_ok-ask-in-Query-clause-request : goal.returns-in_ok-ask-in-Query-clause-request

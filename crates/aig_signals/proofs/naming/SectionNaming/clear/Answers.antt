@@ -1,11 +1,13 @@
-use Rattle.std.proofs.Common.{◌≡◌, ℕ, List, [], Some, None, Option, length, get_or, replicate, ap, subst, sym, ◌∙◌, arith}
+use Rattle.std.proofs.Common.{◌≡◌, ℕ, List, [], Some, None, Option, length, get_or, replicate, ap, subst, sym, ◌∙◌}
+use Rattle.std.proofs.Common.{arith}
 use Rattle.std.specs.Prelude.{slice_get}
 use Rattle.std.proofs.lemmas.List.{nil_from_length, with_items_is}
 use Rattle.aig_parts.specs.declared.ternary.Tern.{Tern}
 use Rattle.aig_signals.specs.declared.signal.Signal.{Signal}
 use Rattle.aig_signals.specs.Naming.{SectionNamed}
 use Rattle.aig_signals.specs.state.Naming.{AreNeighbours}
-use Rattle.aig_signals.proofs.NamingLemmas.{EachIsNamed, all_cleared, all_front, cleared_naming, each_front, each_more, numbers_within, signal_within}
+use Rattle.aig_signals.proofs.NamingLemmas.{EachIsNamed, all_cleared, all_front, cleared_naming, each_front, each_more}
+use Rattle.aig_signals.proofs.NamingLemmas.{numbers_within, signal_within}
 use Rattle.aig_signals.proofs.naming.SectionNaming.clear.Goals as goal
 
 pub loop-number-init : goal.loop-number-init

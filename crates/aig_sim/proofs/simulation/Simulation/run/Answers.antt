@@ -3,7 +3,9 @@ use Rattle.aig_bytes.specs.Bytes.{before}
 use Rattle.aig_sim.specs.declared.stimulus.fault.StimFault.TheVariants.{Io}
 use Rattle.aig_sim.specs.state.Running.{Streamed}
 use Rattle.aig_sim.proofs.LineLemmas.{forwarded}
-use Rattle.aig_sim.proofs.SimulationLemmas.{running_none, read_nothing, read_more, so_far_flushed, simulates_flush_failed, simulates_read_failed, simulates_stopped, simulates_end, stopped_for_no_memory}
+use Rattle.aig_sim.proofs.SimulationLemmas.{running_none, read_nothing, read_more, so_far_flushed}
+use Rattle.aig_sim.proofs.SimulationLemmas.{simulates_flush_failed, simulates_read_failed, simulates_stopped}
+use Rattle.aig_sim.proofs.SimulationLemmas.{simulates_end, stopped_for_no_memory}
 use Rattle.aig_sim.proofs.simulation.Simulation.run.Goals as goal
 
 pub loop-reader-init : goal.loop-reader-init

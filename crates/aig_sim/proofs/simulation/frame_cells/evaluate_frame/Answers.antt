@@ -1,4 +1,5 @@
-use Rattle.std.proofs.Common.{◌≡◌, ◌<◌, ℕ, ◌*◌, List, Some, slice_get, slice_set, length, sym, subst, refl, ap₂, ◌∙◌, arith}
+use Rattle.std.proofs.Common.{◌≡◌, ◌<◌, ℕ, ◌*◌, List, Some, slice_get, slice_set, length, sym, subst, refl, ap₂, ◌∙◌}
+use Rattle.std.proofs.Common.{arith}
 use Rattle.aig_parts.specs.declared.ternary.Tern.{Tern}
 use Rattle.aig_parts.specs.declared.gate.Gate.{Gate}
 use Rattle.aig_parts.specs.declared.raw.Raw.{Raw}
@@ -9,7 +10,8 @@ use Rattle.aig_base.specs.Value.{Value}
 use Rattle.aig_values.specs.Cells.{gate_value}
 use Rattle.aig_values.specs.state.Frame.{Holds, HoldsSources}
 use Rattle.aig_values.specs.GateOrder.{IsGateOrder}
-use Rattle.aig_values.proofs.Evaluation.{item_at, items_more, items_all, renews_none, put_value, gate_value_is, all_hold}
+use Rattle.aig_values.proofs.Evaluation.{item_at, items_more, items_all, renews_none, put_value, gate_value_is}
+use Rattle.aig_values.proofs.Evaluation.{all_hold}
 use Rattle.aig_sim.proofs.simulation.frame_cells.evaluate_frame.Goals as goal
 
 pub loop-gate-preserved : goal.loop-gate-preserved

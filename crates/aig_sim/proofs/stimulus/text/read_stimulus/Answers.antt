@@ -1,4 +1,5 @@
-use Rattle.std.proofs.Common.{◌≡◌, ◌≢◌, ◌-◌, ◌≤◌, ℕ, ◌+◌, ◌++◌, ◌∷◌, [], List, length, length-drop, sym, ap, ◌∙◌, arith, take, drop, get_or, subst}
+use Rattle.std.proofs.Common.{◌≡◌, ◌≢◌, ◌-◌, ◌≤◌, ℕ, ◌+◌, ◌++◌, ◌∷◌, [], List, length, length-drop, sym, ap, ◌∙◌, arith}
+use Rattle.std.proofs.Common.{take, drop, get_or, subst}
 use Rattle.std.proofs.lemmas.List.{take_more, drop_more, take-append-drop, take_all}
 use Rattle.aig_parts.specs.declared.ternary.Tern.{Tern}
 use Rattle.aig_sim.specs.declared.stimulus.row_parser.Shape.{Shape}

@@ -1,6 +1,7 @@
 use Rattle.std.proofs.Common.{◌∙◌, sym, refl, true, false, arith}
 use Rattle.aig_unroll.proofs.FrameSteps.{first_more}
-use Rattle.aig_unroll.proofs.unrolling.parts.first_latches.Goals.{then-is_uninitialised+in_ok-push, else-is_uninitialised+in_ok-push-2}
+use Rattle.aig_unroll.proofs.unrolling.parts.first_latches.Goals.{then-is_uninitialised+in_ok-push}
+use Rattle.aig_unroll.proofs.unrolling.parts.first_latches.Goals.{else-is_uninitialised+in_ok-push-2}
 use Rattle.aig_unroll.proofs.unrolling.parts.first_latches.Goals as goal
 
 pub loop-latch-preserved : goal.loop-latch-preserved

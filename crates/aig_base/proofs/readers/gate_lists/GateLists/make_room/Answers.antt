@@ -2,7 +2,9 @@ use Rattle.std.proofs.Common.{◌<◌, ◌≤◌, length, map, OnErr, subst, sym
 use Rattle.std.proofs.lemmas.List.{length-map}
 use Rattle.aig_base.specs.Readers.{GateList}
 use Rattle.aig_base.specs.state.GateLists.{RoomyLists, far_list, slot_list}
-use Rattle.aig_base.proofs.fan_outs.GateListLemmas.{gets_none, list_was, listed, moved_kept, moved_lists, moved_room, slot_at, slot_few, vec_roomy, written_kept, written_list, written_room}
+use Rattle.aig_base.proofs.fan_outs.GateListLemmas.{gets_none, list_was, listed, moved_kept, moved_lists, moved_room}
+use Rattle.aig_base.proofs.fan_outs.GateListLemmas.{slot_at, slot_few, vec_roomy, written_kept, written_list}
+use Rattle.aig_base.proofs.fan_outs.GateListLemmas.{written_room}
 use Rattle.aig_base.proofs.fan_outs.ReaderLists.{fits_set, on_ok}
 use Rattle.aig_base.proofs.readers.gate_lists.GateLists.make_room.Goals as goal
 

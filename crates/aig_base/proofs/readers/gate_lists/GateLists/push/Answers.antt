@@ -4,7 +4,8 @@ use Rattle.aig_base.specs.declared.readers.gate_lists.Slot.{Slot}
 use Rattle.aig_base.specs.Readers.{GateList}
 use Rattle.aig_base.specs.state.GateLists.{RoomyLists, far_list, near_list, slot_list}
 use Rattle.aig_base.specs.state.ReaderSlots.{FitsOneReader, HasRoom}
-use Rattle.aig_base.proofs.fan_outs.GateListLemmas.{near_kept, near_long, near_view, near_with, slot_at, slot_few, written_kept, written_with}
+use Rattle.aig_base.proofs.fan_outs.GateListLemmas.{near_kept, near_long, near_view, near_with, slot_at, slot_few}
+use Rattle.aig_base.proofs.fan_outs.GateListLemmas.{written_kept, written_with}
 use Rattle.aig_base.proofs.fan_outs.ReaderLists.{fits_within}
 use Rattle.aig_base.proofs.readers.gate_lists.GateLists.push.Goals as goal
 

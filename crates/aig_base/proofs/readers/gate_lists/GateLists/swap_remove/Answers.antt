@@ -3,7 +3,8 @@ use Rattle.std.proofs.lemmas.Option.{same_Some}
 use Rattle.aig_base.specs.declared.readers.gate_lists.Slot.{Slot}
 use Rattle.aig_base.specs.state.GateLists.{RoomyLists, far_list, slot_list}
 use Rattle.aig_base.specs.state.ReaderSlots.{items_at}
-use Rattle.aig_base.proofs.fan_outs.GateListLemmas.{near_kept, near_with, slot_at, slot_few, written_kept, written_with, removed_default}
+use Rattle.aig_base.proofs.fan_outs.GateListLemmas.{near_kept, near_with, slot_at, slot_few, written_kept, written_with}
+use Rattle.aig_base.proofs.fan_outs.GateListLemmas.{removed_default}
 use Rattle.aig_base.proofs.fan_outs.ReaderLists.{items_within}
 use Rattle.aig_base.proofs.readers.gate_lists.GateLists.swap_remove.Goals as goal
 

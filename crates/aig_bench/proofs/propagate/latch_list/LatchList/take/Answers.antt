@@ -1,6 +1,7 @@
 use Rattle.std.proofs.Common.{◌∙◌, arith}
 use Rattle.std.proofs.lemmas.List.{length-set}
-use Rattle.aig_bench.proofs.carries.LatchLists.{list_none, list_first, list_inside, list_inside_marks, list_left, list_taken}
+use Rattle.aig_bench.proofs.carries.LatchLists.{list_none, list_first, list_inside, list_inside_marks, list_left}
+use Rattle.aig_bench.proofs.carries.LatchLists.{list_taken}
 use Rattle.aig_bench.proofs.propagate.latch_list.LatchList.take.Goals as goal
 
 pub returns-then-first-eq0-clause-none : goal.returns-then-first-eq0-clause-none

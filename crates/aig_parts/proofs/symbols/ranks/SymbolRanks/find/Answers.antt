@@ -3,7 +3,8 @@ use Rattle.aig_parts.specs.state.SymbolRanks.{Ranks, number_of}
 use Rattle.aig_parts.proofs.SymbolKeys.{key_same}
 use Rattle.aig_parts.proofs.RankLemmas.{absent_without_place, absent_but_place}
 use Rattle.aig_parts.proofs.symbols.ranks.SymbolRanks.find.Goals as goal
-use Rattle.aig_parts.proofs.symbols.ranks.SymbolRanks.find.Goals.{then-place-eq0-via-then-place-eq0, then-place-eq0-via-else-place-eq0+then-place-entries}
+use Rattle.aig_parts.proofs.symbols.ranks.SymbolRanks.find.Goals.{then-place-eq0-via-then-place-eq0}
+use Rattle.aig_parts.proofs.symbols.ranks.SymbolRanks.find.Goals.{then-place-eq0-via-else-place-eq0+then-place-entries}
 
 pub returns-then-place-eq0-clause-none : goal.returns-then-place-eq0-clause-none
 returns-then-place-eq0-clause-none c =

@@ -1,4 +1,5 @@
-use Rattle.std.proofs.Common.{◌≡◌, ◌≢◌, ◌/◌, ◌<◌, ◌++◌, ◌∷◌, [], ◌∙◌, ℕ, List, length, get_or, set, sym, ap, subst, arith}
+use Rattle.std.proofs.Common.{◌≡◌, ◌≢◌, ◌/◌, ◌<◌, ◌++◌, ◌∷◌, [], ◌∙◌, ℕ, List, length, get_or, set, sym, ap, subst}
+use Rattle.std.proofs.Common.{arith}
 use denote.Enum.Bare.{sameb}
 use Rattle.std.specs.Prelude.{not}
 use Rattle.std.proofs.lemmas.Bool.{false≢true}
@@ -7,7 +8,8 @@ use Rattle.aig_parts.specs.contracts.ternary.Tern.{the_type}
 use Rattle.aig_parts.specs.declared.ternary.Tern.{Tern}
 use Rattle.aig_parts.specs.declared.ternary.Tern.TheVariants.{Zero, One, X}
 use Rattle.aig_sat.specs.model.Named.{AreNamed}
-use Rattle.aig_sat.proofs.models.NamedLemmas.{one_named, zero_named, one_has, zero_has, is_one, is_zero, x_or_one, x_or_zero, even}
+use Rattle.aig_sat.proofs.models.NamedLemmas.{one_named, zero_named, one_has, zero_has, is_one, is_zero, x_or_one}
+use Rattle.aig_sat.proofs.models.NamedLemmas.{x_or_zero, even}
 use Rattle.aig_sat.proofs.model.assignment.Assignment.name.Goals as goal
 
 pub returns-then-is_neg-clause-named : goal.returns-then-is_neg-clause-named

@@ -3,7 +3,8 @@ use Rattle.aig_sim.specs.declared.stimulus.row_parser.Shape.TheVariants.{Row, Lo
 use Rattle.aig_sim.specs.RowParser.{RowParser}
 use Rattle.aig_sim.proofs.LineLemmas.{length_is_wrong}
 use Rattle.aig_sim.proofs.stimulus.row_parser.RowParser.row.Goals as goal
-use Rattle.aig_sim.proofs.stimulus.row_parser.RowParser.row.Goals.{in_default-via-in-Row+else-len-self, in_default-via-in_default}
+use Rattle.aig_sim.proofs.stimulus.row_parser.RowParser.row.Goals.{in_default-via-in-Row+else-len-self}
+use Rattle.aig_sim.proofs.stimulus.row_parser.RowParser.row.Goals.{in_default-via-in_default}
 
 pub returns-in_default-clause-fault : goal.returns-in_default-clause-fault
 returns-in_default-clause-fault c =
