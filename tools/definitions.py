@@ -1,7 +1,8 @@
 #!/usr/bin/env python3
 """Prints which definitions a reader has to believe: those that the contracts of exported functions reach.
 
-Each file of a crate's specs/ has a line: how many of its lines are reached, and of how many. With --names the
+It compares the lists under "Definitions" in the READMEs of the crates with the heads of the files of specs/, and fails
+where they differ; --write writes them. Each file of a crate's specs/ has a line: how many of its lines are reached, and of how many. With --names the
 definitions themselves are listed. It fails where one that is reached is in specs/state/, which is for what proofs alone
 need.
 
@@ -19,10 +20,15 @@ and of the toolchain's crates, and the structs and enums of the sources, which c
 
 import argparse
 import collections
+import re
 import sys
+import textwrap
 
 from sources.exports import Crate, crates
-from sources.specs import ROOT, Specs, words
+from sources.specs import ROOT, Specs, head, words
+
+LIST = re.compile(r"(?ms)^## Definitions\n\n(.*?)(?=^## |\Z)")
+WIDTH = 120
 
 
 def clauses(export):
@@ -90,6 +96,51 @@ def print_files(specs, reached, show):
     return wrong
 
 
+def entry(text):
+    """Returns an entry of a list in lines of the width of a page."""
+    found = textwrap.wrap(text, WIDTH, initial_indent="- ", subsequent_indent="  ", break_long_words=False,
+                          break_on_hyphens=False)
+    return "\n".join(found)
+
+
+def listed(specs, reached, crate):
+    """Returns the list of a crate's definitions: an entry for each file that contracts reach, with the definitions that
+    they reach and the head of the file, and one for all other files. The program exports nothing: all of it is listed."""
+    folder = ROOT / "crates" / crate / "specs"
+    files = {path: keys for path, keys in by_file(specs, specs.table).items() if path.parts[0] == crate}
+    entries, others = [], []
+    for path, keys in files.items():
+        name = path.relative_to(f"{crate}/specs").with_suffix("")
+        here = [f"`{key[2]}`" for key in keys if key in reached or crate not in crates()]
+        text = head(folder.parent.parent / path).replace("Example: ", "*Example*: ").replace("Examples: ", "*Examples*: ")
+        if here:
+            entries.append(entry(f"`{name}` ({', '.join(here)}): {text}"))
+        else:
+            others.append(f"`{name}`")
+    if others:
+        entries.append(entry(f"For the proofs alone: {', '.join(others)}."))
+    return "\n".join(entries) + "\n"
+
+
+def compare_lists(specs, reached, write):
+    """Compares the lists of the READMEs with the sources, or writes them. Returns how many differ. Paragraphs before a
+    list stay as they are."""
+    wrong = 0
+    for path in sorted((ROOT / "crates").glob("*/README.md")):
+        crate, text = path.parent.name, path.read_text(encoding="utf-8")
+        found = LIST.search(text)
+        if not found:
+            continue
+        before = re.match(r"(?s)(?:(?!- ).*?\n\n)*(?=- |\Z)", found[1])[0]
+        section = before + listed(specs, reached, crate) + ("\n" if found.end() < len(text) else "")
+        if section != found[1] and not write:
+            print(f"{path.relative_to(ROOT)}: its definitions are not as the heads of specs/ say (--write)")
+            wrong += 1
+        if write:
+            path.write_text(text[:found.start(1)] + section + text[found.end():], encoding="utf-8")
+    return wrong
+
+
 def with_clause(promises, name, clause):
     """Returns the exports of a name that have a clause, or all of them where no clause is asked for. It ends the script
     where there is none."""
@@ -121,6 +172,7 @@ def print_of(promises, name, clause, given):
 def main():
     reader = argparse.ArgumentParser(description=__doc__, formatter_class=argparse.RawDescriptionHelpFormatter)
     reader.add_argument("--names", action="store_true", help="list the definitions")
+    reader.add_argument("--write", action="store_true", help="write the lists of the READMEs")
     reader.add_argument("--of", metavar="NAME", help="one call, as `convert`, `Bench::rewire` or `aig_refute::check`")
     reader.add_argument("--clause", help="with --of: one clause of the call")
     reader.add_argument("--given", metavar="NAME[.CLAUSE]", help="with --of: without what this call or clause rests on")
@@ -134,9 +186,10 @@ def main():
     specs = promises.specs
     reached = set().union(*(promises.believed(it) for it in promises.exports))
     wrong = print_files(specs, reached, chosen.names)
+    differ = compare_lists(specs, reached, chosen.write)
     print(f"{specs.lines(reached)} lines of {specs.lines(specs.table)} to believe, of {len(reached)} definitions; "
           f"{wrong} in the wrong folder")
-    return 1 if wrong else 0
+    return 1 if wrong or differ else 0
 
 
 if __name__ == "__main__":

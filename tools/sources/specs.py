@@ -8,6 +8,7 @@ whose type names the record. So two records that have a field of one name are di
 from __future__ import annotations
 
 import collections
+import itertools
 import pathlib
 import re
 from typing import Dict, Iterable, Iterator, List, NamedTuple, Optional, Set, Tuple
@@ -56,6 +57,12 @@ def without_comments(text: str) -> str:
     """Returns a text without its comments, each list of imports in one line."""
     text = re.sub(r"(?m)(^|\s)--(\s.*)?$", "", text)
     return re.sub(r"(?m)^(use [^{\n]*)\{([^}]*)\}", lambda at: at[1] + "{" + " ".join(at[2].split()) + "}", text)
+
+
+def head(path: pathlib.Path) -> str:
+    """Returns the comment at the head of a file in one line."""
+    lines = itertools.takewhile(lambda line: line.startswith("--"), path.read_text(encoding="utf-8").split("\n"))
+    return " ".join(line[2:].strip() for line in lines)
 
 
 def items(text: str) -> Dict[str, Tuple[Optional[str], List[str]]]:
