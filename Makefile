@@ -20,6 +20,7 @@ LIBRARY ?= $(shell tools/gate.py library)
 ROOT = $(DESTDIR)$(PREFIX)
 DOCUMENTS = $(ROOT)/share/doc/aig
 SOURCES := $(shell find crates -name out -prune -o -name '*.rt' -print) crates.txt tools/build_unproved.sh
+SPECS := $(shell find crates -name out -prune -o -path '*/specs/*.antt' -print)
 LIBRARY_SOURCES := tools/unproved_library.py tools/c_library.py
 
 aig: build/aig
@@ -73,7 +74,7 @@ install: $(PROGRAM) $(addsuffix /libaig.a,$(LIBRARY))
 	fi
 	install -D -m 644 -t "$(DOCUMENTS)" *.md LICENSE-*
 	cp -R docs examples "$(DOCUMENTS)"
-	install -D -m 644 python/README.md "$(DOCUMENTS)/python/README.md"
+	cp --parents include/aig.h python/README.md benchmarks/README.md crates/*/README.md $(SPECS) "$(DOCUMENTS)"
 	chmod -R u=rwX,go=rX "$(DOCUMENTS)"
 
 wheel: $(PROGRAM)

@@ -89,8 +89,10 @@ def look(program, tally, way, root, functions="zsh/site-functions"):
     tally.check(f"{way}: the completion for zsh", zsh == contents(f"{REPOSITORY}/completions/_aig"), zsh[:80])
     for name in DOCUMENTS:
         tally.check(f"{way}: {name}", contents(f"{documents}/{name}") == contents(f"{REPOSITORY}/{name}"), documents)
-    for link in re.findall(r"\]\(([^):]+)\)", contents(f"{documents}/README.md").decode()):
-        tally.check(f"{way}: what README links to", os.path.exists(f"{documents}/{link.partition('#')[0]}"), link)
+    for page in glob.glob(f"{documents}/**/*.md", recursive=True):
+        for link in re.findall(r"\]\(([^):]+)\)", contents(page).decode()):
+            file = f"{os.path.dirname(page)}/{link.partition('#')[0]}" if link[0] != "#" else page
+            tally.check(f"{way}: what pages link to", os.path.exists(file), f"{page}: {link}")
     modes = {oct(os.stat(it).st_mode & 0o7777) for it in (root, f"{root}/bin/aig", documents)}
     tally.compare(f"{way}: who may read it", modes, {"0o755"})
     take(runs.Program(f"{root}/bin/aig", True), f"{documents}/examples", tally)
@@ -98,7 +100,7 @@ def look(program, tally, way, root, functions="zsh/site-functions"):
 
 
 def install(program, tally, _):
-    """A copy that `make install` made has the program, pages, completions and documents; each link of its README leads to
+    """A copy that `make install` made has the program, pages, completions and documents; each link of its pages leads to
     a file; the tour runs from there."""
     need("make", "bash")
     pack.install(made(program), os.path.abspath("root"), "/usr/local", PROVENANCE)

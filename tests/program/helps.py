@@ -1,6 +1,7 @@
 """What the help lists, beside the tables of docs/BEHAVIOUR.md and what the program takes; its lines and examples."""
 
 import os
+import re
 import subprocess
 
 from library.helptext import commands, examples, grouped, listed
@@ -22,7 +23,8 @@ def helps(program, tally, _):
                       [row for row in text.splitlines() if len(row) > COLUMNS], [])
         tally.check(f"help: {name}: files that an installed copy does not have", "docs/" not in text, text)
     overview, verdicts, bench = texts["aig"], texts["check"], texts["bench"]
-    wanted = dict.fromkeys(words.split(" ")[1] for words in table(behaviour, "| command | does |"))
+    links = re.findall(r"\[([^]]+)\]\(#", behaviour.partition("`aig --help` lists them: ")[2].partition("\n\n")[0])
+    wanted = {name for link in links for name in link.split(" and ")}
     abouts = {name: about for group in grouped(overview).values() for name, about in group.items()}
     tally.compare("help: subcommands", sorted(abouts), sorted(wanted))
     tally.compare("help: what each command does", abouts, {name: one.about for name, one in commands(ask)[1].items()})

@@ -50,7 +50,7 @@ ANSWERS = (
     ("frames more and less", "add 0\nadd 99999\ndrop 12\nadd 2\ndrop 13\nshow full\n",
      "no: 0 is no number of frames\nno: over a limit: 65536 frames\nno: there are 11 frames\nno: no frames; add makes one\n"),
     ("a start that no reset allows", "start full 1\ncheck\nwitness f\nwhy\n",
-     "b0: 1 at 10, not a run\nb1: not reached\nfull starts at 1, not at its reset\n"
+     "b0 queue.v:37: 1 at 10, not a run\nb1 queue.v:38: not reached\nfull starts at 1, not at its reset\n"
      "no: full starts at 1, not at its reset\nno: full starts at 1, not at its reset\n"),
     ("lines that are no command", "shw\nshow\nset 1 push\nwave\nhelp nix\n\x1b[A\n",
      "no: no command shw; help lists the commands\nno: usage: show NAME .. [@A-B]\nno: usage: set FRAME NAME VALUE\n"
