@@ -18,6 +18,8 @@ each why:
 
 Only the first shows by itself that the body is wrong.
 
+Each exported call has one: it fails where one has none, but for those that it lists itself.
+
 It tries those of the gate (crates/NAME/planted) and with --more all others too (crates/NAME/planted/more), over what
 `rt ci` or `rt check` left of the libraries below a crate; where there is nothing, they are built first.
 
@@ -44,7 +46,7 @@ import sys
 import tempfile
 import time
 
-from sources.exports import signature
+from sources.exports import Crate as Exports, crates as libraries, signature
 
 ROOT = pathlib.Path(__file__).resolve().parent.parent
 
@@ -58,6 +60,21 @@ FALSE, UNPROVED, LIMIT, ANSWER, NAME = KINDS
 
 # The words of a planted bug that say what it stands for, beside the functions that it changes.
 STANDS_FOR = ("guards", "mistake", "relation", "law")
+
+# Exported calls without a planted bug: they have no other value to return, or their contracts allow what a bug would do.
+WITHOUT = {
+    "aig_bytes": "Count::zero Count::one_more",
+    "aig_parts": "List::new List::with_capacity",
+    "aig_base": "Circuit::facts Circuit::symbols",
+    "aig_bench": "Bench::circuit Bench::stimulus",
+    "aig_causes": "Explainer::new Explanation::asked Line::causes",
+    "aig_signals": "SectionNaming::new",
+    "aig_prompt": "Table::new",
+    "aig_sat": "Refutation::new Refutation::add_variables Refutation::delete",
+    "aig_why": "Run::new",
+    "aig_terminal": "Shown::new Shown::flush Terminal::begin Terminal::runtime Terminal::write_some Tracked::new",
+    "aig_explain": "Explanation::new",
+}
 
 # What the prover says of an answer that names something which is not there.
 NAMES = r"has no field|is not in scope|has no `|was not admitted"
@@ -346,6 +363,28 @@ def about(path):
     return " ".join(lines[:first]), [line for line in lines if line.startswith(tuple(f"{it}: " for it in STANDS_FOR))]
 
 
+def uncovered():
+    """Yields the exported calls with a clause that no planted bug changes or guards, and that are not in WITHOUT. A
+    method of a trait is tried at the implementations, and a law has no code."""
+    rooms = ("planted", "planted/more")
+    paths = [path for room in rooms for path in ROOT.glob(f"crates/*/{room}/*.edit")]
+    lines = [line for path in paths for line in path.read_text().split("\n") if line.startswith("guards:")]
+    guarded = {name for line in lines for name in re.findall(r"[\w:]+", line.partition(":")[2])}
+    for crate in map(Exports, libraries()):
+        _, edits, _ = edits_of(ROOT / "crates" / crate.name, rooms, None)
+        changed = {it.name for edit in edits for it in edit.functions}
+        for export in crate.exports():
+            *owner, name = export.name.split("::")
+            is_call = any(head.startswith("ensures") for head, _ in export.clauses)
+            is_of_trait = export.block is not None and export.block.kind == "pub trait"
+            if not is_call or is_of_trait or name.startswith("law_of_"):
+                continue
+            tried_here = any(it.split("::")[-1] == name and (not owner or it.split("::")[-2].startswith(owner[0]))
+                             for it in changed)
+            if not tried_here and export.name not in guarded and export.name not in WITHOUT.get(crate.name, "").split():
+                yield f"{crate.name}::{export.name}"
+
+
 def print_list(crates, rooms, only):
     """Prints the planted bugs of these crates, or of all, and how many there are in each folder."""
     counts = collections.Counter()
@@ -441,6 +480,9 @@ def main():
     if words.list:
         return print_list(words.crates, rooms, words.only)
     work, failed, before = [], 0, 0
+    for name in uncovered() if not words.only else ():
+        print(f"{name}: FAILED: no planted bug changes it or guards it")
+        failed += 1
     crates = toolchain(words.jobs)
     now, old = sums(crates), {} if words.all or words.record or words.more or words.only else recorded()
     for crate in crates:

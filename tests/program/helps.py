@@ -23,7 +23,7 @@ def helps(program, tally, _):
                       [row for row in text.splitlines() if len(row) > COLUMNS], [])
         tally.check(f"help: {name}: files that an installed copy does not have", "docs/" not in text, text)
     overview, verdicts, bench = texts["aig"], texts["check"], texts["bench"]
-    links = re.findall(r"\[([^]]+)\]\(#", behaviour.partition("`aig --help` lists them: ")[2].partition("\n\n")[0])
+    links = re.findall(r"\[([^]]+)\]\(", behaviour.partition("`aig --help` lists them: ")[2].partition("\n\n")[0])
     wanted = {name for link in links for name in link.split(" and ")}
     abouts = {name: about for group in grouped(overview).values() for name, about in group.items()}
     tally.compare("help: subcommands", sorted(abouts), sorted(wanted))
