@@ -28,7 +28,7 @@ FNR == NR { next }
         instance = name
         sub(/\$assert\$.*/, "", instance)
         sub(/^\$flatten\\/, "", instance)
-        sub(/\.$/, ": ", instance)
+        sub(/\.$/, ":", instance)
         name = instance line[$0]
     }
     print name

@@ -128,6 +128,10 @@ class Sessions:
         self.tally.compare("shell: answers that are not written", (done.returncode, done.stderr),
                            (3, b"aig: shell: input or output\n"))
 
+    def helps(self):
+        lines = self.run("help\n").out.decode().splitlines()
+        self.tally.compare("shell: lines of the help over 79 columns", [line for line in lines if len(line) > 79], [])
+
     def terminal(self):
         """At a terminal there are a first line and prompts, and ^C ends the program."""
         with Terminal() as terminal:
@@ -151,4 +155,5 @@ def shell(program, tally, _):
     sessions.transcripts()
     sessions.keeps()
     sessions.ends()
+    sessions.helps()
     sessions.terminal()

@@ -25,7 +25,7 @@ fn push_all(text: &mut Vec<u8>) -> Result<(), Memory> {
         push_topic(text, topic)?;
     }
     text.extend_from_slice(
-        b"A NAME is a word of a symbol, a vector without its [..], i0 l0 o0 b0 c0 by position,\nor a literal; !NAME negates. A VALUE is hexadecimal, or binary where a bit is x,\nor as in Verilog: 8'hff 8'd31 4'b1x00.\n",
+        b"A NAME is a word of a symbol, a vector without its [..], i0 l0 o0 b0 c0 by\nposition, or a literal; !NAME negates. A VALUE is hexadecimal, or bits if one\nis x, or as in Verilog: 8'hff 8'd31 4'b1x00.\n",
     )?;
     Ok(())
 }

@@ -99,8 +99,8 @@ impl Topic {
     /// What it does.
     pub(crate) fn about(self) -> &'static str {
         match self {
-            Topic::Show => "values over the frames: hexadecimal, binary where a bit is x",
-            Topic::Why => "the causes of a value, by default of the first property reached",
+            Topic::Show => "values over the frames: hexadecimal, or bits if one is x",
+            Topic::Why => "the causes of a value, or of the first property reached",
             Topic::Set => "an input at a frame, or at frames A-B",
             Topic::Start => "a latch at frame 0, in this run alone",
             Topic::Add => "N frames at the end (1), with x at each input",
