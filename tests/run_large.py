@@ -8,6 +8,7 @@ from large.block_edges import block_edges
 from large.claims import claims
 from large.crowded_names import NAMES, crowded_names
 from large.deep import deep
+from large.explanations import explanations
 from large.files import large_files
 from large.hostile_proofs import hostile_proofs
 from large.hubs import hubs
@@ -17,7 +18,8 @@ from large.reductions import reductions
 from library import runs
 
 PARTS = {"block_edges": block_edges, "files": large_files, "long_run": long_run, "names": crowded_names, "hubs": hubs,
-         "limits": limits, "reductions": reductions, "deep": deep, "claims": claims, "proofs": hostile_proofs}
+         "limits": limits, "reductions": reductions, "explanations": explanations, "deep": deep, "claims": claims,
+         "proofs": hostile_proofs}
 
 
 def options(parser):
