@@ -57,11 +57,11 @@ UNSEEN = ("invariant", "inverse_ok", "also_owns")
 
 
 def crates() -> List[str]:
-    """Returns the names of the libraries in the order of crates.txt: neither the crates of tests nor the programs."""
+    """Returns the names of the libraries in the order of crates.txt, without the crates of tests and of examples."""
     lines = [line for line in (ROOT / "crates.txt").read_text(encoding="utf-8").split("\n") if line and line[0] != "#"]
     names = [line.partition(":")[0].split()[0] for line in lines]
     return [name for name in names
-            if (ROOT / "crates" / name / "src" / "lib.rt").exists() and not name.endswith("_tests")]
+            if (ROOT / "crates" / name / "src" / "lib.rt").exists() and not name.endswith(("_tests", "_examples"))]
 
 
 def braces(text: str, at: int) -> str:

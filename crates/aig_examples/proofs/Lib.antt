@@ -1,0 +1,15 @@
+pub mod Bench
+pub mod Bytes
+pub mod Circuits
+pub mod Commands
+pub mod Files
+pub mod Formulas
+pub mod Names
+pub mod Parts
+pub mod Prompt
+pub mod Reduced
+pub mod Runs
+pub mod Solvers
+pub mod TwoGates
+pub mod Unrolled
+pub mod Values
