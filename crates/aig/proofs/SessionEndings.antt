@@ -9,6 +9,6 @@ use Rattle.aig.specs.Sessions.{HoldsSession}
 pub session_answers : {Y X Z : Type 0} (passes : Passes Y X Z) (person : Bool) (file : List ℕ) (begun : Begun)
     (answer : Result (Unit {0}) RunFault) → EndsShell passes person file begun answer → Answers (HoldsSession file begun) answer
 session_answers passes person file begun (Ok done) (raw, is, (start, rows, pair, begins, at, ended)) =
-    writes ended.text (raw, is, (start, rows, pair, begins, at, person, ended.input, ended.texts, ended.quits, ended.talk))
+    writes ended.text (raw, is, (start, rows, pair, begins, at, person, ended.input, ended.calls, ended.quits, ended.talk))
 session_answers passes person file begun (Err fault) (inl (refused, nothing)) = writes [] (inl (refused, refl))
 session_answers passes person file begun (Err fault) (inr (is, failed)) = writes [] (inr is)

@@ -9,7 +9,7 @@ use Rattle.aig_run.specs.declared.run_fault.RunFault.{RunFault}
 use Rattle.aig_run.specs.declared.run_fault.RunFault.TheVariants as run_faults
 use Rattle.aig_shell.specs.Conversation as begun
 use Rattle.aig_shell.specs.Conversation.{Begun, Begins, RefusesFiles, Talk}
-use Rattle.aig_shell.specs.Files.{KeptText}
+use Rattle.aig_shell.specs.Files.{Call}
 use Rattle.aig_shell.specs.Session.{BeginsAt, first_state}
 use Rattle.aig_files.specs.declared.exit.Exit.{Exit}
 use Rattle.aig.specs.Ends.{Ends, end_of}
@@ -21,8 +21,8 @@ abbrev pub IsSomeTalk : Raw → Begun → List ℕ → Type 0
 IsSomeTalk raw begun text =
     (start : List Tern) × (rows : List (List Tern)) × (pair : CircuitAndRows) × Begins raw begun start rows
     × BeginsAt raw start rows pair
-    × (person : Bool) × (input : List ℕ) × (texts : List (List KeptText)) × (quits : Bool)
-    × Talk person (first_state raw pair) input text texts quits
+    × (person : Bool) × (input : List ℕ) × (calls : List Call) × (quits : Bool)
+    × Talk person (first_state raw pair) input text calls quits
 
 -- A session is written; or the circuit or the run is refused, and nothing is written; or a line is not read, or an
 -- answer not written.

@@ -80,7 +80,7 @@ where
 {
     ghost use Rattle.std.specs.Prelude.{None};
 
-    ghost kept = { λ _. None };
+    ghost calls = { λ _. None };
 
     fn keep(&mut self, files: &[FileText<'_, '_>]) -> Result<(), Unkept> {
         let Some(first) = files.first() else {

@@ -9,7 +9,7 @@ use Rattle.aig_shell.specs.Answers.{Answers, EditsRun, EditsCircuit, HasNoAnswer
 use Rattle.aig_shell.specs.Commands.{query_of, edit_of, export_of}
 use Rattle.aig_shell.specs.Edits.{Does, EndsEdit, IsImpossible, has_edited}
 use Rattle.aig_shell.specs.Ends.{EndsChange, EndsFiles, EndsQuery}
-use Rattle.aig_shell.specs.Files.{KeptText}
+use Rattle.aig_shell.specs.Files.{Call}
 use Rattle.aig_shell.specs.Request.{Request, set, start, add, rewire, append, out, help}
 use Rattle.aig_shell.specs.Request as request
 use Rattle.aig_shell.specs.Session.{HasSameEntries, IsIn, KeepsFirst, KeepsRest}
@@ -195,12 +195,12 @@ pub edit_is : {A : Type 0} (old new : Session) (edit known : Edit) (result : Res
 edit_is old new edit known result text e h = subst (λ (x : Edit). EndsChange old (edit_of x) result text new) (sym e) h
 
 pub wave_is : {A : Type 0} (old new : Session) (export : Export) (file : Bor (List ℕ)) (result : Result A Refusal) (text : List ℕ)
-    (kept kept_after : Option (List (List KeptText))) → export ≡ exports.Wave file → text ≡ []
-    → EndsFiles old (request.wave file.now) result [] kept kept_after new
-    → EndsFiles old (export_of export) result text kept kept_after new
-wave_is old new export file result text kept kept_after e empty h =
-    subst (λ (x : Export). EndsFiles old (export_of x) result text kept kept_after new) (sym e)
-    (subst (λ (t : List ℕ). EndsFiles old (request.wave file.now) result t kept kept_after new) (sym empty) h)
+    (old_calls new_calls : Option (List Call)) → export ≡ exports.Wave file → text ≡ []
+    → EndsFiles old (request.wave file.now) result [] old_calls new_calls new
+    → EndsFiles old (export_of export) result text old_calls new_calls new
+wave_is old new export file result text old_calls new_calls e empty h =
+    subst (λ (x : Export). EndsFiles old (export_of x) result text old_calls new_calls new) (sym e)
+    (subst (λ (t : List ℕ). EndsFiles old (request.wave file.now) result t old_calls new_calls new) (sym empty) h)
 
 -- a number and an LF are added
 pub number_line : (old mid new : List ℕ) (n m : ℕ) → mid ≡ old ++ decimal n → new ≡ mid ++ 10 ∷ [] → n ≡ m

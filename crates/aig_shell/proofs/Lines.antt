@@ -9,13 +9,14 @@ use Rattle.aig_base.specs.Value.{start_of}
 use Rattle.aig_bench.specs.BenchState.{CircuitAndRows}
 use Rattle.aig_why.specs.Why.{run_of}
 use Rattle.aig_prompt.specs.Words.{spaced_byte}
-use Rattle.aig_shell.specs.Answers.{Answers, AnswersRequest, HasNoAnswer, IsRefusal, IsUnsaved, IsAfterSave, IsSilent}
-use Rattle.aig_shell.specs.Answers.{LineAnswer, StartsByReset, WordsAnswer, calm, line_words}
+use Rattle.aig_shell.specs.Answers.{Answers, AnswersRequest, HasNoAnswer, IsRefusal, IsRefused, IsUnsaved}
+use Rattle.aig_shell.specs.Answers.{IsAfterSave, IsSilent, LineAnswer, StartsByReset, WordsAnswer, WritesNone, calm}
+use Rattle.aig_shell.specs.Answers.{line_words}
 use Rattle.aig_shell.specs.Commands.{query_of, edit_of, export_of, request_of}
-use Rattle.aig_shell.specs.Conversation.{AnswersLine, EndsQuit, EndsRequest, EndsWords, IsAt, call_of, ends_after}
-use Rattle.aig_shell.specs.Conversation.{no_memory}
-use Rattle.aig_shell.specs.Ends.{EndsChange, EndsFiles, EndsQuery, with_texts}
-use Rattle.aig_shell.specs.Files.{KeptText}
+use Rattle.aig_shell.specs.Conversation.{AnswersLine, EndsQuit, EndsRequest, EndsWords, IsAt, ends_after, no_memory}
+use Rattle.aig_shell.specs.Ends.{ComesAfter, EndsChange, EndsFiles, EndsQuery, with_calls}
+use Rattle.aig_shell.specs.Files as files
+use Rattle.aig_shell.specs.Files.{KeptText, Call, calls_of}
 use Rattle.aig_shell.specs.Request.{Request, show, why_first, why, set, start, add, gate, rewire, append, out, check}
 use Rattle.aig_shell.specs.Request.{diff, save, witness, wave, list_names, help, quit, request_words, IsRequest}
 use Rattle.aig_shell.specs.Request.{IsNoRequest}
@@ -61,39 +62,40 @@ not_lost session s h (inr denied) = inr (λ k.
     let rows : s.pair.rows ≡ s.kept.rows = ap (λ (p : CircuitAndRows). p.rows) h.pair ∙ sym k.rows ∙ sym h.rows in
     denied (λ i. record { start = first i; rows = rows i }))
 
--- files got nothing
-pub with_none : (kept : Option (List (List KeptText))) → kept ≡ with_texts kept []
+-- no call more
+pub with_none : (calls : Option (List Call)) → calls ≡ with_calls calls []
 with_none None = refl
 with_none (Some old) = ap Some (sym (append-nil old))
 
--- they got these texts
-one_call : (texts : List KeptText) → texts ≢ [] → call_of texts ≡ texts ∷ []
+-- the one call that gives files these texts
+one_call : (texts : List KeptText) → texts ≢ [] → calls_of texts ≡ files.kept texts ∷ []
 one_call [] denied = absurd (denied refl)
 one_call (text ∷ texts) denied = refl
 
 -- what answers a request that does not end the session
-other_request : (r : Request) (s : SessionState) (text : List ℕ) (texts : List KeptText) (after : SessionState) → r ≢ quit
-    → Answers s r text texts after ⊎ (HasNoAnswer s r × IsRefusal text × (texts ≡ []) × (after ≡ calm s))
-    → AnswersRequest s r text texts false after
-other_request (show names frames) s text texts after denied h = (refl, h)
-other_request why_first s text texts after denied h = (refl, h)
-other_request (why name frame) s text texts after denied h = (refl, h)
-other_request (set frames name value) s text texts after denied h = (refl, h)
-other_request (start name value) s text texts after denied h = (refl, h)
-other_request (add count) s text texts after denied h = (refl, h)
-other_request (request.drop count) s text texts after denied h = (refl, h)
-other_request (gate name) s text texts after denied h = (refl, h)
-other_request (rewire name side0 side1) s text texts after denied h = (refl, h)
-other_request (append side0 side1) s text texts after denied h = (refl, h)
-other_request (out name literal) s text texts after denied h = (refl, h)
-other_request check s text texts after denied h = (refl, h)
-other_request (diff frames) s text texts after denied h = (refl, h)
-other_request (save circuit stimulus) s text texts after denied h = (refl, h)
-other_request (witness file name) s text texts after denied h = (refl, h)
-other_request (wave file) s text texts after denied h = (refl, h)
-other_request (list_names part) s text texts after denied h = (refl, h)
-other_request (help command) s text texts after denied h = (refl, h)
-other_request quit s text texts after denied h = absurd (denied refl)
+other_request : (r : Request) (s : SessionState) (text : List ℕ) (calls : List Call) (after : SessionState) → r ≢ quit
+    → ((texts : List KeptText) × Answers s r text texts after × (calls ≡ calls_of texts))
+    ⊎ (IsRefused s r calls × IsRefusal text × (after ≡ calm s))
+    → AnswersRequest s r text calls false after
+other_request (show names frames) s text calls after denied h = (refl, h)
+other_request why_first s text calls after denied h = (refl, h)
+other_request (why name frame) s text calls after denied h = (refl, h)
+other_request (set frames name value) s text calls after denied h = (refl, h)
+other_request (start name value) s text calls after denied h = (refl, h)
+other_request (add count) s text calls after denied h = (refl, h)
+other_request (request.drop count) s text calls after denied h = (refl, h)
+other_request (gate name) s text calls after denied h = (refl, h)
+other_request (rewire name side0 side1) s text calls after denied h = (refl, h)
+other_request (append side0 side1) s text calls after denied h = (refl, h)
+other_request (out name literal) s text calls after denied h = (refl, h)
+other_request check s text calls after denied h = (refl, h)
+other_request (diff frames) s text calls after denied h = (refl, h)
+other_request (save circuit stimulus) s text calls after denied h = (refl, h)
+other_request (witness file name) s text calls after denied h = (refl, h)
+other_request (wave file) s text calls after denied h = (refl, h)
+other_request (list_names part) s text calls after denied h = (refl, h)
+other_request (help command) s text calls after denied h = (refl, h)
+other_request quit s text calls after denied h = absurd (denied refl)
 
 pub no_quit_query : (q : Query) → query_of q ≢ quit
 no_quit_query (queries.Show names frames) e = cc e
@@ -118,11 +120,6 @@ pub no_quit_export : (x : Export) → export_of x ≢ quit
 no_quit_export (exports.Save circuit stimulus) e = cc e
 no_quit_export (exports.Witness file name) e = cc e
 no_quit_export (exports.Wave file) e = cc e
-
-never_refused : (x : Export) (s : SessionState) → HasNoAnswer s (export_of x)
-never_refused (exports.Save circuit stimulus) s = tt
-never_refused (exports.Witness file name) s = tt
-never_refused (exports.Wave file) s = tt
 
 -- after an edit, and after a file was written, a `quit` before does not count
 edit_calms : (e : Edit) (s : SessionState) (text : List ℕ) (texts : List KeptText) (after : SessionState)
@@ -151,105 +148,115 @@ export_calms (exports.Save circuit stimulus) s text texts after h = save_calms s
 export_calms (exports.Witness file name) s text texts after h = ap (λ (t : SessionState). t.has_warned) h.1
 export_calms (exports.Wave file) s text texts after h = ap (λ (t : SessionState). t.has_warned) h.1
 
-abbrev pub Texts : Type 0
-Texts = Option (List (List KeptText))
+abbrev pub Calls : Type 0
+Calls = Option (List Call)
 
 -- a refusal answers a request, where memory is not wanting
-refusal_answers : (session : Session) (r : Request) (refusal : Refusal) → r ≢ quit
-    → (refusal ≢ refusals.Memory → (s : SessionState) → IsIn session s → HasNoAnswer s r)
+refusal_answers : (session : Session) (r : Request) (refusal : Refusal) (calls : List Call) → r ≢ quit
+    → (refusal ≢ refusals.Memory → (s : SessionState) → IsIn session s → IsRefused s r calls)
     → refusal ≢ refusals.Memory → (s : SessionState) → IsIn session s → (text : List ℕ) → IsRefusal text
-    → AnswersRequest s r text [] false (calm s)
-refusal_answers session r refusal denied none other s h text said =
-    other_request r s text [] (calm s) denied (inr (none other s h, said, refl, refl))
+    → AnswersRequest s r text calls false (calm s)
+refusal_answers session r refusal calls denied none other s h text said =
+    other_request r s text calls (calm s) denied (inr (none other s h, said, refl))
 
 -- a request that only asks
-pub query_answered : (old new : Conversation) (warned : Bool) (q : Query) (kept : Texts) → IsSession new.session
+pub query_answered : (old new : Conversation) (warned : Bool) (q : Query) (calls : Calls) → IsSession new.session
     → new.session ≡ old.session → new.has_warned ≡ false
     → ((s : SessionState) → IsIn old.session s → Answers s (query_of q) new.text.items [] (calm s))
-    → EndsRequest old warned (query_of q) (Ok next.GoesOn) kept kept new
-query_answered old new warned q kept is same e answers s h w = (
+    → EndsRequest old warned (query_of q) (Ok next.GoesOn) calls calls new
+query_answered old new warned q calls is same e answers s h w = (
   [],
   calm s,
-  other_request (query_of q) s new.text.items [] (calm s) (no_quit_query q) (inl (answers s h)),
+  other_request (query_of q) s new.text.items [] (calm s) (no_quit_query q) (inl ([], answers s h, refl)),
   at_calm new s is (subst (λ (t : Session). IsIn t s) (sym same) h) e,
-  with_none kept,
+  with_none calls,
 )
 
-pub query_refused : (old new : Conversation) (warned : Bool) (q : Query) (kept : Texts) (result : Result Next Refusal) (refusal : Refusal)
+pub query_refused : (old new : Conversation) (warned : Bool) (q : Query) (calls : Calls) (result : Result Next Refusal) (refusal : Refusal)
     → IsSession new.session → new.session ≡ old.session → new.has_warned ≡ false → IsErrAnd result (λ e. e ≡ refusal)
     → (refusal ≢ refusals.Memory → (s : SessionState) → IsIn old.session s → HasNoAnswer s (query_of q))
-    → EndsRequest old warned (query_of q) result kept kept new
-query_refused old new warned q kept (Ok x) refusal is same e cause none = absurd cause
-query_refused old new warned q kept (Err other) refusal is same e cause none = (
+    → EndsRequest old warned (query_of q) result calls calls new
+query_refused old new warned q calls (Ok x) refusal is same e cause none = absurd cause
+query_refused old new warned q calls (Err other) refusal is same e cause none = (
   (λ s h. at_calm new s is (subst (λ (t : Session). IsIn t s) (sym same) h) e),
-  refl,
-  refusal_answers old.session (query_of q) other (no_quit_query q) (λ denied. none (λ m. denied (cause ∙ m))),
+  [],
+  with_none calls,
+  inl refl,
+  refusal_answers old.session (query_of q) other [] (no_quit_query q)
+      (λ denied s h. inl (none (λ m. denied (cause ∙ m)) s h, refl)),
 )
 
 -- one that edits
-pub edit_answered : (old new : Conversation) (warned : Bool) (edit : Edit) (kept : Texts) → IsSession new.session → new.has_warned ≡ false
+pub edit_answered : (old new : Conversation) (warned : Bool) (edit : Edit) (calls : Calls) → IsSession new.session → new.has_warned ≡ false
     → ((s : SessionState) → IsIn old.session s
     → (after : SessionState) × Answers s (edit_of edit) new.text.items [] after × IsIn new.session after)
-    → EndsRequest old warned (edit_of edit) (Ok next.GoesOn) kept kept new
-edit_answered old new warned edit kept is e answers s h w =
+    → EndsRequest old warned (edit_of edit) (Ok next.GoesOn) calls calls new
+edit_answered old new warned edit calls is e answers s h w =
     let (after, a, i) = answers s h in (
       [],
       after,
-      other_request (edit_of edit) s new.text.items [] after (no_quit_edit edit) (inl a),
+      other_request (edit_of edit) s new.text.items [] after (no_quit_edit edit) (inl ([], a, refl)),
       record { session = is; state = i; warned = edit_calms edit s new.text.items [] after a ∙ sym e },
-      with_none kept,
+      with_none calls,
     )
 
-pub edit_refused : (old new : Conversation) (warned : Bool) (edit : Edit) (kept : Texts) (result : Result Next Refusal) (refusal : Refusal)
+pub edit_refused : (old new : Conversation) (warned : Bool) (edit : Edit) (calls : Calls) (result : Result Next Refusal) (refusal : Refusal)
     → IsSession new.session → new.has_warned ≡ false → IsErrAnd result (λ e. e ≡ refusal)
     → ((s : SessionState) → IsIn old.session s → IsIn new.session s)
     × (refusal ≢ refusals.Memory → (s : SessionState) → IsIn old.session s → HasNoAnswer s (edit_of edit))
-    → EndsRequest old warned (edit_of edit) result kept kept new
-edit_refused old new warned edit kept (Ok x) refusal is e cause h = absurd cause
-edit_refused old new warned edit kept (Err other) refusal is e cause (stays, none) = (
+    → EndsRequest old warned (edit_of edit) result calls calls new
+edit_refused old new warned edit calls (Ok x) refusal is e cause h = absurd cause
+edit_refused old new warned edit calls (Err other) refusal is e cause (stays, none) = (
   (λ s h. at_calm new s is (stays s h) e),
-  refl,
-  refusal_answers old.session (edit_of edit) other (no_quit_edit edit) (λ denied. none (λ m. denied (cause ∙ m))),
+  [],
+  with_none calls,
+  inl refl,
+  refusal_answers old.session (edit_of edit) other [] (no_quit_edit edit)
+      (λ denied s h. inl (none (λ m. denied (cause ∙ m)) s h, refl)),
 )
 
 -- one that writes files
-pub export_answered : (old new : Conversation) (warned : Bool) (x : Export) (kept kept_after : Texts) → IsSession new.session
+pub export_answered : (old new : Conversation) (warned : Bool) (x : Export) (old_calls new_calls : Calls) → IsSession new.session
     → new.has_warned ≡ false
     → ((s : SessionState) → IsIn old.session s
     → (texts : List KeptText) × (after : SessionState) × Answers s (export_of x) new.text.items texts after × IsIn new.session after
-    × (texts ≢ []) × (kept_after ≡ with_texts kept (texts ∷ [])))
-    → EndsRequest old warned (export_of x) (Ok next.GoesOn) kept kept_after new
-export_answered old new warned x kept kept_after is e answers s h w =
+    × (texts ≢ []) × (new_calls ≡ with_calls old_calls (files.kept texts ∷ [])))
+    → EndsRequest old warned (export_of x) (Ok next.GoesOn) old_calls new_calls new
+export_answered old new warned x old_calls new_calls is e answers s h w =
     let (texts, after, a, i, given, got) = answers s h in (
-      texts,
+      calls_of texts,
       after,
-      other_request (export_of x) s new.text.items texts after (no_quit_export x) (inl a),
+      other_request (export_of x) s new.text.items (calls_of texts) after (no_quit_export x) (inl (texts, a, refl)),
       record { session = is; state = i; warned = export_calms x s new.text.items texts after a ∙ sym e },
-      got ∙ ap (with_texts kept) (sym (one_call texts given)),
+      got ∙ ap (with_calls old_calls) (sym (one_call texts given)),
     )
 
-pub export_refused : (old new : Conversation) (warned : Bool) (x : Export) (kept kept_after : Texts) (result : Result Next Refusal)
-    (cause : Refusal) → IsSession new.session → new.has_warned ≡ false → IsErrAnd result (λ e. e ≡ cause) → new.session ≡ old.session → kept_after ≡ kept
-    → EndsRequest old warned (export_of x) result kept kept_after new
-export_refused old new warned x kept kept_after (Ok y) cause is e err same got = absurd err
-export_refused old new warned x kept kept_after (Err refusal) cause is e err same got = (
+pub export_refused : (old new : Conversation) (warned : Bool) (x : Export) (old_calls new_calls : Calls)
+    (result : Result Next Refusal) (cause : Refusal) → IsSession new.session → new.has_warned ≡ false → IsErrAnd result (λ e. e ≡ cause)
+    → EndsFiles {A = Unit {0}} old.session (export_of x) (Err cause) [] old_calls new_calls new.session
+    → EndsRequest old warned (export_of x) result old_calls new_calls new
+export_refused old new warned x old_calls new_calls (Ok y) cause is e err h = absurd err
+export_refused old new warned x old_calls new_calls (Err refusal) cause is e err (same, calls, got, comes, none) = (
   (λ s h. at_calm new s is (subst (λ (t : Session). IsIn t s) (sym same) h) e),
+  calls,
   got,
-  refusal_answers old.session (export_of x) refusal (no_quit_export x) (λ denied s h. never_refused x s),
+  subst (λ (r : Refusal). ComesAfter r calls) (sym err) comes,
+  refusal_answers old.session (export_of x) refusal calls (no_quit_export x) (λ denied. none (λ m. denied (err ∙ m))),
 )
 
 -- `quit`
-pub quit_answered : (old new : Conversation) (warned : Bool) (kept : Texts) (next : Next) → EndsQuit {E = Memory} old warned (Ok next) new
-    → EndsRequest old warned quit (Ok next) kept kept new
-quit_answered old new warned kept next quits s h w =
+pub quit_answered : (old new : Conversation) (warned : Bool) (calls : Calls) (next : Next) → EndsQuit {E = Memory} old warned (Ok next) new
+    → EndsRequest old warned quit (Ok next) calls calls new
+quit_answered old new warned calls next quits s h w =
     let (after, ends, at) = quits s h w in
-    ([], after, (ends, refl), at, with_none kept)
+    ([], after, (ends, refl), at, with_none calls)
 
-pub quit_refused : (old new : Conversation) (warned : Bool) (kept : Texts) (result : Result Next Refusal)
+pub quit_refused : (old new : Conversation) (warned : Bool) (calls : Calls) (result : Result Next Refusal)
     → IsErrAnd result (λ e. e ≡ refusals.Memory) → ((s : SessionState) → IsIn old.session s → IsAt new (calm s))
-    → EndsRequest old warned quit result kept kept new
-quit_refused old new warned kept (Ok x) err calms = absurd err
-quit_refused old new warned kept (Err refusal) err calms = (calms, refl, λ denied. absurd (denied err))
+    → EndsRequest old warned quit result calls calls new
+quit_refused old new warned calls (Ok x) err calms = absurd err
+quit_refused old new warned calls (Err refusal) err calms =
+    (calms, [], with_none calls, inl refl, λ denied. absurd (denied err))
 
 pub quit_twice : (c : Conversation) (warned : Bool) → IsSession c.session → c.has_warned ≡ false → c.text.items ≡ [] → warned ≡ true
     → EndsQuit {E = Memory} c warned (Ok next.Ends) c
@@ -289,15 +296,17 @@ said_more old mid new what more empty e f = (
 )
 
 -- the words of a line ask for something
-pub words_answered : (old mid new : Conversation) (ws : List (List ℕ)) (r : Request) (result : Result Next Refusal) (kept kept_after : Texts)
-    → mid.session ≡ old.session → IsRequest r → ws ≡ request_words r → EndsRequest mid old.has_warned r result kept kept_after new
-    → EndsWords old ws result kept kept_after new
-words_answered old mid new ws r (Ok next) kept kept_after same is e h = λ s at.
-    let (texts, after, answers, state, got) = h s (subst (λ (t : Session). IsIn t s) (sym same) at.state) at.warned in
-    (texts, after, inr (inl (r, is, e, answers)), state, got)
-words_answered old mid new ws r (Err refusal) kept kept_after same is e (calms, got, answers) = (
+pub words_answered : (old mid new : Conversation) (ws : List (List ℕ)) (r : Request) (result : Result Next Refusal) (old_calls new_calls : Calls)
+    → mid.session ≡ old.session → IsRequest r → ws ≡ request_words r → EndsRequest mid old.has_warned r result old_calls new_calls new
+    → EndsWords old ws result old_calls new_calls new
+words_answered old mid new ws r (Ok next) old_calls new_calls same is e h = λ s at.
+    let (called, after, answers, state, got) = h s (subst (λ (t : Session). IsIn t s) (sym same) at.state) at.warned in
+    (called, after, inr (inl (r, is, e, answers)), state, got)
+words_answered old mid new ws r (Err refusal) old_calls new_calls same is e (calms, calls, got, comes, answers) = (
   (λ s at. inr (calms s (subst (λ (t : Session). IsIn t s) (sym same) at.state))),
+  calls,
   got,
+  comes,
   λ denied s at text said. (
     inr (inl (r, is, e, answers denied s (subst (λ (t : Session). IsIn t s) (sym same) at.state) text said)),
     calms s (subst (λ (t : Session). IsIn t s) (sym same) at.state),
@@ -305,22 +314,24 @@ words_answered old mid new ws r (Err refusal) kept kept_after same is e (calms, 
 )
 
 -- they ask for nothing
-pub words_refused : (old new : Conversation) (ws : List (List ℕ)) (result : Result Next Refusal) (cause : Refusal) (kept : Texts)
+pub words_refused : (old new : Conversation) (ws : List (List ℕ)) (result : Result Next Refusal) (cause : Refusal) (calls : Calls)
     → IsSession new.session → new.session ≡ old.session → new.has_warned ≡ false → IsErrAnd result (λ e. e ≡ cause) → IsNoRequest ws
-    → EndsWords old ws result kept kept new
-words_refused old new ws (Ok x) cause kept is same e err none = absurd err
-words_refused old new ws (Err refusal) cause kept is same e err none =
+    → EndsWords old ws result calls calls new
+words_refused old new ws (Ok x) cause calls is same e err none = absurd err
+words_refused old new ws (Err refusal) cause calls is same e err none =
     let calms : (s : SessionState) → IsAt old s → IsAt new (calm s) =
     λ s at. at_calm new s is (subst (λ (t : Session). IsIn t s) (sym same) at.state) e in (
       (λ s at. inr (calms s at)),
-      refl,
+      [],
+      with_none calls,
+      inl refl,
       λ denied s at text said. (inr (inr (inl (none, said, refl, refl, refl))), calms s at),
     )
 
 -- nothing is asked for
-pub words_silent : (old : Conversation) (ws : List (List ℕ)) (kept : Texts) → old.text.items ≡ [] → IsSilent ws
-    → EndsWords old ws (Ok next.GoesOn) kept kept old
-words_silent old ws kept empty silent s at = ([], s, inl (silent, empty, refl, refl, refl), at, with_none kept)
+pub words_silent : (old : Conversation) (ws : List (List ℕ)) (calls : Calls) → old.text.items ≡ [] → IsSilent ws
+    → EndsWords old ws (Ok next.GoesOn) calls calls old
+words_silent old ws calls empty silent s at = ([], s, inl (silent, empty, refl, refl, refl), at, with_none calls)
 
 pub no_words : (ws : List (Bor (List ℕ))) → length ws ≡ 0 → IsSilent (map (λ (w : Bor (List ℕ)). w.now) ws)
 no_words [] e = inl refl
@@ -336,10 +347,11 @@ comment ws rest first more e f =
     )
 
 -- the words of a line were not found: nothing is done
-pub words_lacking : (old : Conversation) (ws : List (List ℕ)) (result : Result Next Refusal) (kept : Texts)
-    → IsErrAnd result (λ e. e ≡ refusals.Memory) → EndsWords old ws result kept kept old
-words_lacking old ws (Ok x) kept err = absurd err
-words_lacking old ws (Err refusal) kept err = ((λ s at. inl at), refl, λ denied. absurd (denied err))
+pub words_lacking : (old : Conversation) (ws : List (List ℕ)) (result : Result Next Refusal) (calls : Calls)
+    → IsErrAnd result (λ e. e ≡ refusals.Memory) → EndsWords old ws result calls calls old
+words_lacking old ws (Ok x) calls err = absurd err
+words_lacking old ws (Err refusal) calls err =
+    ((λ s at. inl at), [], with_none calls, inl refl, λ denied. absurd (denied err))
 
 at_same : (c d : Conversation) (s : SessionState) → d.session ≡ c.session → d.has_warned ≡ c.has_warned → IsAt c s → IsAt d s
 at_same c d s same e at = record {
@@ -353,31 +365,39 @@ spaced_line : (line spaced : List ℕ) → spaced ≡ map spaced_byte line → w
 spaced_line line spaced e = ap words e
 
 -- the words are answered
-pub line_answered : (old mid new : Conversation) (line spaced : List ℕ) (next : Next) (kept kept_after : Texts) → mid.session ≡ old.session
+pub line_answered : (old mid new : Conversation) (line spaced : List ℕ) (next : Next) (old_calls new_calls : Calls) → mid.session ≡ old.session
     → mid.has_warned ≡ old.has_warned → spaced ≡ map spaced_byte line
-    → EndsWords mid (words spaced) (Ok next) kept kept_after new
-    → AnswersLine old line new.text.items kept kept_after (ends_after next) new
-line_answered old mid new line spaced next kept kept_after same warned e h s at =
-    let (texts, after, answers, state, got) = h s (at_same old mid s same warned at) in (
-      texts,
+    → EndsWords mid (words spaced) (Ok next) old_calls new_calls new
+    → AnswersLine old line new.text.items old_calls new_calls (ends_after next) new
+line_answered old mid new line spaced next old_calls new_calls same warned e h s at =
+    let (called, after, answers, state, got) = h s (at_same old mid s same warned at) in (
+      called,
       after,
-      subst (λ (ws : List (List ℕ)). WordsAnswer s ws new.text.items texts (ends_after next) after) (spaced_line line spaced e) answers,
+      subst (λ (ws : List (List ℕ)). WordsAnswer s ws new.text.items called (ends_after next) after) (spaced_line line spaced e) answers,
       state,
       got,
     )
 
 -- memory is wanting: the state is the one before, or calm
-lacks : (s : SessionState) (new : Conversation) (line : List ℕ) (kept kept_after : Texts) → kept_after ≡ kept
-    → IsAt new s ⊎ IsAt new (calm s)
-    → (texts : List KeptText) × (after : SessionState) × LineAnswer s line no_memory texts false after × IsAt new after
-    × (kept_after ≡ with_texts kept (call_of texts))
-lacks s new line kept kept_after got (inl at) = ([], s, inr (inr (inr (refl, refl, refl, inl refl))), at, got ∙ with_none kept)
-lacks s new line kept kept_after got (inr at) = ([], calm s, inr (inr (inr (refl, refl, refl, inr refl))), at, got ∙ with_none kept)
+lacks : (s : SessionState) (new : Conversation) (line : List ℕ) (old_calls new_calls : Calls) (called : List Call)
+    → new_calls ≡ with_calls old_calls called → WritesNone called → IsAt new s ⊎ IsAt new (calm s)
+    → (calls : List Call) × (after : SessionState) × LineAnswer s line no_memory calls false after × IsAt new after
+    × (new_calls ≡ with_calls old_calls calls)
+lacks s new line old_calls new_calls called got writes (inl at) =
+    (called, s, inr (inr (inr (refl, writes, refl, inl refl))), at, got)
+lacks s new line old_calls new_calls called got writes (inr at) =
+    (called, calm s, inr (inr (inr (refl, writes, refl, inr refl))), at, got)
 
-pub line_lacking : (old new : Conversation) (line : List ℕ) (kept : Texts) (result : Result Next Memory) → new.session ≡ old.session
-    → new.has_warned ≡ old.has_warned → OnErr result (AnswersLine old line no_memory kept kept false new)
-line_lacking old new line kept (Ok x) same warned = tt
-line_lacking old new line kept (Err e) same warned = λ s at. lacks s new line kept kept refl (inl (at_same old new s same warned at))
+pub line_lacking : (old new : Conversation) (line : List ℕ) (calls : Calls) (result : Result Next Memory) → new.session ≡ old.session
+    → new.has_warned ≡ old.has_warned → OnErr result (AnswersLine old line no_memory calls calls false new)
+line_lacking old new line calls (Ok x) same warned = tt
+line_lacking old new line calls (Err e) same warned = λ s at.
+    lacks s new line calls calls [] (with_none calls) (inl refl) (inl (at_same old new s same warned at))
+
+-- before a refusal no file is written
+writes_none : (refusal : Refusal) (calls : List Call) → ComesAfter refusal calls → WritesNone calls
+writes_none refusal calls (inl e) = inl e
+writes_none refusal calls (inr (other, texts, one)) = inr (texts, one)
 
 lacking_after : (mid new : Conversation) (s : SessionState) → new.session ≡ mid.session → new.has_warned ≡ mid.has_warned
     → IsAt mid s ⊎ IsAt mid (calm s) → IsAt new s ⊎ IsAt new (calm s)
@@ -385,33 +405,34 @@ lacking_after mid new s same warned (inl at) = inl (at_same mid new s same warne
 lacking_after mid new s same warned (inr at) = inr (at_same mid new (calm s) same warned at)
 
 -- there is no memory for a refusal
-pub refusal_lacking : (old begun mid new : Conversation) (line : List ℕ) (ws : List (List ℕ)) (refusal : Refusal) (kept kept_after : Texts)
+pub refusal_lacking : (old begun mid new : Conversation) (line : List ℕ) (ws : List (List ℕ)) (refusal : Refusal) (old_calls new_calls : Calls)
     (result : Result Next Memory) → begun.session ≡ old.session → begun.has_warned ≡ old.has_warned
-    → EndsWords begun ws (Err refusal) kept kept_after mid → new.session ≡ mid.session → new.has_warned ≡ mid.has_warned
-    → OnErr result (AnswersLine old line no_memory kept kept_after false new)
-refusal_lacking old begun mid new line ws refusal kept kept_after (Ok x) same warned (stays, got, answers) same' warned' = tt
-refusal_lacking old begun mid new line ws refusal kept kept_after (Err e) same warned (stays, got, answers) same' warned' = λ s at.
-    lacks s new line kept kept_after got
+    → EndsWords begun ws (Err refusal) old_calls new_calls mid → new.session ≡ mid.session → new.has_warned ≡ mid.has_warned
+    → OnErr result (AnswersLine old line no_memory old_calls new_calls false new)
+refusal_lacking old begun mid new line ws refusal old_calls new_calls (Ok x) same warned h same' warned' = tt
+refusal_lacking old begun mid new line ws refusal old_calls new_calls (Err e) same warned (stays, calls, got, comes, answers) same' warned' =
+    λ s at.
+    lacks s new line old_calls new_calls calls got (writes_none refusal calls comes)
     (lacking_after mid new s same' warned' (stays s (at_same old begun s same warned at)))
 
 -- the answer is a refusal
-pub line_refused : (old begun mid new : Conversation) (line spaced : List ℕ) (refusal : Refusal) (kept kept_after : Texts)
+pub line_refused : (old begun mid new : Conversation) (line spaced : List ℕ) (refusal : Refusal) (old_calls new_calls : Calls)
     → begun.session ≡ old.session → begun.has_warned ≡ old.has_warned → spaced ≡ map spaced_byte line
-    → EndsWords begun (words spaced) (Err refusal) kept kept_after mid → refusal ≢ refusals.Memory → IsRefusal new.text.items
+    → EndsWords begun (words spaced) (Err refusal) old_calls new_calls mid → refusal ≢ refusals.Memory → IsRefusal new.text.items
     → new.session ≡ mid.session → new.has_warned ≡ mid.has_warned
-    → AnswersLine old line new.text.items kept kept_after false new
-line_refused old begun mid new line spaced refusal kept kept_after same warned e (stays, got, answers) other said same' warned' s at =
+    → AnswersLine old line new.text.items old_calls new_calls false new
+line_refused old begun mid new line spaced refusal old_calls new_calls same warned e (stays, calls, got, comes, answers) other said same' warned' s at =
     let (answer, calms) = answers other s (at_same old begun s same warned at) new.text.items said in (
-      [],
+      calls,
       calm s,
-      subst (λ (ws : List (List ℕ)). WordsAnswer s ws new.text.items [] false (calm s)) (spaced_line line spaced e) answer,
+      subst (λ (ws : List (List ℕ)). WordsAnswer s ws new.text.items calls false (calm s)) (spaced_line line spaced e) answer,
       at_same mid new (calm s) same' warned' calms,
-      got ∙ with_none kept,
+      got,
     )
 
 -- a command that is this one
-pub request_is : (old new : Conversation) (warned : Bool) (command known : Command) (result : Result Next Refusal) (kept kept_after : Texts)
-    → command ≡ known → EndsRequest old warned (request_of known) result kept kept_after new
-    → EndsRequest old warned (request_of command) result kept kept_after new
-request_is old new warned command known result kept kept_after e h =
-    subst (λ (x : Command). EndsRequest old warned (request_of x) result kept kept_after new) (sym e) h
+pub request_is : (old new : Conversation) (warned : Bool) (command known : Command) (result : Result Next Refusal) (old_calls new_calls : Calls)
+    → command ≡ known → EndsRequest old warned (request_of known) result old_calls new_calls new
+    → EndsRequest old warned (request_of command) result old_calls new_calls new
+request_is old new warned command known result old_calls new_calls e h =
+    subst (λ (x : Command). EndsRequest old warned (request_of x) result old_calls new_calls new) (sym e) h

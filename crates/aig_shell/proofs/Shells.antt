@@ -21,43 +21,43 @@ use Rattle.aig_shell.specs.declared.talk.Line.{Line}
 use Rattle.aig_shell.specs.declared.talk.Talker.{Talker}
 use Rattle.aig_shell.specs.Conversation.{Begun, Passes, Ended, BreaksDown, Begins, BeginsSession, EndsShell}
 use Rattle.aig_shell.specs.Conversation.{HoldsSession, IsAt, OpensSession, RefusesFiles, RefusesRows, RefusesText}
-use Rattle.aig_shell.specs.Files.{KeptText}
+use Rattle.aig_shell.specs.Files.{Call}
 use Rattle.aig_shell.specs.Session.{BeginsAt, IsIn, IsSession, first_state}
 use Rattle.aig_shell.specs.State.{SessionState}
 use Rattle.aig_shell.specs.Talking.{Moment, HoldsLine, Done, Part, EndsInput}
 
 -- what passes, as values
-abbrev pub passes_of : {Y X Z : Type 0} → Flow Y → Flow X → (Z → Option (List (List KeptText))) → Z → Z → Passes Y X Z
-passes_of reader out kept files files_after =
-    record { reader = reader; out = out; kept = kept; files = files; files_after = files_after }
+abbrev pub passes_of : {Y X Z : Type 0} → Flow Y → Flow X → (Z → Option (List Call)) → Z → Z → Passes Y X Z
+passes_of reader out calls files files_after =
+    record { reader = reader; out = out; calls = calls; files = files; files_after = files_after }
 
 module _ {Y X Z : Type 0} (left : Y → Option (List ℕ)) (read_failures : Y → ℕ) (written : X → Option (List ℕ)) (failures : X → ℕ)
-    (kept : Z → Option (List (List KeptText))) (reader reader' : Y) (files files' : Z) (old mid new : X)
+    (calls : Z → Option (List Call)) (reader reader' : Y) (files files' : Z) (old mid new : X)
     (same : written new ≡ written mid) (person : Bool) (s : SessionState) where
   -- a flush after all
   ended_on : failures new ≡ failures mid
-      → Ended (passes_of (flow left read_failures reader reader') (flow written failures old mid) kept files files') person s
-      → Ended (passes_of (flow left read_failures reader reader') (flow written failures old new) kept files files') person s
+      → Ended (passes_of (flow left read_failures reader reader') (flow written failures old mid) calls files files') person s
+      → Ended (passes_of (flow left read_failures reader reader') (flow written failures old new) calls files files') person s
   ended_on count e = record {
     input = e.input;
     text = e.text;
-    texts = e.texts;
+    calls = e.calls;
     quits = e.quits;
     talk = e.talk;
     read = e.read;
     whole = e.whole;
     got = record { got = same ∙ e.got.got; count = count ∙ e.got.count };
-    kept = e.kept;
+    called = e.called;
   }
 
   -- it fails
   ended_breaks : failures new ≡ failures mid + 1
-      → Ended (passes_of (flow left read_failures reader reader') (flow written failures old mid) kept files files') person s
-      → BreaksDown (passes_of (flow left read_failures reader reader') (flow written failures old new) kept files files') person s
+      → Ended (passes_of (flow left read_failures reader reader') (flow written failures old mid) calls files files') person s
+      → BreaksDown (passes_of (flow left read_failures reader reader') (flow written failures old new) calls files files') person s
   ended_breaks count e = record {
     input = e.input;
     text = e.text;
-    texts = e.texts;
+    calls = e.calls;
     quits = e.quits;
     talk = e.talk;
     rest = [];
@@ -66,16 +66,16 @@ module _ {Y X Z : Type 0} (left : Y → Option (List ℕ)) (read_failures : Y �
     beginning = ([], sym (append-nil e.text));
     got = same ∙ e.got.got;
     failed = inr (let c : failures mid ≡ failures old = e.got.count in omega (arith, count, c));
-    kept = e.kept;
+    called = e.called;
   }
 
   broken_on : failures new ≡ failures mid
-      → BreaksDown (passes_of (flow left read_failures reader reader') (flow written failures old mid) kept files files') person s
-      → BreaksDown (passes_of (flow left read_failures reader reader') (flow written failures old new) kept files files') person s
+      → BreaksDown (passes_of (flow left read_failures reader reader') (flow written failures old mid) calls files files') person s
+      → BreaksDown (passes_of (flow left read_failures reader reader') (flow written failures old new) calls files files') person s
   broken_on count b = record {
     input = b.input;
     text = b.text;
-    texts = b.texts;
+    calls = b.calls;
     quits = b.quits;
     talk = b.talk;
     rest = b.rest;
@@ -87,16 +87,16 @@ module _ {Y X Z : Type 0} (left : Y → Option (List ℕ)) (read_failures : Y �
       | inl (more, unfailed) ↦ inl (more, count ∙ unfailed)
       | inr more ↦ inr (omega (arith, count, more))
     ];
-    kept = b.kept;
+    called = b.called;
   }
 
   broken_breaks : failures new ≡ failures mid + 1
-      → BreaksDown (passes_of (flow left read_failures reader reader') (flow written failures old mid) kept files files') person s
-      → BreaksDown (passes_of (flow left read_failures reader reader') (flow written failures old new) kept files files') person s
+      → BreaksDown (passes_of (flow left read_failures reader reader') (flow written failures old mid) calls files files') person s
+      → BreaksDown (passes_of (flow left read_failures reader reader') (flow written failures old new) calls files files') person s
   broken_breaks count b = record {
     input = b.input;
     text = b.text;
-    texts = b.texts;
+    calls = b.calls;
     quits = b.quits;
     talk = b.talk;
     rest = b.rest;
@@ -108,21 +108,21 @@ module _ {Y X Z : Type 0} (left : Y → Option (List ℕ)) (read_failures : Y �
       | inl (more, unfailed) ↦ inr (omega (arith, count, unfailed))
       | inr more ↦ inr (omega (arith, count, more))
     ];
-    kept = b.kept;
+    called = b.called;
   }
 
 module _ {Y X Z : Type 0} (left : Y → Option (List ℕ)) (read_failures : Y → ℕ) (written : X → Option (List ℕ)) (failures : X → ℕ)
-    (kept : Z → Option (List (List KeptText))) (reader reader' : Y) (files files' : Z) (old mid new : X)
+    (calls : Z → Option (List Call)) (reader reader' : Y) (files files' : Z) (old mid new : X)
     (person : Bool) (file : List ℕ) (begun : Begun) where
   -- the flush after a session
   pub shell_flushed : (done result : Result (Unit {0}) RunFault)
-      → EndsShell (passes_of (flow left read_failures reader reader') (flow written failures old mid) kept files files') person file begun done
+      → EndsShell (passes_of (flow left read_failures reader reader') (flow written failures old mid) calls files files') person file begun done
       → IsFlushed (flow written failures mid new) run_faults.Shell done result
-      → EndsShell (passes_of (flow left read_failures reader reader') (flow written failures old new) kept files files') person file begun result
+      → EndsShell (passes_of (flow left read_failures reader reader') (flow written failures old new) calls files files') person file begun result
   shell_flushed (Ok x) result (raw, is, (start, rows, pair, begins, at, e)) (flushes same count) =
-      (raw, is, (start, rows, pair, begins, at, ended_on left read_failures written failures kept reader reader' files files' old mid new same person _ count e))
+      (raw, is, (start, rows, pair, begins, at, ended_on left read_failures written failures calls reader reader' files files' old mid new same person _ count e))
   shell_flushed (Ok x) result (raw, is, (start, rows, pair, begins, at, e)) (fails same count) =
-      inr (refl, inl (raw, is, (start, rows, pair, begins, at, ended_breaks left read_failures written failures kept reader reader' files files' old mid new same person _ count e)))
+      inr (refl, inl (raw, is, (start, rows, pair, begins, at, ended_breaks left read_failures written failures calls reader reader' files files' old mid new same person _ count e)))
   shell_flushed (Err fault) result (inl (refused, (reads, got, keeps))) (flushes same count) =
       inl (refused, (reads, record { got = same ∙ got.got; count = count ∙ got.count }, keeps))
   shell_flushed (Err fault) result (inl (refused, (reads, got, keeps))) (fails same count) =
@@ -136,9 +136,9 @@ module _ {Y X Z : Type 0} (left : Y → Option (List ℕ)) (read_failures : Y �
         }),
       )
   shell_flushed (Err fault) result (inr (is_shell, inl (raw, is, (start, rows, pair, begins, at, b)))) (flushes same count) =
-      inr (is_shell, inl (raw, is, (start, rows, pair, begins, at, broken_on left read_failures written failures kept reader reader' files files' old mid new same person _ count b)))
+      inr (is_shell, inl (raw, is, (start, rows, pair, begins, at, broken_on left read_failures written failures calls reader reader' files files' old mid new same person _ count b)))
   shell_flushed (Err fault) result (inr (is_shell, inl (raw, is, (start, rows, pair, begins, at, b)))) (fails same count) =
-      inr (refl, inl (raw, is, (start, rows, pair, begins, at, broken_breaks left read_failures written failures kept reader reader' files files' old mid new same person _ count b)))
+      inr (refl, inl (raw, is, (start, rows, pair, begins, at, broken_breaks left read_failures written failures calls reader reader' files files' old mid new same person _ count b)))
   shell_flushed (Err fault) result (inr (is_shell, inr o)) (flushes same count) =
       inr (
         is_shell,
@@ -162,7 +162,7 @@ module _ {Y X Z : Type 0} (left : Y → Option (List ℕ)) (read_failures : Y �
 
   -- no call fails fewer times than before
   more_failures : (done : Result (Unit {0}) RunFault)
-      → EndsShell (passes_of (flow left read_failures reader reader') (flow written failures old mid) kept files files') person file begun done
+      → EndsShell (passes_of (flow left read_failures reader reader') (flow written failures old mid) calls files files') person file begun done
       → failures old ≤ failures mid
   more_failures (Ok x) (raw, is, (start, rows, pair, begins, at, e)) =
       let c : failures mid ≡ failures old = e.got.count in omega (arith, c)
@@ -177,7 +177,7 @@ module _ {Y X Z : Type 0} (left : Y → Option (List ℕ)) (read_failures : Y �
       let more : failures old < failures mid = o.failed in omega (arith, more)
 
   pub shell_unfailed : (done result : Result (Unit {0}) RunFault)
-      → EndsShell (passes_of (flow left read_failures reader reader') (flow written failures old mid) kept files files') person file begun done
+      → EndsShell (passes_of (flow left read_failures reader reader') (flow written failures old mid) calls files files') person file begun done
       → IsFlushed (flow written failures mid new) run_faults.Shell done result → failures new ≡ failures old
       → failures new ≡ failures mid
   shell_unfailed done result e (flushes same count) all = count
@@ -185,36 +185,36 @@ module _ {Y X Z : Type 0} (left : Y → Option (List ℕ)) (read_failures : Y �
       let more = more_failures done e in omega (arith, count, more, all)
 
 module _ {Y X Z : Type 0} (left : Y → Option (List ℕ)) (read_failures : Y → ℕ) (written : X → Option (List ℕ)) (failures : X → ℕ)
-    (kept : Z → Option (List (List KeptText))) (reader reader' : Y) (files files' : Z) (out out' : X) (person : Bool) (s : SessionState) where
+    (calls : Z → Option (List Call)) (reader reader' : Y) (files files' : Z) (out out' : X) (person : Bool) (s : SessionState) where
   abbrev pub start_of_all : Moment
-  start_of_all = record { bytes = written out; failures = failures out; kept = kept files }
+  start_of_all = record { bytes = written out; failures = failures out; calls = calls files }
 
   abbrev pub end_of_all : Moment
-  end_of_all = record { bytes = written out'; failures = failures out'; kept = kept files' }
+  end_of_all = record { bytes = written out'; failures = failures out'; calls = calls files' }
 
   pub ended_done : (input : List ℕ) (quits : Bool) → Done start_of_all end_of_all person s input quits
       → left reader ≡ before input (left reader') → (quits ≡ false → IsAtEnd (left reader'))
-      → Ended (passes_of (flow left read_failures reader reader') (flow written failures out out') kept files files') person s
+      → Ended (passes_of (flow left read_failures reader reader') (flow written failures out out') calls files files') person s
   ended_done input quits d read whole = record {
     input = input;
     text = d.text;
-    texts = d.calls;
+    calls = d.calls;
     quits = quits;
     talk = d.talk;
     read = read;
     whole = whole;
     got = record { got = d.got; count = d.count };
-    kept = d.kept;
+    called = d.called;
   }
 
   pub breaks_part : (input : List ℕ) → Part start_of_all end_of_all person s input
       → left reader ≡ before input (left reader')
       → ((read_failures reader < read_failures reader') × (failures out' ≡ failures out)) ⊎ (failures out < failures out')
-      → BreaksDown (passes_of (flow left read_failures reader reader') (flow written failures out out') kept files files') person s
+      → BreaksDown (passes_of (flow left read_failures reader reader') (flow written failures out out') calls files files') person s
   breaks_part input p read failed = record {
     input = p.part;
     text = p.text;
-    texts = p.calls;
+    calls = p.calls;
     quits = p.quits;
     talk = p.talk;
     rest = p.rest;
@@ -223,7 +223,7 @@ module _ {Y X Z : Type 0} (left : Y → Option (List ℕ)) (read_failures : Y �
     beginning = p.beginning;
     got = p.got;
     failed = failed;
-    kept = p.kept;
+    called = p.called;
   }
 
 -- ---- the session of files
@@ -289,16 +289,16 @@ module _ {Y X Z : Type 0} (passes : Passes Y X Z) (person : Bool) (file : List �
       )
 
 module _ {Y X Z : Type 0} (left : Y → Option (List ℕ)) (read_failures : Y → ℕ) (written : X → Option (List ℕ)) (failures : X → ℕ)
-    (kept : Z → Option (List (List KeptText))) (reader : Y) (files : Z) (out : X) (person : Bool) (file : List ℕ) (begun : Begun) where
+    (calls : Z → Option (List Call)) (reader : Y) (files : Z) (out : X) (person : Bool) (file : List ℕ) (begun : Begun) where
   -- nothing passes before a refusal
   pub shell_refused : (fault : RunFault) → RefusesFiles file begun fault
-      → EndsShell (passes_of (flow left read_failures reader reader) (flow written failures out out) kept files files) person file begun (Err fault)
+      → EndsShell (passes_of (flow left read_failures reader reader) (flow written failures out out) calls files files) person file begun (Err fault)
   shell_refused fault h = inl (h, (refl, record { got = sym (after-nil (written out)); count = refl }, refl))
 
 -- ---- the end of the input
 
 module _ {Y X Z : Type 0} (left : Y → Option (List ℕ)) (read_failures : Y → ℕ) (written : X → Option (List ℕ)) (failures : X → ℕ)
-    (kept : Z → Option (List (List KeptText))) (reader reader' : Y) (files files' : Z) (out out' : X) (person : Bool)
+    (calls : Z → Option (List Call)) (reader reader' : Y) (files files' : Z) (out out' : X) (person : Bool)
     (c : Conversation) (line : Line) where
   -- so far the input gives this
   abbrev pub Gives : (SessionState → List ℕ → Type 0) → Type 0
@@ -307,22 +307,22 @@ module _ {Y X Z : Type 0} (left : Y → Option (List ℕ)) (read_failures : Y �
       → (input : List ℕ) × (left reader ≡ before input (left reader')) × P s input
 
   pub ends_ok : {E : Type 0} (result : Result (Unit {0}) E)
-      → Gives (λ s input. EndsInput (record { bytes = written out; failures = failures out; kept = kept files })
-      (record { bytes = written out'; failures = failures out'; kept = kept files' }) person s input result)
+      → Gives (λ s input. EndsInput (record { bytes = written out; failures = failures out; calls = calls files })
+      (record { bytes = written out'; failures = failures out'; calls = calls files' }) person s input result)
       → IsAtEnd (left reader')
       → OnOk result ((s : SessionState) → IsAt c s → HoldsLine [] line
-      → Ended (passes_of (flow left read_failures reader reader') (flow written failures out out') kept files files') person s)
+      → Ended (passes_of (flow left read_failures reader reader') (flow written failures out out') calls files files') person s)
   ends_ok (Err e) g end = tt
   ends_ok (Ok x) g end = λ s at h.
       let (input, read, (quits, d)) = g s at h in
-      ended_done left read_failures written failures kept reader reader' files files' out out' person s input quits d read (λ q. end)
+      ended_done left read_failures written failures calls reader reader' files files' out out' person s input quits d read (λ q. end)
 
   pub ends_broken : {A E : Type 0} (result : Result A E)
-      → Gives (λ s input. EndsInput (record { bytes = written out; failures = failures out; kept = kept files })
-      (record { bytes = written out'; failures = failures out'; kept = kept files' }) person s input result)
+      → Gives (λ s input. EndsInput (record { bytes = written out; failures = failures out; calls = calls files })
+      (record { bytes = written out'; failures = failures out'; calls = calls files' }) person s input result)
       → OnErr result ((s : SessionState) → IsAt c s → HoldsLine [] line
-      → BreaksDown (passes_of (flow left read_failures reader reader') (flow written failures out out') kept files files') person s)
+      → BreaksDown (passes_of (flow left read_failures reader reader') (flow written failures out out') calls files files') person s)
   ends_broken (Ok x) g = tt
   ends_broken (Err e) g = λ s at h.
       let (input, read, (p, more)) = g s at h in
-      breaks_part left read_failures written failures kept reader reader' files files' out out' person s input p read (inr more)
+      breaks_part left read_failures written failures calls reader reader' files files' out out' person s input p read (inr more)

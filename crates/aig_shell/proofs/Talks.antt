@@ -16,9 +16,9 @@ use Rattle.aig_shell.specs.declared.talk.Line.{Line}
 use Rattle.aig_shell.specs.declared.talk.Talker.{Talker}
 use Rattle.aig_shell.specs.Answers.{LineAnswer, IsUnsaved}
 use Rattle.aig_shell.specs.Conversation.{IsPiece, Answered, none, one_more, Converses, at_end, ended, last, AnswersLine}
-use Rattle.aig_shell.specs.Conversation.{IsAt, no_memory, IsGreeting, IsFarewell, call_of, ends_after, prompt}
-use Rattle.aig_shell.specs.Ends.{with_texts}
-use Rattle.aig_shell.specs.Files.{KeptText}
+use Rattle.aig_shell.specs.Conversation.{IsAt, no_memory, IsGreeting, IsFarewell, ends_after, prompt}
+use Rattle.aig_shell.specs.Ends.{with_calls}
+use Rattle.aig_shell.specs.Files.{Call}
 use Rattle.aig_shell.specs.State.{SessionState}
 use Rattle.aig_shell.specs.Talking.{Moment, HoldsLine, Replies, Stands, Done, Part, Finished, Finishes, Feeds}
 use Rattle.aig_shell.specs.Talking.{EndsInput, newline}
@@ -47,21 +47,21 @@ begins_in greeting text all done more e =
     ap (λ (t : List ℕ). greeting ++ (text ++ t)) e ∙ sym (append_assoc greeting text (done ++ more))
     ∙ sym (append_assoc (greeting ++ text) done more)
 
--- ---- what is written and kept in turn
+-- ---- what is written, and the calls, in turn
 
 wrote_on : (start mid now : Option (List ℕ)) (a b : List ℕ) → mid ≡ after start a → now ≡ after mid b → now ≡ after start (a ++ b)
 wrote_on start mid now a b e f = f ∙ ap (λ (w : Option (List ℕ)). after w b) e ∙ after-append start a b
 
-with_more : (start : Option (List (List KeptText))) (a b : List (List KeptText))
-    → with_texts (with_texts start a) b ≡ with_texts start (a ++ b)
+with_more : (start : Option (List Call)) (a b : List Call)
+    → with_calls (with_calls start a) b ≡ with_calls start (a ++ b)
 with_more None a b = refl
 with_more (Some old) a b = ap Some (append_assoc old a b)
 
-kept_on : (start mid now : Option (List (List KeptText))) (a b : List (List KeptText)) → mid ≡ with_texts start a
-    → now ≡ with_texts mid b → now ≡ with_texts start (a ++ b)
-kept_on start mid now a b e f = f ∙ ap (λ (w : Option (List (List KeptText))). with_texts w b) e ∙ with_more start a b
+called_on : (start mid now : Option (List Call)) (a b : List Call) → mid ≡ with_calls start a
+    → now ≡ with_calls mid b → now ≡ with_calls start (a ++ b)
+called_on start mid now a b e f = f ∙ ap (λ (w : Option (List Call)). with_calls w b) e ∙ with_more start a b
 
-with_none : (start : Option (List (List KeptText))) → start ≡ with_texts start []
+with_none : (start : Option (List Call)) → start ≡ with_calls start []
 with_none None = refl
 with_none (Some old) = ap Some (sym (append-nil old))
 
@@ -95,7 +95,7 @@ on_ok (Ok x) p = p
 on_ok (Err e) p = tt
 
 pub reply_written : {E : Type 0} {old new : Conversation} {line : List ℕ} {before now : Moment} (text : List ℕ) (after_it : Next)
-    → AnswersLine old line text before.kept now.kept (ends_after after_it) new → now.bytes ≡ after before.bytes text
+    → AnswersLine old line text before.calls now.calls (ends_after after_it) new → now.bytes ≡ after before.bytes text
     → now.failures ≡ before.failures + 0 → Replies {E = E} old line before now (Ok after_it) new
 reply_written text after_it answers got count = record {
   text = text;
@@ -107,7 +107,7 @@ reply_written text after_it answers got count = record {
 
 pub reply_failed : {E : Type 0} {result : Result Next E} {old new : Conversation} {line : List ℕ} {before now : Moment}
     (text done more : List ℕ) (after_it : Next) → IsErr result
-    → AnswersLine old line text before.kept now.kept (ends_after after_it) new → text ≡ done ++ more
+    → AnswersLine old line text before.calls now.calls (ends_after after_it) new → text ≡ done ++ more
     → now.bytes ≡ after before.bytes done → now.failures ≡ before.failures + 1 → Replies old line before now result new
 reply_failed {result = Ok x} text done more after_it is answers begins got count = absurd (false≢true is)
 reply_failed {result = Err e} text done more after_it is answers begins got count = record {
@@ -124,20 +124,20 @@ replies_same {E} {result} {old} {new} {before} {now} held piece nothing r =
     subst (λ (t : List ℕ). Replies old (t ++ piece) before now result new) (sym nothing) r
 
 -- memory is wanting for the line
-pub lacks_memory : (c : Conversation) (line : List ℕ) (kept : Option (List (List KeptText)))
-    → AnswersLine c line no_memory kept kept false c
-lacks_memory c line kept s at = ([], s, inr (inr (inr (refl, refl, refl, inl refl))), at, with_none kept)
+pub lacks_memory : (c : Conversation) (line : List ℕ) (calls : Option (List Call))
+    → AnswersLine c line no_memory calls calls false c
+lacks_memory c line calls s at = ([], s, inr (inr (inr (refl, inl refl, refl, inl refl))), at, with_none calls)
 
 -- a line is answered
-line_converses : (person ends : Bool) (s mid after : SessionState) (input text line answer : List ℕ) (calls : List (List KeptText))
-    (texts : List KeptText) → Answered person s input text calls mid → IsPiece line → LineAnswer mid line answer texts ends after
-    → (tail : List ℕ) × Converses person s (input ++ (line ++ 10 ∷ [])) (text ++ (answer ++ tail)) (calls ++ call_of texts) ends after
-line_converses person false s mid after input text line answer calls texts a p l =
-    (prompt person, at_end after _ _ _ (one_more mid after input text line answer calls texts a p l))
-line_converses person true s mid after input text line answer calls texts a p l = (
+line_converses : (person ends : Bool) (s mid after : SessionState) (input text line answer : List ℕ) (calls called : List Call)
+    → Answered person s input text calls mid → IsPiece line → LineAnswer mid line answer called ends after
+    → (tail : List ℕ) × Converses person s (input ++ (line ++ 10 ∷ [])) (text ++ (answer ++ tail)) (calls ++ called) ends after
+line_converses person false s mid after input text line answer calls called a p l =
+    (prompt person, at_end after _ _ _ (one_more mid after input text line answer calls called a p l))
+line_converses person true s mid after input text line answer calls called a p l = (
   [],
-  subst (λ (t : List ℕ). Converses person s (input ++ (line ++ 10 ∷ [])) (text ++ t) (calls ++ call_of texts) true after)
-      (sym (append-nil answer)) (ended mid after input text line answer [] calls texts a p l),
+  subst (λ (t : List ℕ). Converses person s (input ++ (line ++ 10 ∷ [])) (text ++ t) (calls ++ called) true after)
+      (sym (append-nil answer)) (ended mid after input text line answer [] calls called a p l),
 )
 
 -- some words at the end of the input
@@ -160,11 +160,11 @@ part_input input lines rest piece more e =
     ∙ sym (append_assoc lines ((rest ++ piece) ++ 10 ∷ []) more)
 
 -- a beginning of what was answered is written
-part_of : {start now : Moment} {person : Bool} {s end : SessionState} {input part answers : List ℕ} {calls : List (List KeptText)}
+part_of : {start now : Moment} {person : Bool} {s end : SessionState} {input part answers : List ℕ} {calls : List Call}
     {ends : Bool} (greeting rest done more : List ℕ) → input ≡ part ++ rest → IsGreeting person greeting → Converses person s part answers calls ends end
-    → greeting ++ answers ≡ done ++ more → now.bytes ≡ after start.bytes done → now.kept ≡ with_texts start.kept calls
+    → greeting ++ answers ≡ done ++ more → now.bytes ≡ after start.bytes done → now.calls ≡ with_calls start.calls calls
     → Part start now person s input
-part_of {person} {end} {part} {answers} {calls} {ends} greeting rest done more is greets c begins got kept =
+part_of {person} {end} {part} {answers} {calls} {ends} greeting rest done more is greets c begins got keeps =
     let (farewell, says) = farewell_of person ends end in
     record {
       part = part;
@@ -189,16 +189,16 @@ part_of {person} {end} {part} {answers} {calls} {ends} greeting rest done more i
         sym (append_assoc greeting answers farewell) ∙ ap (λ (t : List ℕ). t ++ farewell) begins ∙ append_assoc done more farewell,
       );
       got = got;
-      kept = kept;
+      called = keeps;
     }
 
 -- ---- from moment to moment
 
 pub stands_begin : {start now : Moment} {person : Bool} {s : SessionState} {t : Talker} (greeting : List ℕ) → IsGreeting person greeting
     → IsAt t.conversation s → HoldsLine [] t.line → t.has_prompt ≡ person
-    → now.bytes ≡ after start.bytes greeting → now.failures ≡ start.failures → now.kept ≡ start.kept
+    → now.bytes ≡ after start.bytes greeting → now.failures ≡ start.failures → now.calls ≡ start.calls
     → Stands start now person s [] t
-stands_begin {start} {s} greeting g at holds person got count kept = record {
+stands_begin {start} {s} greeting g at holds person got count keeps = record {
   mid = s;
   greeting = greeting;
   lines = [];
@@ -214,13 +214,13 @@ stands_begin {start} {s} greeting g at holds person got count kept = record {
   prompts = person;
   got = got ∙ ap (after start.bytes) (sym (append-nil greeting));
   count = count;
-  kept = kept ∙ with_none start.kept;
+  called = keeps ∙ with_none start.calls;
 }
 
 pub part_begin : {start now : Moment} {person : Bool} {s : SessionState} (greeting done more : List ℕ) → IsGreeting person greeting
-    → greeting ≡ done ++ more → now.bytes ≡ after start.bytes done → now.kept ≡ start.kept → Part start now person s []
-part_begin {start} {s} greeting done more g e got kept =
-    part_of greeting [] done more refl g (at_end s [] [] [] none) (append-nil greeting ∙ e) got (kept ∙ with_none start.kept)
+    → greeting ≡ done ++ more → now.bytes ≡ after start.bytes done → now.calls ≡ start.calls → Part start now person s []
+part_begin {start} {s} greeting done more g e got keeps =
+    part_of greeting [] done more refl g (at_end s [] [] [] none) (append-nil greeting ∙ e) got (keeps ∙ with_none start.calls)
 
 -- more bytes of a line
 pub stands_more : {start now : Moment} {person : Bool} {s : SessionState} {input : List ℕ} {t u : Talker} (bytes : List ℕ)
@@ -242,7 +242,7 @@ stands_more bytes st p more same prompts = record {
   prompts = prompts ∙ st.prompts;
   got = st.got;
   count = st.count;
-  kept = st.kept;
+  called = st.called;
 }
 
 -- a line is answered, and the prompt is written
@@ -250,14 +250,14 @@ pub stands_line : {E : Type 0} {start old mid now : Moment} {person : Bool} {s :
     → Stands start old person s input t → IsPiece piece
     → ((held : List ℕ) → HoldsLine held t.line → Replies {E = E} t.conversation (held ++ piece) old mid (Ok next.GoesOn) u.conversation)
     → ((held : List ℕ) → HoldsLine held t.line → HoldsLine [] u.line) → u.has_prompt ≡ t.has_prompt
-    → now.bytes ≡ after mid.bytes (prompt u.has_prompt) → now.failures ≡ mid.failures + 0 → now.kept ≡ mid.kept
+    → now.bytes ≡ after mid.bytes (prompt u.has_prompt) → now.failures ≡ mid.failures + 0 → now.calls ≡ mid.calls
     → Stands start now person s (input ++ (piece ++ 10 ∷ [])) u
-stands_line {start} {old} {mid} {now} {person} {input} {u} piece st p reply empty same got count kept =
+stands_line {start} {old} {mid} {now} {person} {input} {u} piece st p reply empty same got count keeps =
     let r = reply st.rest st.holds in
-    let (texts, end, answers, at, files) = r.answers st.mid st.at in
+    let (called, end, answers, at, files) = r.answers st.mid st.at in
     let goes_on : ends_after r.next ≡ false = ap ends_after (sym r.same) in
-    let answers : LineAnswer st.mid (st.rest ++ piece) r.text texts false end
-    = subst (λ (b : Bool). LineAnswer st.mid (st.rest ++ piece) r.text texts b end) goes_on answers in
+    let answers : LineAnswer st.mid (st.rest ++ piece) r.text called false end
+    = subst (λ (b : Bool). LineAnswer st.mid (st.rest ++ piece) r.text called b end) goes_on answers in
     let person_is : u.has_prompt ≡ person = same ∙ st.prompts in
     record {
       mid = end;
@@ -265,9 +265,9 @@ stands_line {start} {old} {mid} {now} {person} {input} {u} piece st p reply empt
       lines = st.lines ++ ((st.rest ++ piece) ++ 10 ∷ []);
       rest = [];
       text = st.text ++ (r.text ++ prompt person);
-      calls = st.calls ++ call_of texts;
+      calls = st.calls ++ called;
       greets = st.greets;
-      answered = one_more st.mid end st.lines st.text (st.rest ++ piece) r.text st.calls texts st.answered
+      answered = one_more st.mid end st.lines st.text (st.rest ++ piece) r.text st.calls called st.answered
           (All-append (λ b. b ≢ 10) st.rest piece st.piece p) answers;
       input_is = line_input input st.lines st.rest piece [] st.input_is ∙ sym (append-nil _);
       piece = All-nil (λ b. b ≢ 10);
@@ -280,7 +280,7 @@ stands_line {start} {old} {mid} {now} {person} {input} {u} piece st p reply empt
           ∙ ap (after start.bytes) (append_assoc (st.greeting ++ st.text) r.text (prompt person)
           ∙ append_assoc st.greeting st.text (r.text ++ prompt person));
       count = omega (arith, count, r.writes.count, st.count);
-      kept = kept ∙ kept_on start.kept old.kept mid.kept st.calls (call_of texts) st.kept files;
+      called = keeps ∙ called_on start.calls old.calls mid.calls st.calls called st.called files;
     }
 
 -- a line ends the session
@@ -290,22 +290,22 @@ pub done_line : {E : Type 0} {start old now : Moment} {person : Bool} {s : Sessi
     → Done start now person s (input ++ (piece ++ 10 ∷ more)) true
 done_line {start} {old} {now} {person} {s} {input} piece more st p reply =
     let r = reply st.rest st.holds in
-    let (texts, end, answers, at, files) = r.answers st.mid st.at in
+    let (called, end, answers, at, files) = r.answers st.mid st.at in
     let ends : ends_after r.next ≡ true = ap ends_after (sym r.same) in
-    let answers : LineAnswer st.mid (st.rest ++ piece) r.text texts true end
-    = subst (λ (b : Bool). LineAnswer st.mid (st.rest ++ piece) r.text texts b end) ends answers in
+    let answers : LineAnswer st.mid (st.rest ++ piece) r.text called true end
+    = subst (λ (b : Bool). LineAnswer st.mid (st.rest ++ piece) r.text called b end) ends answers in
     record {
       text = st.greeting ++ ((st.text ++ r.text) ++ []);
-      calls = st.calls ++ call_of texts;
+      calls = st.calls ++ called;
       talk = record {
         new = end;
         greeting = st.greeting;
         answers = st.text ++ r.text;
         farewell = [];
         greets = st.greets;
-        converses = subst (λ (i : List ℕ). Converses person s i (st.text ++ r.text) (st.calls ++ call_of texts) true end)
+        converses = subst (λ (i : List ℕ). Converses person s i (st.text ++ r.text) (st.calls ++ called) true end)
             (sym (line_input input st.lines st.rest piece more st.input_is))
-            (ended st.mid end st.lines st.text (st.rest ++ piece) r.text more st.calls texts st.answered
+            (ended st.mid end st.lines st.text (st.rest ++ piece) r.text more st.calls called st.answered
             (All-append (λ b. b ≢ 10) st.rest piece st.piece p) answers);
         ends = refl;
         text_is = refl;
@@ -314,7 +314,7 @@ done_line {start} {old} {now} {person} {s} {input} piece more st p reply =
           ∙ ap (after start.bytes) (append_assoc st.greeting st.text r.text
           ∙ ap (λ (x : List ℕ). st.greeting ++ x) (sym (append-nil (st.text ++ r.text))));
       count = omega (arith, r.writes.count, st.count);
-      kept = kept_on start.kept old.kept now.kept st.calls (call_of texts) st.kept files;
+      called = called_on start.calls old.calls now.calls st.calls called st.called files;
     }
 
 -- the answer to a line is not written
@@ -324,16 +324,16 @@ pub part_line : {E : Type 0} {e : E} {start old now : Moment} {person : Bool} {s
     → Part start now person s (input ++ (piece ++ 10 ∷ more)) × (start.failures < now.failures)
 part_line {start} {old} {now} {person} {s} {input} piece more st p reply =
     let r = reply st.rest st.holds in
-    let (texts, end, answers, at, files) = r.answers st.mid st.at in
+    let (called, end, answers, at, files) = r.answers st.mid st.at in
     let (done, (others, begins), got) = r.writes.err in
-    let (tail, c) = line_converses person (ends_after r.next) s st.mid end st.lines st.text (st.rest ++ piece) r.text st.calls texts
+    let (tail, c) = line_converses person (ends_after r.next) s st.mid end st.lines st.text (st.rest ++ piece) r.text st.calls called
     st.answered (All-append (λ b. b ≢ 10) st.rest piece st.piece p) answers in (
       part_of st.greeting more ((st.greeting ++ st.text) ++ done) (others ++ tail) (part_input input st.lines st.rest piece more st.input_is)
           st.greets c
           (begins_in st.greeting st.text (r.text ++ tail) done (others ++ tail)
           (ap (λ (x : List ℕ). x ++ tail) begins ∙ append_assoc done others tail))
           (wrote_on start.bytes old.bytes now.bytes (st.greeting ++ st.text) done st.got got)
-          (kept_on start.kept old.kept now.kept st.calls (call_of texts) st.kept files),
+          (called_on start.calls old.calls now.calls st.calls called st.called files),
       omega (arith, r.writes.count, st.count),
     )
 
@@ -342,33 +342,33 @@ pub part_prompt : {E : Type 0} {start old mid now : Moment} {person : Bool} {s :
     (u : Talker) (piece more done others : List ℕ) → Stands start old person s input t → IsPiece piece
     → ((held : List ℕ) → HoldsLine held t.line → Replies {E = E} t.conversation (held ++ piece) old mid (Ok next.GoesOn) u.conversation)
     → u.has_prompt ≡ t.has_prompt → prompt u.has_prompt ≡ done ++ others
-    → now.bytes ≡ after mid.bytes done → now.failures ≡ mid.failures + 1 → now.kept ≡ mid.kept
+    → now.bytes ≡ after mid.bytes done → now.failures ≡ mid.failures + 1 → now.calls ≡ mid.calls
     → Part start now person s (input ++ (piece ++ 10 ∷ more)) × (start.failures < now.failures)
-part_prompt {start} {old} {mid} {now} {person} {s} {input} u piece more done others st p reply same begins got count kept =
+part_prompt {start} {old} {mid} {now} {person} {s} {input} u piece more done others st p reply same begins got count keeps =
     let r = reply st.rest st.holds in
-    let (texts, end, answers, at, files) = r.answers st.mid st.at in
+    let (called, end, answers, at, files) = r.answers st.mid st.at in
     let goes_on : ends_after r.next ≡ false = ap ends_after (sym r.same) in
-    let answers : LineAnswer st.mid (st.rest ++ piece) r.text texts false end
-    = subst (λ (b : Bool). LineAnswer st.mid (st.rest ++ piece) r.text texts b end) goes_on answers in
+    let answers : LineAnswer st.mid (st.rest ++ piece) r.text called false end
+    = subst (λ (b : Bool). LineAnswer st.mid (st.rest ++ piece) r.text called b end) goes_on answers in
     let begins : prompt person ≡ done ++ others = ap prompt (sym (same ∙ st.prompts)) ∙ begins in (
       part_of st.greeting more ((st.greeting ++ st.text) ++ (r.text ++ done)) others (part_input input st.lines st.rest piece more st.input_is)
           st.greets
-          (at_end end _ _ _ (one_more st.mid end st.lines st.text (st.rest ++ piece) r.text st.calls texts st.answered
+          (at_end end _ _ _ (one_more st.mid end st.lines st.text (st.rest ++ piece) r.text st.calls called st.answered
           (All-append (λ b. b ≢ 10) st.rest piece st.piece p) answers))
           (begins_in st.greeting st.text (r.text ++ prompt person) (r.text ++ done) others
           (ap (λ (x : List ℕ). r.text ++ x) begins ∙ sym (append_assoc r.text done others)))
           (wrote_on start.bytes mid.bytes now.bytes ((st.greeting ++ st.text) ++ r.text) done
           (wrote_on start.bytes old.bytes mid.bytes (st.greeting ++ st.text) r.text st.got r.writes.ok) got
           ∙ ap (after start.bytes) (append_assoc (st.greeting ++ st.text) r.text done))
-          (kept ∙ kept_on start.kept old.kept mid.kept st.calls (call_of texts) st.kept files),
+          (keeps ∙ called_on start.calls old.calls mid.calls st.calls called st.called files),
       omega (arith, count, r.writes.count, st.count),
     )
 
 -- a flush
 pub stands_flushed : {start now later : Moment} {person : Bool} {s : SessionState} {input : List ℕ} {t : Talker}
-    → Stands start now person s input t → later.bytes ≡ now.bytes → later.failures ≡ now.failures + 0 → later.kept ≡ now.kept
+    → Stands start now person s input t → later.bytes ≡ now.bytes → later.failures ≡ now.failures + 0 → later.calls ≡ now.calls
     → Stands start later person s input t
-stands_flushed st bytes count kept = record {
+stands_flushed st bytes count keeps = record {
   mid = st.mid;
   greeting = st.greeting;
   lines = st.lines;
@@ -384,15 +384,15 @@ stands_flushed st bytes count kept = record {
   prompts = st.prompts;
   got = bytes ∙ st.got;
   count = omega (arith, count, st.count);
-  kept = kept ∙ st.kept;
+  called = keeps ∙ st.called;
 }
 
 -- a flush or a read fails
 pub part_stands : {start now later : Moment} {person : Bool} {s : SessionState} {input : List ℕ} {t : Talker}
-    → Stands start now person s input t → later.bytes ≡ now.bytes → later.kept ≡ now.kept → Part start later person s input
-part_stands st bytes kept =
+    → Stands start now person s input t → later.bytes ≡ now.bytes → later.calls ≡ now.calls → Part start later person s input
+part_stands st bytes keeps =
     part_of st.greeting st.rest (st.greeting ++ st.text) [] st.input_is st.greets (at_end st.mid st.lines st.text st.calls st.answered)
-    (sym (append-nil (st.greeting ++ st.text))) (bytes ∙ st.got) (kept ∙ st.kept)
+    (sym (append-nil (st.greeting ++ st.text))) (bytes ∙ st.got) (keeps ∙ st.called)
 
 -- ---- the end of the input
 
@@ -414,7 +414,7 @@ finished_stands {person} {s} {input} st nothing =
       prompts = st.prompts;
       got = st.got;
       count = st.count;
-      kept = st.kept;
+      called = st.called;
     }
 
 module _ {E : Type 0} {start old now : Moment} {person : Bool} {s : SessionState} {input : List ℕ} {t : Talker} where
@@ -422,20 +422,20 @@ module _ {E : Type 0} {start old now : Moment} {person : Bool} {s : SessionState
   last_converses : {result : Result Next E} {c : Conversation} (st : Stands start old person s input t)
       → ((text : List ℕ) → HoldsLine text t.line → text ≢ [])
       → (r : Replies t.conversation (st.rest ++ []) old now result c)
-      → (texts : List KeptText) × (end : SessionState)
-      × Converses person s input (st.text ++ r.text) (st.calls ++ call_of texts) (ends_after r.next) end × IsAt c end
-      × (now.kept ≡ with_texts start.kept (st.calls ++ call_of texts))
+      → (called : List Call) × (end : SessionState)
+      × Converses person s input (st.text ++ r.text) (st.calls ++ called) (ends_after r.next) end × IsAt c end
+      × (now.calls ≡ with_calls start.calls (st.calls ++ called))
   last_converses st some r =
-      let (texts, end, answers, at, files) = r.answers st.mid st.at in
+      let (called, end, answers, at, files) = r.answers st.mid st.at in
       let whole : st.lines ++ (st.rest ++ []) ≡ input = ap (λ (x : List ℕ). st.lines ++ x) (append-nil st.rest) ∙ sym st.input_is in (
-        texts,
+        called,
         end,
-        subst (λ (i : List ℕ). Converses person s i (st.text ++ r.text) (st.calls ++ call_of texts) (ends_after r.next) end) whole
-            (last st.mid end st.lines st.text (st.rest ++ []) r.text st.calls texts (ends_after r.next) st.answered
+        subst (λ (i : List ℕ). Converses person s i (st.text ++ r.text) (st.calls ++ called) (ends_after r.next) end) whole
+            (last st.mid end st.lines st.text (st.rest ++ []) r.text st.calls called (ends_after r.next) st.answered
             (subst IsPiece (sym (append-nil st.rest)) st.piece)
             (λ e. some st.rest st.holds (sym (append-nil st.rest) ∙ e)) answers),
         at,
-        kept_on start.kept old.kept now.kept st.calls (call_of texts) st.kept files,
+        called_on start.calls old.calls now.calls st.calls called st.called files,
       )
 
   pub finished_line : {u : Talker} → Stands start old person s input t → ((text : List ℕ) → HoldsLine text t.line → text ≢ [])
@@ -443,21 +443,21 @@ module _ {E : Type 0} {start old now : Moment} {person : Bool} {s : SessionState
       → u.has_prompt ≡ t.has_prompt → Finished start now person s input u
   finished_line st some reply same =
       let r = reply st.rest st.holds in
-      let (texts, end, converses, at, kept) = last_converses st some r in
+      let (called, end, converses, at, keeps) = last_converses st some r in
       let goes_on : ends_after r.next ≡ false = ap ends_after (sym r.same) in
       record {
         mid = end;
         greeting = st.greeting;
         answers = st.text ++ r.text;
-        calls = st.calls ++ call_of texts;
+        calls = st.calls ++ called;
         greets = st.greets;
-        converses = subst (λ (b : Bool). Converses person s input (st.text ++ r.text) (st.calls ++ call_of texts) b end) goes_on converses;
+        converses = subst (λ (b : Bool). Converses person s input (st.text ++ r.text) (st.calls ++ called) b end) goes_on converses;
         at = at;
         prompts = same ∙ st.prompts;
         got = wrote_on start.bytes old.bytes now.bytes (st.greeting ++ st.text) r.text st.got r.writes.ok
             ∙ ap (after start.bytes) (append_assoc st.greeting st.text r.text);
         count = omega (arith, r.writes.count, st.count);
-        kept = kept;
+        called = keeps;
       }
 
   pub done_last : {c : Conversation} → Stands start old person s input t → ((text : List ℕ) → HoldsLine text t.line → text ≢ [])
@@ -465,18 +465,18 @@ module _ {E : Type 0} {start old now : Moment} {person : Bool} {s : SessionState
       → Done start now person s input true
   done_last st some reply =
       let r = reply st.rest st.holds in
-      let (texts, end, converses, at, kept) = last_converses st some r in
+      let (called, end, converses, at, keeps) = last_converses st some r in
       let ends : ends_after r.next ≡ true = ap ends_after (sym r.same) in
       record {
         text = st.greeting ++ ((st.text ++ r.text) ++ []);
-        calls = st.calls ++ call_of texts;
+        calls = st.calls ++ called;
         talk = record {
           new = end;
           greeting = st.greeting;
           answers = st.text ++ r.text;
           farewell = [];
           greets = st.greets;
-          converses = subst (λ (b : Bool). Converses person s input (st.text ++ r.text) (st.calls ++ call_of texts) b end) ends converses;
+          converses = subst (λ (b : Bool). Converses person s input (st.text ++ r.text) (st.calls ++ called) b end) ends converses;
           ends = refl;
           text_is = refl;
         };
@@ -484,7 +484,7 @@ module _ {E : Type 0} {start old now : Moment} {person : Bool} {s : SessionState
             ∙ ap (after start.bytes) (append_assoc st.greeting st.text r.text
             ∙ ap (λ (x : List ℕ). st.greeting ++ x) (sym (append-nil (st.text ++ r.text))));
         count = omega (arith, r.writes.count, st.count);
-        kept = kept;
+        called = keeps;
       }
 
   pub part_last : {e : E} {c : Conversation} → Stands start old person s input t → ((text : List ℕ) → HoldsLine text t.line → text ≢ [])
@@ -492,21 +492,21 @@ module _ {E : Type 0} {start old now : Moment} {person : Bool} {s : SessionState
       → Part start now person s input × (start.failures < now.failures)
   part_last st some reply =
       let r = reply st.rest st.holds in
-      let (texts, end, converses, at, kept) = last_converses st some r in
+      let (called, end, converses, at, keeps) = last_converses st some r in
       let (done, (others, begins), got) = r.writes.err in (
         part_of st.greeting [] ((st.greeting ++ st.text) ++ done) others (sym (append-nil input)) st.greets converses
             (begins_in st.greeting st.text r.text done others begins)
             (wrote_on start.bytes old.bytes now.bytes (st.greeting ++ st.text) done st.got got)
-            kept,
+            keeps,
         omega (arith, r.writes.count, st.count),
       )
 
 -- the last words are written
 pub done_finished : {start old now : Moment} {person : Bool} {s : SessionState} {input : List ℕ} {t : Talker} (mid : Moment) (what : List ℕ)
     → (f : Finished start old person s input t) → mid.bytes ≡ after old.bytes (newline t.has_prompt)
-    → ((IsUnsaved f.mid → ⊥) → what ≡ []) → now.bytes ≡ after mid.bytes what → now.failures ≡ old.failures → now.kept ≡ old.kept
+    → ((IsUnsaved f.mid → ⊥) → what ≡ []) → now.bytes ≡ after mid.bytes what → now.failures ≡ old.failures → now.calls ≡ old.calls
     → Done start now person s input false
-done_finished {start} {old} {now} {person} mid what f first says got count kept = record {
+done_finished {start} {old} {now} {person} mid what f first says got count keeps = record {
   text = f.greeting ++ (f.answers ++ (newline person ++ what));
   calls = f.calls;
   talk = record {
@@ -525,15 +525,15 @@ done_finished {start} {old} {now} {person} mid what f first says got count kept 
       ∙ ap (after start.bytes) (append_assoc (f.greeting ++ f.answers) (newline person) what
       ∙ append_assoc f.greeting f.answers (newline person ++ what));
   count = count ∙ f.count;
-  kept = kept ∙ f.kept;
+  called = keeps ∙ f.called;
 }
 
 -- they are not all written
 pub part_finished : {start old now : Moment} {person : Bool} {s : SessionState} {input : List ℕ} {t : Talker} (what done more : List ℕ)
     → (f : Finished start old person s input t) → ((IsUnsaved f.mid → ⊥) → what ≡ [])
-    → newline t.has_prompt ++ what ≡ done ++ more → now.bytes ≡ after old.bytes done → now.kept ≡ old.kept
+    → newline t.has_prompt ++ what ≡ done ++ more → now.bytes ≡ after old.bytes done → now.calls ≡ old.calls
     → Part start now person s input
-part_finished {start} {old} {now} {person} {input} what done more f says begins got kept = record {
+part_finished {start} {old} {now} {person} {input} what done more f says begins got keeps = record {
   part = input;
   rest = [];
   input_is = sym (append-nil input);
@@ -556,7 +556,7 @@ part_finished {start} {old} {now} {person} {input} what done more f says begins 
     begins_in f.greeting f.answers (newline person ++ what) done more (ap (λ (b : Bool). newline b ++ what) (sym f.prompts) ∙ begins),
   );
   got = wrote_on start.bytes old.bytes now.bytes (f.greeting ++ f.answers) done f.got got;
-  kept = kept ∙ f.kept;
+  called = keeps ∙ f.called;
 }
 
 -- ---- what a call answers
@@ -583,9 +583,9 @@ feeds_err (Err e) t is p = p
 -- the newline is not written
 pub part_newline : {start old now : Moment} {person : Bool} {s : SessionState} {input : List ℕ} {t : Talker} (done more : List ℕ)
     → Finished start old person s input t → newline t.has_prompt ≡ done ++ more → now.bytes ≡ after old.bytes done
-    → now.failures ≡ old.failures + 1 → now.kept ≡ old.kept → Part start now person s input × (start.failures < now.failures)
-part_newline done more f begins got count kept =
-    (part_finished [] done more f (λ n. refl) (append-nil _ ∙ begins) got kept, omega (arith, count, f.count))
+    → now.failures ≡ old.failures + 1 → now.calls ≡ old.calls → Part start now person s input × (start.failures < now.failures)
+part_newline done more f begins got count keeps =
+    (part_finished [] done more f (λ n. refl) (append-nil _ ∙ begins) got keeps, omega (arith, count, f.count))
 
 -- what is unsaved is written, or a write fails
 pub ends_finished : {A E : Type 0} {start old : Moment} {person : Bool} {s : SessionState} {input : List ℕ} {t : Talker} (mid now : Moment)
@@ -594,14 +594,14 @@ pub ends_finished : {A E : Type 0} {start old : Moment} {person : Bool} {s : Ses
     → ((u : SessionState) → IsAt t.conversation u → (IsUnsaved u → ⊥) → what ≡ [])
     → OnOk result (now.bytes ≡ after mid.bytes what)
     → OnErr result ((done : List ℕ) × IsBeginning done what × (now.bytes ≡ after mid.bytes done))
-    → now.failures ≡ mid.failures + failed result → now.kept ≡ old.kept → EndsInput start now person s input result
-ends_finished mid now what (Ok x) f first unfailed says ok err count kept =
-    (false, done_finished mid what f first (says f.mid f.at) ok (omega (arith, count, unfailed)) kept)
-ends_finished {start} {old} {t} mid now what (Err e) f first unfailed says ok (done, (more, begins), got) count kept = (
+    → now.failures ≡ mid.failures + failed result → now.calls ≡ old.calls → EndsInput start now person s input result
+ends_finished mid now what (Ok x) f first unfailed says ok err count keeps =
+    (false, done_finished mid what f first (says f.mid f.at) ok (omega (arith, count, unfailed)) keeps)
+ends_finished {start} {old} {t} mid now what (Err e) f first unfailed says ok (done, (more, begins), got) count keeps = (
   part_finished what (newline t.has_prompt ++ done) more f (says f.mid f.at)
       (ap (λ (x : List ℕ). newline t.has_prompt ++ x) begins ∙ sym (append_assoc (newline t.has_prompt) done more))
       (wrote_on old.bytes mid.bytes now.bytes (newline t.has_prompt) done first got)
-      kept,
+      keeps,
   omega (arith, count, unfailed, f.count),
 )
 

@@ -1,4 +1,4 @@
--- What a line does to a session, what is answered, and what is written to files (our own choice).
+-- What a line does to a session, what is answered, and which files are written or refused (our own choice).
 -- Example: after `no: ` all is as before.
 use Rattle.std.specs.Prelude.{◌≡◌, ◌≢◌, ◌⊎◌, ◌+◌, ◌-◌, ◌*◌, ◌≤◌, ℕ, max, if◌then◌else◌, Bool, true, false, IsTrue, List}
 use Rattle.std.specs.Prelude.{[], ◌∷◌, ◌++◌, length, map, codes, decimal, Option, None, Some, slice_get}
@@ -16,7 +16,7 @@ use Rattle.aig_prompt.specs.Table.{TableRow, IsTable}
 use Rattle.aig_prompt.specs.Words.{spaced_byte}
 use Rattle.aig_shell.specs.Edits.{AreFrames, Does}
 use Rattle.aig_shell.specs.Explained.{Explains, IsFrameOrLast}
-use Rattle.aig_shell.specs.Files.{KeptText, saved, IsWitnessed, IsWave}
+use Rattle.aig_shell.specs.Files.{KeptText, Call, refused, calls_of, saved, IsWitnessed, IsWave}
 use Rattle.aig_shell.specs.Request as request
 use Rattle.aig_shell.specs.Request.{Request, show, why_first, why, set, start, add, gate, rewire, append, out, check}
 use Rattle.aig_shell.specs.Request.{diff, save, witness, wave, list_names, help, quit, request_words, IsRequest}
@@ -143,14 +143,18 @@ Answers s quit text texts after = ⊥
 abbrev pub IsRefusal : List ℕ → Type 0
 IsRefusal text = (what : List ℕ) × (text ≡ codes "no: " ++ what)
 
--- a request has no answer in this state; a file may always be refused
+-- a request has no answer in this state
 abbrev pub HasNoAnswer : SessionState → Request → Type 0
-HasNoAnswer s (save circuit stimulus) = Unit {0}
-HasNoAnswer s (witness file name) = Unit {0}
-HasNoAnswer s (wave file) = Unit {0}
 HasNoAnswer s (help command) = Unit {0}
 HasNoAnswer s (list_names part) = Unit {0}
 HasNoAnswer s r = (text : List ℕ) (texts : List KeptText) (after : SessionState) → Answers s r text texts after → ⊥
+
+-- a request has no answer, or the files that were to get the texts of its answer are refused
+abbrev pub IsRefused : SessionState → Request → List Call → Type 0
+IsRefused s r calls =
+    (HasNoAnswer s r × (calls ≡ []))
+    ⊎ ((text : List ℕ) × (texts : List KeptText) × (after : SessionState) × Answers s r text texts after × (texts ≢ [])
+    × (calls ≡ refused texts ∷ []))
 
 -- something would be lost at the end
 abbrev pub IsUnsaved : SessionState → Type 0
@@ -164,11 +168,11 @@ EndsAt s false text after =
     × (after ≡ record s { has_warned = true })
 
 -- what the words of a line do; whether it ends the session
-abbrev pub AnswersRequest : SessionState → Request → List ℕ → List KeptText → Bool → SessionState → Type 0
-AnswersRequest s quit text texts ends after = EndsAt s ends text after × (texts ≡ [])
-AnswersRequest s r text texts ends after =
-    (ends ≡ false) × (Answers s r text texts after
-    ⊎ (HasNoAnswer s r × IsRefusal text × (texts ≡ []) × (after ≡ calm s)))
+abbrev pub AnswersRequest : SessionState → Request → List ℕ → List Call → Bool → SessionState → Type 0
+AnswersRequest s quit text calls ends after = EndsAt s ends text after × (calls ≡ [])
+AnswersRequest s r text calls ends after =
+    (ends ≡ false) × (((texts : List KeptText) × Answers s r text texts after × (calls ≡ calls_of texts))
+    ⊎ (IsRefused s r calls × IsRefusal text × (after ≡ calm s)))
 
 -- the words of a line; a tab and a CR are as a space
 abbrev pub line_words : List ℕ → List (List ℕ)
@@ -178,19 +182,23 @@ line_words line = words (map spaced_byte line)
 abbrev pub IsSilent : List (List ℕ) → Type 0
 IsSilent ws = (ws ≡ []) ⊎ ((rest : List ℕ) × (more : List (List ℕ)) × (ws ≡ (35 ∷ rest) ∷ more))
 
--- memory was wanting: the line did nothing
-abbrev pub LacksMemory : SessionState → List ℕ → List KeptText → Bool → SessionState → Type 0
-LacksMemory s text texts ends after =
-    (text ≡ codes "no: out of memory\n") × (texts ≡ []) × (ends ≡ false) × ((after ≡ s) ⊎ (after ≡ calm s))
+-- no file is written: there is no call, or one that is refused
+abbrev pub WritesNone : List Call → Type 0
+WritesNone calls = (calls ≡ []) ⊎ ((texts : List KeptText) × (calls ≡ refused texts ∷ []))
 
--- what the words of a line answer and write to files, whether the line ends the session, and what it leaves
-abbrev pub WordsAnswer : SessionState → List (List ℕ) → List ℕ → List KeptText → Bool → SessionState → Type 0
-WordsAnswer s ws text texts ends after =
-    (IsSilent ws × (text ≡ []) × (texts ≡ []) × (ends ≡ false) × (after ≡ s))
-    ⊎ ((r : Request) × IsRequest r × (ws ≡ request_words r) × AnswersRequest s r text texts ends after)
-    ⊎ (IsNoRequest ws × IsRefusal text × (texts ≡ []) × (ends ≡ false) × (after ≡ calm s))
-    ⊎ LacksMemory s text texts ends after
+-- memory was wanting: the line did nothing; or files were refused, and there was no memory to say so
+abbrev pub LacksMemory : SessionState → List ℕ → List Call → Bool → SessionState → Type 0
+LacksMemory s text calls ends after =
+    (text ≡ codes "no: out of memory\n") × WritesNone calls × (ends ≡ false) × ((after ≡ s) ⊎ (after ≡ calm s))
 
--- what a line answers and writes to files, whether it ends the session, and what it leaves
-abbrev pub LineAnswer : SessionState → List ℕ → List ℕ → List KeptText → Bool → SessionState → Type 0
-LineAnswer s line text texts ends after = WordsAnswer s (line_words line) text texts ends after
+-- what the words of a line answer, the calls for files, whether the line ends the session, and what it leaves
+abbrev pub WordsAnswer : SessionState → List (List ℕ) → List ℕ → List Call → Bool → SessionState → Type 0
+WordsAnswer s ws text calls ends after =
+    (IsSilent ws × (text ≡ []) × (calls ≡ []) × (ends ≡ false) × (after ≡ s))
+    ⊎ ((r : Request) × IsRequest r × (ws ≡ request_words r) × AnswersRequest s r text calls ends after)
+    ⊎ (IsNoRequest ws × IsRefusal text × (calls ≡ []) × (ends ≡ false) × (after ≡ calm s))
+    ⊎ LacksMemory s text calls ends after
+
+-- what a line answers, the calls for files, whether the line ends the session, and what it leaves
+abbrev pub LineAnswer : SessionState → List ℕ → List ℕ → List Call → Bool → SessionState → Type 0
+LineAnswer s line text calls ends after = WordsAnswer s (line_words line) text calls ends after

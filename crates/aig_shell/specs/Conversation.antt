@@ -26,8 +26,8 @@ use Rattle.aig_shell.specs.declared.shell.Given.TheVariants as given
 use Rattle.aig_shell.specs.declared.refusal.Refusal.{Refusal}
 use Rattle.aig_shell.specs.declared.refusal.Refusal.TheVariants as refusals
 use Rattle.aig_shell.specs.Answers.{AnswersRequest, EndsAt, IsRefusal, LineAnswer, WordsAnswer, IsUnsaved, calm}
-use Rattle.aig_shell.specs.Ends.{with_texts}
-use Rattle.aig_shell.specs.Files.{KeptText}
+use Rattle.aig_shell.specs.Ends.{ComesAfter, with_calls}
+use Rattle.aig_shell.specs.Files.{Call}
 use Rattle.aig_shell.specs.Request.{Request}
 use Rattle.aig_shell.specs.Session.{BeginsAt, IsIn, IsSession, first_state}
 use Rattle.aig_shell.specs.State.{SessionState}
@@ -41,36 +41,26 @@ abbrev pub prompt : Bool → List ℕ
 prompt true = codes "aig> "
 prompt false = []
 
--- the texts of one call, where there are some
-abbrev pub call_of : List KeptText → List (List KeptText)
-call_of [] = []
-call_of (text ∷ texts) = (text ∷ texts) ∷ []
-
--- From a state on: whole lines, each with the LF that ends it; what is answered to them; the texts that files get, call
--- by call; and the state that is left. None of the lines ends the session.
-pub data Answered (person : Bool) (s : SessionState) : List ℕ → List ℕ → List (List KeptText) → SessionState
-    → Type 0 where
+-- From a state on: whole lines, each with the LF that ends it; what is answered to them; the calls for files; and the
+-- state that is left. None of the lines ends the session.
+pub data Answered (person : Bool) (s : SessionState) : List ℕ → List ℕ → List Call → SessionState → Type 0 where
   none : Answered person s [] [] [] s
-  one_more : (mid after : SessionState) (input text line answer : List ℕ) (calls : List (List KeptText))
-      (texts : List KeptText)
-      → Answered person s input text calls mid → IsPiece line → LineAnswer mid line answer texts false after
-      → Answered person s (input ++ (line ++ 10 ∷ [])) (text ++ (answer ++ prompt person)) (calls ++ call_of texts)
-      after
+  one_more : (mid after : SessionState) (input text line answer : List ℕ) (calls more : List Call)
+      → Answered person s input text calls mid → IsPiece line → LineAnswer mid line answer more false after
+      → Answered person s (input ++ (line ++ 10 ∷ [])) (text ++ (answer ++ prompt person)) (calls ++ more) after
 
 -- The same for a whole input, and whether a line ends the session: then no more is answered. The last line may lack its
 -- LF.
-pub data Converses (person : Bool) (s : SessionState) : List ℕ → List ℕ → List (List KeptText) → Bool → SessionState
+pub data Converses (person : Bool) (s : SessionState) : List ℕ → List ℕ → List Call → Bool → SessionState
     → Type 0 where
-  at_end : (after : SessionState) (input text : List ℕ) (calls : List (List KeptText))
+  at_end : (after : SessionState) (input text : List ℕ) (calls : List Call)
       → Answered person s input text calls after → Converses person s input text calls false after
-  ended : (mid after : SessionState) (input text line answer more : List ℕ) (calls : List (List KeptText))
-      (texts : List KeptText)
-      → Answered person s input text calls mid → IsPiece line → LineAnswer mid line answer texts true after
-      → Converses person s (input ++ (line ++ 10 ∷ more)) (text ++ answer) (calls ++ call_of texts) true after
-  last : (mid after : SessionState) (input text line answer : List ℕ) (calls : List (List KeptText))
-      (texts : List KeptText) (ends : Bool)
-      → Answered person s input text calls mid → IsPiece line → line ≢ [] → LineAnswer mid line answer texts ends after
-      → Converses person s (input ++ line) (text ++ answer) (calls ++ call_of texts) ends after
+  ended : (mid after : SessionState) (input text line answer rest : List ℕ) (calls more : List Call)
+      → Answered person s input text calls mid → IsPiece line → LineAnswer mid line answer more true after
+      → Converses person s (input ++ (line ++ 10 ∷ rest)) (text ++ answer) (calls ++ more) true after
+  last : (mid after : SessionState) (input text line answer : List ℕ) (calls more : List Call) (ends : Bool)
+      → Answered person s input text calls mid → IsPiece line → line ≢ [] → LineAnswer mid line answer more ends after
+      → Converses person s (input ++ line) (text ++ answer) (calls ++ more) ends after
 
 -- a conversation is in a state
 pub record IsAt (c : Conversation) (s : SessionState) : Type 0 where
@@ -87,14 +77,13 @@ abbrev pub ends_after : Next → Bool
 ends_after next.GoesOn = false
 ends_after next.Ends = true
 
--- what a line makes of a conversation: its answer, which is this text, and the texts that files get
-abbrev pub AnswersLine : Conversation → List ℕ → List ℕ → Option (List (List KeptText)) → Option (List (List KeptText))
-    → Bool → Conversation
+-- what a line makes of a conversation: its answer, which is this text, and the calls for files
+abbrev pub AnswersLine : Conversation → List ℕ → List ℕ → Option (List Call) → Option (List Call) → Bool → Conversation
     → Type 0
-AnswersLine old line text kept kept_after ends new =
+AnswersLine old line text old_calls new_calls ends new =
     (s : SessionState) → IsAt old s
-    → (texts : List KeptText) × (after : SessionState) × LineAnswer s line text texts ends after × IsAt new after
-    × (kept_after ≡ with_texts kept (call_of texts))
+    → (calls : List Call) × (after : SessionState) × LineAnswer s line text calls ends after × IsAt new after
+    × (new_calls ≡ with_calls old_calls calls)
 
 -- What `quit` makes of a conversation that is calm, after a `quit` or not: the session is as before; without memory
 -- nothing is said.
@@ -106,33 +95,31 @@ EndsQuit old warned (Err _) new = (s : SessionState) → IsIn old.session s → 
 
 -- What a request makes of a conversation that is calm, after a `quit` or not: it is answered; or it is refused, and
 -- calm: then any refusal answers it, or memory is wanting.
-abbrev pub EndsRequest : Conversation → Bool → Request → Result Next Refusal → Option (List (List KeptText))
-    → Option (List (List KeptText))
+abbrev pub EndsRequest : Conversation → Bool → Request → Result Next Refusal → Option (List Call) → Option (List Call)
     → Conversation → Type 0
-EndsRequest old warned r (Ok next) kept kept_after new =
+EndsRequest old warned r (Ok next) old_calls new_calls new =
     (s : SessionState) → IsIn old.session s → s.has_warned ≡ warned
-    → (texts : List KeptText) × (after : SessionState) × AnswersRequest s r new.text.items texts (ends_after next) after
-    × IsAt new after
-    × (kept_after ≡ with_texts kept (call_of texts))
-EndsRequest old warned r (Err refusal) kept kept_after new =
-    ((s : SessionState) → IsIn old.session s → IsAt new (calm s)) × (kept_after ≡ kept)
+    → (calls : List Call) × (after : SessionState) × AnswersRequest s r new.text.items calls (ends_after next) after
+    × IsAt new after × (new_calls ≡ with_calls old_calls calls)
+EndsRequest old warned r (Err refusal) old_calls new_calls new =
+    ((s : SessionState) → IsIn old.session s → IsAt new (calm s))
+    × (calls : List Call) × (new_calls ≡ with_calls old_calls calls) × ComesAfter refusal calls
     × (refusal ≢ refusals.Memory → (s : SessionState) → IsIn old.session s → (text : List ℕ) → IsRefusal text
-    → AnswersRequest s r text [] false (calm s))
+    → AnswersRequest s r text calls false (calm s))
 
 -- What the words of a line make of a conversation: they are answered; or they are refused: then any refusal answers
 -- them, or memory is wanting, and nothing is done.
-abbrev pub EndsWords : Conversation → List (List ℕ) → Result Next Refusal → Option (List (List KeptText))
-    → Option (List (List KeptText))
+abbrev pub EndsWords : Conversation → List (List ℕ) → Result Next Refusal → Option (List Call) → Option (List Call)
     → Conversation → Type 0
-EndsWords old ws (Ok next) kept kept_after new =
+EndsWords old ws (Ok next) old_calls new_calls new =
     (s : SessionState) → IsAt old s
-    → (texts : List KeptText) × (after : SessionState) × WordsAnswer s ws new.text.items texts (ends_after next) after
-    × IsAt new after
-    × (kept_after ≡ with_texts kept (call_of texts))
-EndsWords old ws (Err refusal) kept kept_after new =
-    ((s : SessionState) → IsAt old s → IsAt new s ⊎ IsAt new (calm s)) × (kept_after ≡ kept)
+    → (calls : List Call) × (after : SessionState) × WordsAnswer s ws new.text.items calls (ends_after next) after
+    × IsAt new after × (new_calls ≡ with_calls old_calls calls)
+EndsWords old ws (Err refusal) old_calls new_calls new =
+    ((s : SessionState) → IsAt old s → IsAt new s ⊎ IsAt new (calm s))
+    × (calls : List Call) × (new_calls ≡ with_calls old_calls calls) × ComesAfter refusal calls
     × (refusal ≢ refusals.Memory → (s : SessionState) → IsAt old s → (text : List ℕ) → IsRefusal text
-    → WordsAnswer s ws text [] false (calm s) × IsAt new (calm s))
+    → WordsAnswer s ws text calls false (calm s) × IsAt new (calm s))
 
 -- what a person sees before the first line; any words, and the prompt
 abbrev pub IsGreeting : Bool → List ℕ → Type 0
@@ -146,22 +133,22 @@ IsFarewell person false s text =
     (what : List ℕ) × ((IsUnsaved s → ⊥) → what ≡ []) × (text ≡ (if person then 10 ∷ [] else []) ++ what)
 
 -- all that a session writes for an input
-pub record Talk (person : Bool) (s : SessionState) (input text : List ℕ) (texts : List (List KeptText))
-    (quits : Bool) : Type 0 where
+pub record Talk (person : Bool) (s : SessionState) (input text : List ℕ) (calls : List Call) (quits : Bool)
+    : Type 0 where
   pub new : SessionState
   pub greeting : List ℕ
   pub answers : List ℕ
   pub farewell : List ℕ
   pub greets : IsGreeting person greeting
-  pub converses : Converses person s input answers texts quits new
+  pub converses : Converses person s input answers calls quits new
   pub ends : IsFarewell person quits new farewell
   pub text_is : text ≡ greeting ++ (answers ++ farewell)
 
--- what passes: the input, the answers, and the texts of files
+-- what passes: the input, the answers, and the calls for files
 pub record Passes (Y X Z : Type 0) : Type 0 where
   pub reader : Flow Y
   pub out : Flow X
-  pub kept : Z → Option (List (List KeptText))
+  pub calls : Z → Option (List Call)
   pub files : Z
   pub files_after : Z
 
@@ -169,22 +156,22 @@ pub record Passes (Y X Z : Type 0) : Type 0 where
 pub record Ended {Y X Z : Type 0} (passes : Passes Y X Z) (person : Bool) (s : SessionState) : Type 0 where
   pub input : List ℕ
   pub text : List ℕ
-  pub texts : List (List KeptText)
+  pub calls : List Call
   pub quits : Bool
-  pub talk : Talk person s input text texts quits
+  pub talk : Talk person s input text calls quits
   pub read : passes.reader.bytes passes.reader.old ≡ before input (passes.reader.bytes passes.reader.new)
   pub whole : quits ≡ false → IsAtEnd (passes.reader.bytes passes.reader.new)
   pub got : Got passes.out text
-  pub kept : passes.kept passes.files_after ≡ with_texts (passes.kept passes.files) texts
+  pub called : passes.calls passes.files_after ≡ with_calls (passes.calls passes.files) calls
 
 -- A read or a write fails. Of what was read the answers to some input that begins as this one are written, or the first
--- bytes of them, and the files have the texts of the lines that were answered.
+-- bytes of them, and the calls for files are those of the lines that were answered.
 pub record BreaksDown {Y X Z : Type 0} (passes : Passes Y X Z) (person : Bool) (s : SessionState) : Type 0 where
   pub input : List ℕ
   pub text : List ℕ
-  pub texts : List (List KeptText)
+  pub calls : List Call
   pub quits : Bool
-  pub talk : Talk person s input text texts quits
+  pub talk : Talk person s input text calls quits
   pub rest : List ℕ
   pub read : passes.reader.bytes passes.reader.old ≡ before (input ++ rest) (passes.reader.bytes passes.reader.new)
   pub done : List ℕ
@@ -193,7 +180,7 @@ pub record BreaksDown {Y X Z : Type 0} (passes : Passes Y X Z) (person : Bool) (
   pub failed : ((passes.reader.failures passes.reader.old < passes.reader.failures passes.reader.new)
       × (passes.out.failures passes.out.new ≡ passes.out.failures passes.out.old))
       ⊎ (passes.out.failures passes.out.old < passes.out.failures passes.out.new)
-  pub kept : passes.kept passes.files_after ≡ with_texts (passes.kept passes.files) texts
+  pub called : passes.calls passes.files_after ≡ with_calls (passes.calls passes.files) calls
 
 -- nothing is read, written or kept
 abbrev pub NothingPasses : {Y X Z : Type 0} → Passes Y X Z → Type 0

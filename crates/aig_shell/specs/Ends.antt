@@ -1,7 +1,7 @@
 -- How the functions of a session answer a request (our own choice).
-use Rattle.std.specs.Prelude.{◌≡◌, ◌≢◌, ℕ, List, [], ◌∷◌, ◌++◌, Option, None, Some, Result, Ok, Err}
-use Rattle.aig_shell.specs.Answers.{Answers, HasNoAnswer, calm}
-use Rattle.aig_shell.specs.Files.{KeptText}
+use Rattle.std.specs.Prelude.{◌≡◌, ◌≢◌, ◌⊎◌, ℕ, List, [], ◌∷◌, ◌++◌, Option, None, Some, Result, Ok, Err}
+use Rattle.aig_shell.specs.Answers.{Answers, HasNoAnswer, IsRefused, calm}
+use Rattle.aig_shell.specs.Files.{KeptText, Call, kept, refused}
 use Rattle.aig_shell.specs.Request.{Request, why_first, why}
 use Rattle.aig_shell.specs.Session.{IsIn}
 use Rattle.aig_shell.specs.State.{SessionState}
@@ -20,20 +20,27 @@ EndsQuery session r (Ok _) text = (s : SessionState) → IsIn session s → Answ
 EndsQuery session r (Err refusal) text =
     refusal ≢ refusals.Memory → (s : SessionState) → IsIn session s → HasNoAnswer s r
 
--- the texts that files got, after those of more calls
-abbrev pub with_texts : Option (List (List KeptText)) → List (List KeptText) → Option (List (List KeptText))
-with_texts None texts = None
-with_texts (Some old) texts = Some (old ++ texts)
+-- the calls for files, after more of them
+abbrev pub with_calls : Option (List Call) → List Call → Option (List Call)
+with_calls None more = None
+with_calls (Some old) more = Some (old ++ more)
+
+-- the calls before a refusal: none; or one that is refused, and then the refusal is not that memory is wanting
+abbrev pub ComesAfter : Refusal → List Call → Type 0
+ComesAfter refusal calls =
+    (calls ≡ []) ⊎ ((refusal ≢ refusals.Memory) × (texts : List KeptText) × (calls ≡ refused texts ∷ []))
 
 -- A request that writes files: it is answered by this text, and the files get their texts in one call; or nothing is
--- written, and the session is as before.
-abbrev pub EndsFiles : {A : Type 0} → Session → Request → Result A Refusal → List ℕ → Option (List (List KeptText))
-    → Option (List (List KeptText)) → Session → Type 0
-EndsFiles old r (Ok _) text kept kept_after new =
+-- written, and the session is as before: then it has no answer, or the files are refused, or memory is wanting.
+abbrev pub EndsFiles : {A : Type 0} → Session → Request → Result A Refusal → List ℕ → Option (List Call)
+    → Option (List Call) → Session → Type 0
+EndsFiles old r (Ok _) text old_calls new_calls new =
     (s : SessionState) → IsIn old s
     → (texts : List KeptText) × (after : SessionState) × Answers s r text texts after × IsIn new after × (texts ≢ [])
-    × (kept_after ≡ with_texts kept (texts ∷ []))
-EndsFiles old r (Err refusal) text kept kept_after new = (new ≡ old) × (kept_after ≡ kept)
+    × (new_calls ≡ with_calls old_calls (kept texts ∷ []))
+EndsFiles old r (Err refusal) text old_calls new_calls new =
+    (new ≡ old) × (calls : List Call) × (new_calls ≡ with_calls old_calls calls) × ComesAfter refusal calls
+    × (refusal ≢ refusals.Memory → (s : SessionState) → IsIn old s → IsRefused s r calls)
 
 -- A request that edits: it is answered by this text, and the session is in the state that it leaves; or it is refused,
 -- and the session is in the state before: then it has no answer, or memory is wanting.

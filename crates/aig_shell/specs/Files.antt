@@ -18,12 +18,21 @@ pub record KeptText : Type 0 where
   pub name : List ℕ
   pub text : List ℕ
 
--- the texts that files got, call by call, after one more call
-abbrev pub after_keeping : {A E : Type 0} → Option (List (List KeptText)) → List KeptText → Result A E
-    → Option (List (List KeptText))
+-- a call for files, and what came of it: each file has its text, or none of them has
+pub data Call : Type 0 where
+  kept : List KeptText → Call
+  refused : List KeptText → Call
+
+-- the calls so far, after one more
+abbrev pub after_keeping : {A E : Type 0} → Option (List Call) → List KeptText → Result A E → Option (List Call)
 after_keeping None texts result = None
-after_keeping (Some old) texts (Ok _) = Some (old ++ texts ∷ [])
-after_keeping (Some old) texts (Err _) = Some old
+after_keeping (Some old) texts (Ok _) = Some (old ++ kept texts ∷ [])
+after_keeping (Some old) texts (Err _) = Some (old ++ refused texts ∷ [])
+
+-- the call that gives files these texts, where there are some
+abbrev pub calls_of : List KeptText → List Call
+calls_of [] = []
+calls_of (text ∷ texts) = kept (text ∷ texts) ∷ []
 
 -- the circuit with the resets of its file, and the rows where a file is named for them
 abbrev pub saved : SessionState → List ℕ → Option (List ℕ) → List KeptText

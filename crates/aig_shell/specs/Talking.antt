@@ -9,19 +9,18 @@ use Rattle.aig_shell.specs.declared.conversation.Next.TheVariants as next
 use Rattle.aig_shell.specs.declared.talk.Line.{Line}
 use Rattle.aig_shell.specs.declared.talk.Talker.{Talker}
 use Rattle.aig_shell.specs.Conversation.{IsPiece, Answered, Converses, IsAt, AnswersLine, IsGreeting, Talk, ends_after}
-use Rattle.aig_shell.specs.Ends.{with_texts}
-use Rattle.aig_shell.specs.Files.{KeptText}
+use Rattle.aig_shell.specs.Ends.{with_calls}
+use Rattle.aig_shell.specs.Files.{Call}
 use Rattle.aig_shell.specs.State.{SessionState}
 
--- what is written at a moment, how many calls failed, and what files got
+-- what is written at a moment, how many calls for it failed, and the calls for files
 pub record Moment : Type 0 where
   pub bytes : Option (List ℕ)
   pub failures : ℕ
-  pub kept : Option (List (List KeptText))
+  pub calls : Option (List Call)
 
-abbrev pub moment : {X Z : Type 0} → (X → Option (List ℕ)) → (X → ℕ) → (Z → Option (List (List KeptText))) → X → Z
-    → Moment
-moment written failures kept out files = record { bytes = written out; failures = failures out; kept = kept files }
+abbrev pub moment : {X Z : Type 0} → (X → Option (List ℕ)) → (X → ℕ) → (Z → Option (List Call)) → X → Z → Moment
+moment written failures calls out files = record { bytes = written out; failures = failures out; calls = calls files }
 
 -- the line has these bytes so far, all of them unless it is cut
 abbrev pub HoldsLine : List ℕ → Line → Type 0
@@ -33,7 +32,7 @@ pub record Replies {E : Type 0} (old : Conversation) (line : List ℕ) (before n
   pub text : List ℕ
   pub next : Next
   pub same : IfOk result (λ n. n ≡ next)
-  pub answers : AnswersLine old line text before.kept now.kept (ends_after next) new
+  pub answers : AnswersLine old line text before.calls now.calls (ends_after next) new
   pub writes : Writes (λ (m : Moment). m.bytes) (λ (m : Moment). m.failures) before now text result
 
 -- from a moment up to now: the greeting and the answers to the whole lines of the input are written, and this stands
@@ -44,7 +43,7 @@ pub record Stands (start now : Moment) (person : Bool) (s : SessionState) (input
   pub lines : List ℕ
   pub rest : List ℕ
   pub text : List ℕ
-  pub calls : List (List KeptText)
+  pub calls : List Call
   pub greets : IsGreeting person greeting
   pub answered : Answered person s lines text calls mid
   pub input_is : input ≡ lines ++ rest
@@ -54,16 +53,16 @@ pub record Stands (start now : Moment) (person : Bool) (s : SessionState) (input
   pub prompts : t.has_prompt ≡ person
   pub got : now.bytes ≡ after start.bytes (greeting ++ text)
   pub count : now.failures ≡ start.failures
-  pub kept : now.kept ≡ with_texts start.kept calls
+  pub called : now.calls ≡ with_calls start.calls calls
 
 -- all is written for the input
 pub record Done (start now : Moment) (person : Bool) (s : SessionState) (input : List ℕ) (quits : Bool) : Type 0 where
   pub text : List ℕ
-  pub calls : List (List KeptText)
+  pub calls : List Call
   pub talk : Talk person s input text calls quits
   pub got : now.bytes ≡ after start.bytes text
   pub count : now.failures ≡ start.failures
-  pub kept : now.kept ≡ with_texts start.kept calls
+  pub called : now.calls ≡ with_calls start.calls calls
 
 -- the first bytes are written for a part of the input
 pub record Part (start now : Moment) (person : Bool) (s : SessionState) (input : List ℕ) : Type 0 where
@@ -72,12 +71,12 @@ pub record Part (start now : Moment) (person : Bool) (s : SessionState) (input :
   pub input_is : input ≡ part ++ rest
   pub quits : Bool
   pub text : List ℕ
-  pub calls : List (List KeptText)
+  pub calls : List Call
   pub talk : Talk person s part text calls quits
   pub done : List ℕ
   pub beginning : IsBeginning done text
   pub got : now.bytes ≡ after start.bytes done
-  pub kept : now.kept ≡ with_texts start.kept calls
+  pub called : now.calls ≡ with_calls start.calls calls
 
 -- a newline, where a person sees it
 abbrev pub newline : Bool → List ℕ
@@ -88,14 +87,14 @@ pub record Finished (start now : Moment) (person : Bool) (s : SessionState) (inp
   pub mid : SessionState
   pub greeting : List ℕ
   pub answers : List ℕ
-  pub calls : List (List KeptText)
+  pub calls : List Call
   pub greets : IsGreeting person greeting
   pub converses : Converses person s input answers calls false mid
   pub at : IsAt t.conversation mid
   pub prompts : t.has_prompt ≡ person
   pub got : now.bytes ≡ after start.bytes (greeting ++ answers)
   pub count : now.failures ≡ start.failures
-  pub kept : now.kept ≡ with_texts start.kept calls
+  pub called : now.calls ≡ with_calls start.calls calls
 
 -- the last line is answered, be there one: the input is finished, or ends the session, or a write fails
 abbrev pub Finishes : {E : Type 0} → Moment → Moment → Bool → SessionState → List ℕ → Result Next E → Talker → Type 0

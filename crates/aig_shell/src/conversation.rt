@@ -108,8 +108,8 @@ impl Conversation {
         requires session { IsSession self.old.session }
         requires calm { self.old.has_warned ≡ false }
         requires empty { self.old.text.items ≡ [] }
-        ensures request { EndsRequest self.old has_warned (request_of command.entry) result (K.kept files.old)
-            (K.kept files.new) self.new }
+        ensures request { EndsRequest self.old has_warned (request_of command.entry) result (K.calls files.old)
+            (K.calls files.new) self.new }
         ensures session { IsSession self.new.session }
     {
         match command {
@@ -139,8 +139,8 @@ impl Conversation {
     ) -> Result<Next, Refusal<'a>>
         requires session { IsSession self.old.session }
         requires empty { self.old.text.items ≡ [] }
-        ensures words { EndsWords self.old (word.now ∷ map (λ w. w.now) words.now) result (K.kept files.old)
-            (K.kept files.new) self.new }
+        ensures words { EndsWords self.old (word.now ∷ map (λ w. w.now) words.now) result (K.calls files.old)
+            (K.calls files.new) self.new }
         ensures session { IsSession self.new.session }
     {
         let has_warned = self.has_warned;
@@ -158,7 +158,7 @@ impl Conversation {
     ) -> Result<Next, Refusal<'a>>
         requires session { IsSession self.old.session }
         requires empty { self.old.text.items ≡ [] }
-        ensures words { EndsWords self.old (map (λ w. w.now) words.now) result (K.kept files.old) (K.kept files.new)
+        ensures words { EndsWords self.old (map (λ w. w.now) words.now) result (K.calls files.old) (K.calls files.new)
             self.new }
         ensures session { IsSession self.new.session }
     {
@@ -180,7 +180,7 @@ impl Conversation {
     ) -> Result<Next, Refusal<'a>>
         requires session { IsSession self.old.session }
         requires empty { self.old.text.items ≡ [] }
-        ensures words { EndsWords self.old (words line.now) result (K.kept files.old) (K.kept files.new) self.new }
+        ensures words { EndsWords self.old (words line.now) result (K.calls files.old) (K.calls files.new) self.new }
         ensures session { IsSession self.new.session }
     {
         let words = words_of(alloc, line)?;
@@ -195,9 +195,9 @@ impl Conversation {
         line: &[u8],
     ) -> Result<Next, Memory>
         requires session { IsSession self.old.session }
-        ensures answered { IfOk result (λ next. AnswersLine self.old line.now self.new.text.items (K.kept files.old)
-            (K.kept files.new) (ends_after next) self.new) }
-        ensures memory { OnErr result (AnswersLine self.old line.now no_memory (K.kept files.old) (K.kept files.new)
+        ensures answered { IfOk result (λ next. AnswersLine self.old line.now self.new.text.items (K.calls files.old)
+            (K.calls files.new) (ends_after next) self.new) }
+        ensures memory { OnErr result (AnswersLine self.old line.now no_memory (K.calls files.old) (K.calls files.new)
             false
             self.new) }
         ensures session { IsSession self.new.session }

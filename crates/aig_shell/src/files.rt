@@ -1,6 +1,6 @@
 //! What is written to files.
-ghost use Rattle.std.specs.Prelude.{◌≡◌, ◌<◌, [], IfOk, IfSome, decimal, length, map, option_map, take, None, Some};
-ghost use Rattle.std.specs.Prelude.{◌+◌};
+ghost use Rattle.std.specs.Prelude.{◌≡◌, ◌≢◌, ℕ, ◌+◌, ◌<◌, [], IfErr, IfOk, IfSome, decimal, length, map, option_map};
+ghost use Rattle.std.specs.Prelude.{take, None, Option, Some};
 ghost use Rattle.aig_base.specs.Value.{start_of};
 ghost use Rattle.aig_format.specs.Spelling.{short_ascii};
 ghost use Rattle.aig_sim.specs.Dump.{IsDump};
@@ -24,10 +24,11 @@ use std::alloc::Global;
 
 /// Gives texts to the files, and says of which none was written.
 fn keep<'a, K: Keep>(files: &mut K, texts: &[FileText<'a, '_>]) -> Result<(), Refusal<'a>>
-    ensures { K.kept files.new ≡ after_keeping (K.kept files.old) (map (λ file. record {
+    ensures calls { K.calls files.new ≡ after_keeping (K.calls files.old) (map (λ file. record {
       name = file.name.now;
       text = file.text.now;
     }) texts.now) result }
+    ensures refused { IfErr result (λ refusal. refusal ≢ Refusal.Memory) }
 {
     match files.keep(texts) {
         Ok(()) => Ok(()),
@@ -93,8 +94,8 @@ impl Session {
     ) -> Result<(), Refusal<'a>>
         requires session { IsSession self.old }
         ensures session { IsSession self.new }
-        ensures files { EndsFiles self.old (request.save name.now None) result [] (K.kept files.old) (K.kept files.new)
-            self.new }
+        ensures files { EndsFiles self.old (request.save name.now None) result [] (K.calls files.old)
+            (K.calls files.new) self.new }
     {
         let circuit = self.saved_circuit(alloc)?;
         keep(
@@ -121,7 +122,7 @@ impl Session {
         requires session { IsSession self.old }
         ensures session { IsSession self.new }
         ensures files { EndsFiles self.old (request.save name.now (Some stimulus.now)) result text.new.items
-            (K.kept files.old) (K.kept files.new) self.new }
+            (K.calls files.old) (K.calls files.new) self.new }
     {
         let circuit = self.saved_circuit(alloc)?;
         let rows = self.saved_rows(alloc)?;
@@ -161,7 +162,7 @@ impl Session {
         requires empty { text.old.items ≡ [] }
         ensures session { IsSession self.new }
         ensures files { EndsFiles self.old (request.save circuit.now (option_map (λ w. w.now) stimulus.entry)) result
-            text.new.items (K.kept files.old) (K.kept files.new) self.new }
+            text.new.items (K.calls files.old) (K.calls files.new) self.new }
     {
         match stimulus {
             Some(stimulus) => self.save_both(alloc, files, text, circuit, stimulus),
@@ -199,6 +200,8 @@ impl Session {
         requires session { IsSession self.now }
         ensures asked { IfOk result (IsAsked self.now.run.bench.pair.circuit (option_map (λ w. w.now) property.entry)) }
         ensures within { IfOk result (λ asked. IfSome asked (λ k. k < length self.now.run.bench.pair.circuit.bad)) }
+        ensures err { IfErr result (λ refusal. refusal ≢ Refusal.Memory → (asked : Option ℕ) →
+            IsAsked self.now.run.bench.pair.circuit (option_map (λ w. w.now) property.entry) asked → ⊥) }
     {
         match property {
             Some(word) => Ok(Some(self.property(alloc, word)?)),
@@ -219,7 +222,7 @@ impl Session {
         requires empty { text.old.items ≡ [] }
         ensures session { IsSession self.new }
         ensures files { EndsFiles self.old (request.witness name.now (option_map (λ w. w.now) property.entry)) result
-            text.new.items (K.kept files.old) (K.kept files.new) self.new }
+            text.new.items (K.calls files.old) (K.calls files.new) self.new }
     {
         let asked = self.asked(alloc, property)?;
         let reached = self.reached(alloc, asked)?;
@@ -260,7 +263,7 @@ impl Session {
         name: &'a [u8],
     ) -> Result<(), Refusal<'a>>
         requires session { IsSession self.now }
-        ensures files { EndsFiles self.now (request.wave name.now) result [] (K.kept files.old) (K.kept files.new)
+        ensures files { EndsFiles self.now (request.wave name.now) result [] (K.calls files.old) (K.calls files.new)
             self.now }
     {
         let text = self.wave_text(alloc)?;

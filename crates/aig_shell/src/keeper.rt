@@ -1,6 +1,6 @@
 //! How texts are kept in files.
 ghost use Rattle.std.specs.Prelude.{◌≡◌, List, Option, Result, map};
-ghost use Rattle.aig_shell.specs.Files.{KeptText, after_keeping};
+ghost use Rattle.aig_shell.specs.Files.{Call, after_keeping};
 
 /// A text, and the name of the file that is to get it.
 #[derive(Clone, Copy)]
@@ -67,11 +67,11 @@ pub struct Unkept {
 
 /// Keeps texts in files.
 pub trait Keep {
-    // The texts that files got so far, call by call, where the value knows them.
-    ghost kept: { Self → Option (List (List KeptText)) };
+    // The calls so far, each with its texts and what came of it, where the value knows them.
+    ghost calls: { Self → Option (List Call) };
 
     /// Gives each file its text, or none of them. All texts are complete before the first file changes.
     fn keep(&mut self, files: &[FileText<'_, '_>]) -> Result<(), Unkept>
-        ensures { kept self.new ≡ after_keeping (kept self.old)
+        ensures { calls self.new ≡ after_keeping (calls self.old)
             (map (λ file. record { name = file.name.now; text = file.text.now }) files.now) result };
 }

@@ -72,8 +72,8 @@ impl Session {
         requires session { IsSession self.old }
         requires empty { text.old.items ≡ [] }
         ensures session { IsSession self.new }
-        ensures files { EndsFiles self.old (export_of export.entry) result text.new.items (K.kept files.old)
-            (K.kept files.new) self.new }
+        ensures files { EndsFiles self.old (export_of export.entry) result text.new.items (K.calls files.old)
+            (K.calls files.new) self.new }
     {
         match export {
             Export::Save { circuit, stimulus } => self.save(alloc, files, text, circuit, stimulus),

@@ -75,7 +75,7 @@ fn converse<K: Keep, R: Read, W: Write>(
     ensures { EndsShell (record {
       reader = flow R.left R.failures reader.old reader.new;
       out = flow W.written W.failures out.old out.new;
-      kept = K.kept;
+      calls = K.calls;
       files = files.old;
       files_after = files.new;
     }) has_prompt circuit.now (begun_of given.entry) result }
@@ -103,7 +103,7 @@ pub fn run_shell<K: Keep, R: Read, W: Write>(
     ensures ends { EndsShell (record {
       reader = flow R.left R.failures reader.old reader.new;
       out = flow W.written W.failures out.old out.new;
-      kept = K.kept;
+      calls = K.calls;
       files = files.old;
       files_after = files.new;
     }) has_prompt circuit.now (begun_of given.entry) result }

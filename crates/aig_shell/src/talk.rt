@@ -72,8 +72,8 @@ impl Conversation {
         out: &mut W,
     ) -> Result<Next, Io>
         requires session { IsSession self.old.session }
-        ensures reply { Replies self.old line.now (moment W.written W.failures K.kept out.old files.old)
-            (moment W.written W.failures K.kept out.new files.new) result self.new }
+        ensures reply { Replies self.old line.now (moment W.written W.failures K.calls out.old files.old)
+            (moment W.written W.failures K.calls out.new files.new) result self.new }
         ensures session { IsSession self.new.session }
     {
         match self.make_answer(alloc, files, line) {
@@ -180,8 +180,8 @@ impl Talker {
         ensures session { IsSession self.new.conversation.session }
         ensures reply { (held : List ℕ) → HoldsLine held self.old.line
             → Replies self.old.conversation (held ++ piece.now)
-            (moment W.written W.failures K.kept out.old files.old)
-            (moment W.written W.failures K.kept out.new files.new)
+            (moment W.written W.failures K.calls out.old files.old)
+            (moment W.written W.failures K.calls out.new files.new)
             result self.new.conversation }
         ensures empty { OnOk result ((held : List ℕ) → HoldsLine held self.old.line → HoldsLine [] self.new.line) }
         ensures prompt { self.new.has_prompt ≡ self.old.has_prompt }
@@ -210,8 +210,8 @@ impl Talker {
         requires session { IsSession self.old.conversation.session }
         ensures session { IsSession self.new.conversation.session }
         ensures feeds { (start : Moment) (person : Bool) (s : SessionState) (input : List ℕ)
-            → Stands start (moment W.written W.failures K.kept out.old files.old) person s input self.old
-            → Feeds start (moment W.written W.failures K.kept out.new files.new) person s (input ++ bytes.now) result
+            → Stands start (moment W.written W.failures K.calls out.old files.old) person s input self.old
+            → Feeds start (moment W.written W.failures K.calls out.new files.new) person s (input ++ bytes.now) result
             self.new }
     {
         let mut rest = bytes;
@@ -248,8 +248,8 @@ impl Talker {
     ) -> Result<Next, Io>
         requires session { IsSession self.old.conversation.session }
         ensures { (start : Moment) (person : Bool) (s : SessionState) (input : List ℕ)
-            → Stands start (moment W.written W.failures K.kept out.old files.old) person s input self.old
-            → Finishes start (moment W.written W.failures K.kept out.new files.new) person s input result self.new }
+            → Stands start (moment W.written W.failures K.calls out.old files.old) person s input self.old
+            → Finishes start (moment W.written W.failures K.calls out.new files.new) person s input result self.new }
     {
         if self.line.is_empty() {
             return Ok(Next::GoesOn);
@@ -266,8 +266,8 @@ impl Talker {
     ) -> Result<(), Io>
         requires session { IsSession self.old.conversation.session }
         ensures { (start : Moment) (person : Bool) (s : SessionState) (input : List ℕ)
-            → Stands start (moment W.written W.failures K.kept out.old files.old) person s input self.old
-            → EndsInput start (moment W.written W.failures K.kept out.new files.new) person s input result }
+            → Stands start (moment W.written W.failures K.calls out.old files.old) person s input self.old
+            → EndsInput start (moment W.written W.failures K.calls out.new files.new) person s input result }
     {
         match self.end_last_line(alloc, files, out)? {
             Next::Ends => Ok(()),
@@ -291,7 +291,7 @@ impl Talker {
             → Ended (record {
               reader = flow R.left R.failures reader.old reader.new;
               out = flow W.written W.failures out.old out.new;
-              kept = K.kept;
+              calls = K.calls;
               files = files.old;
               files_after = files.new;
             }) self.old.has_prompt s) }
@@ -299,7 +299,7 @@ impl Talker {
             → BreaksDown (record {
               reader = flow R.left R.failures reader.old reader.new;
               out = flow W.written W.failures out.old out.new;
-              kept = K.kept;
+              calls = K.calls;
               files = files.old;
               files_after = files.new;
             }) self.old.has_prompt s) }

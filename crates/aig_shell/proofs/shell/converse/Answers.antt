@@ -19,15 +19,15 @@ pub returns-in_err-session : goal.returns-in_err-session
 returns-in_err-session g c =
     answered c.from_residual.result c.in_err-session.field-0.0
     (EndsShell (passes_of (flow g.R.Read.left g.R.Read.failures c.args.reader.now c.args.reader.now)
-    (flow g.W.Write.written g.W.Write.failures c.args.out.now c.args.out.now) g.K.Keep.kept c.args.files.now c.args.files.now)
+    (flow g.W.Write.written g.W.Write.failures c.args.out.now c.args.out.now) g.K.Keep.calls c.args.files.now c.args.files.now)
     c.args.has_prompt c.args.circuit.now (begun_of c.args.given)) c.from_residual.ensures.1
-    (shell_refused g.R.Read.left g.R.Read.failures g.W.Write.written g.W.Write.failures g.K.Keep.kept c.args.reader.now c.args.files.now
+    (shell_refused g.R.Read.left g.R.Read.failures g.W.Write.written g.W.Write.failures g.K.Keep.calls c.args.reader.now c.args.files.now
     c.args.out.now c.args.has_prompt c.args.circuit.now (begun_of c.args.given) c.in_err-session.field-0.0 c.in_err-session.ensures.refused)
 
 pub returns-in-Ok : goal.returns-in-Ok
 returns-in-Ok g c =
     holds_session (passes_of (flow g.R.Read.left g.R.Read.failures c.args.reader.now c.run.new.reader)
-    (flow g.W.Write.written g.W.Write.failures c.args.out.now c.run.new.out) g.K.Keep.kept c.args.files.now c.run.new.files)
+    (flow g.W.Write.written g.W.Write.failures c.args.out.now c.run.new.out) g.K.Keep.calls c.args.files.now c.run.new.files)
     c.args.has_prompt c.args.circuit.now (begun_of c.args.given) Ended c.in_ok-session.session c.new-conversation.result c.new-talker.result
     c.in_ok-session.ensures.session c.new-conversation.ensures.session c.new-conversation.ensures.warned
     c.new-talker.ensures.conversation c.new-talker.ensures.prompt c.new-talker.ensures.line c.in-Ok.ensures.ended
@@ -36,7 +36,7 @@ pub returns : goal.returns
 returns g c = inr (
   refl,
   inl (holds_session (passes_of (flow g.R.Read.left g.R.Read.failures c.args.reader.now c.run.new.reader)
-      (flow g.W.Write.written g.W.Write.failures c.args.out.now c.run.new.out) g.K.Keep.kept c.args.files.now c.run.new.files)
+      (flow g.W.Write.written g.W.Write.failures c.args.out.now c.run.new.out) g.K.Keep.calls c.args.files.now c.run.new.files)
       c.args.has_prompt c.args.circuit.now (begun_of c.args.given) BreaksDown c.in_ok-session.session c.new-conversation.result c.new-talker.result
       c.in_ok-session.ensures.session c.new-conversation.ensures.session c.new-conversation.ensures.warned
       c.new-talker.ensures.conversation c.new-talker.ensures.prompt c.new-talker.ensures.line c.in-Err.ensures.failed),

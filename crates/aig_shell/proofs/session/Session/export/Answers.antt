@@ -4,4 +4,5 @@ use Rattle.aig_shell.proofs.session.Session.export.Goals as goal
 pub returns-in-Wave-clause-files : goal.returns-in-Wave-clause-files
 returns-in-Wave-clause-files g c =
     wave_is c.args.self.now c.args.self.now c.args.export c.in-Wave.file c.wave.result c.args.text.now.items
-    (g.K.Keep.kept c.args.files.now) (g.K.Keep.kept c.wave.new.files) c.in-Wave.is c.requires.empty c.wave.ensures.files
+    (g.K.Keep.calls c.args.files.now) (g.K.Keep.calls c.wave.new.files) c.in-Wave.is c.requires.empty
+    c.wave.ensures.files

@@ -1,18 +1,56 @@
-use Rattle.std.proofs.Common.{sym, ◌∙◌}
+use Rattle.std.proofs.Common.{[], ◌∷◌, Some, sym, ◌∙◌}
 use Rattle.std.proofs.lemmas.Bool.{false≢true}
-use Rattle.aig_shell.proofs.Saved.{rows_saved, whole_saved}
+use Rattle.aig_shell.specs.Request.{save}
+use Rattle.aig_shell.proofs.Saved.{files_kept, files_lacking, files_refused, rows_saved, whole_saved}
 use Rattle.aig_shell.proofs.session.Session.save_both.Goals as goal
 
-pub returns-clause-files : goal.returns-clause-files
-returns-clause-files g c =
-    whole_saved c.args.self.now (g.K.Keep.kept c.args.files.now) (g.K.Keep.kept c.keep-2.new.files) c.args.name.now
-    c.as_slice.result.now c.args.stimulus.now c.as_slice-2.result.now c.in_ok-run.run' (c.as_slice.ensures.value ∙ c.in_ok-circuit.ensures)
-    (c.as_slice-2.ensures.value ∙ c.in_ok-rows.ensures.text_is) (rw c.bench.ensures at c.in_ok-run.ensures) (c.starts_by_reset.ensures.0 c.if-not-starts_by_reset.false)
-    c.in_ok-keep-2.ensures
+pub returns-in_err-keep-clause-files : goal.returns-in_err-keep-clause-files
+returns-in_err-keep-clause-files g c =
+    files_refused c.args.self.now (save c.args.name.now (Some c.args.stimulus.now)) (Unit {0}) _ [] _
+    (g.K.Keep.calls c.args.files.now) (g.K.Keep.calls c.keep.new.files) c.from_residual-in_err-keep.result
+    c.in_err-keep.field-0.0
+    (record { name = c.args.name.now; text = c.as_slice.result.now })
+    (record { name = c.args.stimulus.now; text = c.as_slice-2.result.now } ∷ []) c.from_residual-in_err-keep.ensures.1
+    c.in_err-keep.ensures.refused
+    (rows_saved c.args.self.now c.args.name.now c.as_slice.result.now c.args.stimulus.now c.as_slice-2.result.now []
+    (c.as_slice.ensures.value ∙ c.in_ok-circuit.ensures) (c.as_slice-2.ensures.value ∙ c.in_ok-rows.ensures.text_is)
+    (λ e. false≢true (sym c.if-not-starts_by_reset.true ∙ c.starts_by_reset.ensures.1 e)))
+    c.in_err-keep.ensures.calls
 
 pub returns-then-not-starts_by_reset-clause-files : goal.returns-then-not-starts_by_reset-clause-files
 returns-then-not-starts_by_reset-clause-files g c =
-    rows_saved c.args.self.now (g.K.Keep.kept c.args.files.now) (g.K.Keep.kept c.keep.new.files) c.args.name.now
-    c.as_slice.result.now c.args.stimulus.now c.as_slice-2.result.now (c.as_slice.ensures.value ∙ c.in_ok-circuit.ensures)
+    files_kept c.args.self.now (save c.args.name.now (Some c.args.stimulus.now)) c.push_no_start.new.text.items _
+    (g.K.Keep.calls c.args.files.now) (g.K.Keep.calls c.keep.new.files) tt
+    (record { name = c.args.name.now; text = c.as_slice.result.now })
+    (record { name = c.args.stimulus.now; text = c.as_slice-2.result.now } ∷ [])
+    (rows_saved c.args.self.now c.args.name.now c.as_slice.result.now c.args.stimulus.now c.as_slice-2.result.now
+    c.push_no_start.new.text.items (c.as_slice.ensures.value ∙ c.in_ok-circuit.ensures)
     (c.as_slice-2.ensures.value ∙ c.in_ok-rows.ensures.text_is)
-    (λ e. false≢true (sym c.if-not-starts_by_reset.true ∙ c.starts_by_reset.ensures.1 e)) c.in_ok-keep.ensures
+    (λ e. false≢true (sym c.if-not-starts_by_reset.true ∙ c.starts_by_reset.ensures.1 e)))
+    c.in_ok-keep.ensures.calls
+
+pub returns-in_err-keep-2-clause-files : goal.returns-in_err-keep-2-clause-files
+returns-in_err-keep-2-clause-files g c =
+    files_refused c.args.self.now (save c.args.name.now (Some c.args.stimulus.now)) (Unit {0}) _ [] _
+    (g.K.Keep.calls c.args.files.now) (g.K.Keep.calls c.keep-2.new.files) c.from_residual-in_err-keep-2.result
+    c.in_err-keep-2.field-0.0
+    (record { name = c.args.name.now; text = c.as_slice.result.now })
+    (record { name = c.args.stimulus.now; text = c.as_slice-2.result.now } ∷ []) c.from_residual-in_err-keep-2.ensures.1
+    c.in_err-keep-2.ensures.refused
+    (whole_saved c.args.self.now c.args.name.now c.as_slice.result.now c.args.stimulus.now c.as_slice-2.result.now []
+    c.in_ok-run.run' (c.as_slice.ensures.value ∙ c.in_ok-circuit.ensures)
+    (c.as_slice-2.ensures.value ∙ c.in_ok-rows.ensures.text_is)
+    (rw c.bench.ensures at c.in_ok-run.ensures) (c.starts_by_reset.ensures.0 c.if-not-starts_by_reset.false))
+    c.in_err-keep-2.ensures.calls
+
+pub returns-clause-files : goal.returns-clause-files
+returns-clause-files g c =
+    files_kept c.args.self.now (save c.args.name.now (Some c.args.stimulus.now)) c.args.text.now.items _
+    (g.K.Keep.calls c.args.files.now) (g.K.Keep.calls c.keep-2.new.files) tt
+    (record { name = c.args.name.now; text = c.as_slice.result.now })
+    (record { name = c.args.stimulus.now; text = c.as_slice-2.result.now } ∷ [])
+    (whole_saved c.args.self.now c.args.name.now c.as_slice.result.now c.args.stimulus.now c.as_slice-2.result.now
+    c.args.text.now.items c.in_ok-run.run' (c.as_slice.ensures.value ∙ c.in_ok-circuit.ensures)
+    (c.as_slice-2.ensures.value ∙ c.in_ok-rows.ensures.text_is)
+    (rw c.bench.ensures at c.in_ok-run.ensures) (c.starts_by_reset.ensures.0 c.if-not-starts_by_reset.false))
+    c.in_ok-keep-2.ensures.calls

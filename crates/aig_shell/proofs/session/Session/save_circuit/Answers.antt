@@ -1,8 +1,22 @@
-use Rattle.std.proofs.Common.{◌∙◌}
-use Rattle.aig_shell.proofs.Saved.{circuit_saved}
+use Rattle.std.proofs.Common.{[], None, ◌∙◌}
+use Rattle.aig_shell.specs.Request.{save}
+use Rattle.aig_shell.proofs.Saved.{circuit_saved, files_kept, files_lacking, files_refused}
 use Rattle.aig_shell.proofs.session.Session.save_circuit.Goals as goal
+
+pub returns-in_err-keep-clause-files : goal.returns-in_err-keep-clause-files
+returns-in_err-keep-clause-files g c =
+    files_refused c.args.self.now (save c.args.name.now None) (Unit {0}) [] [] _ (g.K.Keep.calls c.args.files.now)
+    (g.K.Keep.calls c.keep.new.files) c.from_residual-in_err-keep.result c.in_err-keep.field-0.0
+    (record { name = c.args.name.now; text = c.as_slice.result.now }) [] c.from_residual-in_err-keep.ensures.1
+    c.in_err-keep.ensures.refused
+    (circuit_saved c.args.self.now c.args.name.now c.as_slice.result.now
+    (c.as_slice.ensures.value ∙ c.in_ok-circuit.ensures))
+    c.in_err-keep.ensures.calls
 
 pub returns-clause-files : goal.returns-clause-files
 returns-clause-files g c =
-    circuit_saved c.args.self.now (g.K.Keep.kept c.args.files.now) (g.K.Keep.kept c.keep.new.files) c.args.name.now c.as_slice.result.now
-    (c.as_slice.ensures.value ∙ c.in_ok-circuit.ensures) c.in_ok-keep.ensures
+    files_kept c.args.self.now (save c.args.name.now None) [] _ (g.K.Keep.calls c.args.files.now)
+    (g.K.Keep.calls c.keep.new.files) tt (record { name = c.args.name.now; text = c.as_slice.result.now }) []
+    (circuit_saved c.args.self.now c.args.name.now c.as_slice.result.now
+    (c.as_slice.ensures.value ∙ c.in_ok-circuit.ensures))
+    c.in_ok-keep.ensures.calls

@@ -24,8 +24,8 @@ pub returns-in_ok-write_newline-in-GoesOn : goal.returns-in_ok-write_newline-in-
 returns-in_ok-write_newline-in-GoesOn g c = λ start person s input st.
     let w = c.in_ok-write_newline-in-GoesOn.ensures in
     let (what, says, v) = c.write_unsaved.ensures in
-    ends_finished (moment g.W.Write.written g.W.Write.failures g.K.Keep.kept c.write_newline.new.out c.end_last_line.new.files)
-    (moment g.W.Write.written g.W.Write.failures g.K.Keep.kept c.write_unsaved.new.out c.end_last_line.new.files) what
+    ends_finished (moment g.W.Write.written g.W.Write.failures g.K.Keep.calls c.write_newline.new.out c.end_last_line.new.files)
+    (moment g.W.Write.written g.W.Write.failures g.K.Keep.calls c.write_unsaved.new.out c.end_last_line.new.files) what
     c.write_unsaved.result
     (finished_of {E = Io} (Ok c.in_ok-end_last_line.field-0) c.in_ok-end_last_line.field-0 refl c.in-GoesOn.is
     (c.in_ok-end_last_line.ensures start person s input st))

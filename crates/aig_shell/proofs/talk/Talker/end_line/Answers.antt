@@ -18,10 +18,10 @@ pub returns-in_err-write_all-clause-reply : goal.returns-in_err-write_all-clause
 returns-in_err-write_all-clause-reply g c = λ held h.
     let w = c.in_err-write_all.ensures in
     reply_failed no_memory w.err.0 w.err.1.0 next.GoesOn c.from_residual.ensures.0
-    (lacks_memory c.args.self.now.conversation (held ++ c.args.piece.now) (g.K.Keep.kept c.args.files.now)) w.err.1.1 w.err.2 w.count
+    (lacks_memory c.args.self.now.conversation (held ++ c.args.piece.now) (g.K.Keep.calls c.args.files.now)) w.err.1.1 w.err.2 w.count
 
 pub returns-then-is_cut-clause-reply : goal.returns-then-is_cut-clause-reply
 returns-then-is_cut-clause-reply g c = λ held h.
     let w = c.in_ok-write_all.ensures in
     reply_written no_memory next.GoesOn
-    (lacks_memory c.args.self.now.conversation (held ++ c.args.piece.now) (g.K.Keep.kept c.args.files.now)) w.ok w.count
+    (lacks_memory c.args.self.now.conversation (held ++ c.args.piece.now) (g.K.Keep.calls c.args.files.now)) w.ok w.count

@@ -9,8 +9,8 @@ invariant-loop-rest g l = record {
   session : IsSession l.self.conversation.session;
   taken : (done : List ℕ) × (l.bytes ≡ done ++ l.rest)
       × ((start : Moment) (person : Bool) (s : SessionState) (input : List ℕ)
-      → Stands start (moment g.W.Write.written g.W.Write.failures g.K.Keep.kept l.initial.out l.initial.files) person s input l.initial.self
-      → Stands start (moment g.W.Write.written g.W.Write.failures g.K.Keep.kept l.out l.files) person s (input ++ done) l.self);
+      → Stands start (moment g.W.Write.written g.W.Write.failures g.K.Keep.calls l.initial.out l.initial.files) person s input l.initial.self
+      → Stands start (moment g.W.Write.written g.W.Write.failures g.K.Keep.calls l.out l.files) person s (input ++ done) l.self);
 }
 
 abbrev pub decreases-loop-rest : goal.decreases-loop-rest

@@ -13,8 +13,8 @@ invariant-loop-reader g l = record {
   count : g.R.Read.failures l.reader ≡ g.R.Read.failures l.fn.reader;
   stands : (s : SessionState) → IsAt l.fn.self.conversation s → HoldsLine [] l.fn.self.line
       → (input : List ℕ) × (g.R.Read.left l.fn.reader ≡ before input (g.R.Read.left l.reader))
-      × Stands (moment g.W.Write.written g.W.Write.failures g.K.Keep.kept l.fn.out l.fn.files)
-      (moment g.W.Write.written g.W.Write.failures g.K.Keep.kept l.out l.files) l.fn.self.has_prompt s input l.self;
+      × Stands (moment g.W.Write.written g.W.Write.failures g.K.Keep.calls l.fn.out l.fn.files)
+      (moment g.W.Write.written g.W.Write.failures g.K.Keep.calls l.out l.files) l.fn.self.has_prompt s input l.self;
 }
 
 abbrev pub decreases-loop-reader : goal.decreases-loop-reader
