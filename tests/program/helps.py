@@ -23,8 +23,9 @@ def helps(program, tally, _):
                       [row for row in text.splitlines() if len(row) > COLUMNS], [])
         tally.check(f"help: {name}: files that an installed copy does not have", "docs/" not in text, text)
     overview, verdicts, bench = texts["aig"], texts["check"], texts["bench"]
-    links = re.findall(r"\[([^]]+)\]\(", behaviour.partition("`aig --help` lists them: ")[2].partition("\n\n")[0])
-    wanted = {name for link in links for name in link.split(" and ")}
+    sections = behaviour.partition("\n## What commands share\n")[2].partition("\n## Files that a run keeps\n")[0]
+    heads = re.findall(r"(?m)^## (.*)$", sections)
+    wanted = {name for head in heads for name in re.split(",? and ", head)} - {"certificates"}
     abouts = {name: about for group in grouped(overview).values() for name, about in group.items()}
     tally.compare("help: subcommands", sorted(abouts), sorted(wanted))
     tally.compare("help: what each command does", abouts, {name: one.about for name, one in commands(ask)[1].items()})
