@@ -55,9 +55,6 @@ module _ (entry : Kind → ℕ → Option Key) where
       ∙ ap (λ (t : List (Key × List ℕ)). t ++ renamed entry rest)
       (filter_map-append h front (s ∷ []) ∙ ap (λ (t : List (Key × List ℕ)). renamed entry front ++ t) (renamed_one s))
 
-  pub naming_start : (all list : List (Key × List ℕ)) → Naming list all list all
-  naming_start all list = record { front = []; split = refl; listed = sym (append-nil list) }
-
   pub naming_more : (old all list list' rest rest' : List (Key × List ℕ)) (s : Key × List ℕ) → rest ≡ s ∷ rest'
       → list' ≡ list ++ with_name (entry s.0.0 s.0.1) s.1 → Naming old all list rest → Naming old all list' rest'
   naming_more old all list list' rest rest' s next added w = record {
@@ -69,13 +66,6 @@ module _ (entry : Kind → ℕ → Option Key) where
         ∙ ap (λ (es : List (Key × List ℕ)). old ++ es)
         (sym (append-nil (renamed entry w.front ++ with_name (entry s.0.0 s.0.1) s.1)) ∙ sym (renamed_more w.front s []));
   }
-
-  pub naming_end : (old all list rest : List (Key × List ℕ)) → rest ≡ [] → Naming old all list rest
-      → list ≡ old ++ renamed entry all
-  naming_end old all list rest none w =
-      w.listed
-      ∙ ap (λ (es : List (Key × List ℕ)). old ++ renamed entry es)
-      (sym (append-nil w.front) ∙ ap (λ (es : List (Key × List ℕ)). w.front ++ es) (sym none) ∙ sym w.split)
 
   -- a name that is refused on the way
   pub naming_refused : (old all list rest rest' : List (Key × List ℕ)) (s : Key × List ℕ) (fault : StrengthenFault)

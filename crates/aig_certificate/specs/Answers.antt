@@ -26,7 +26,7 @@ pub record CanStrengthen (model : Raw) (p : ℕ) (certificate : Raw) : Type 0 wh
   pub property : p < length model.bad
   pub limits : (x : Raw) × IsStrengthened model p certificate x × IsFormed x
 
--- the fault is the first that applies; no memory was found only where none of the others applies
+-- the fault is the first that applies; out of memory may come in any case
 abbrev pub RefusesStrengthening : Raw → ℕ → Raw → StrengthenFault → Type 0
 RefusesStrengthening model p certificate faults.Comment = HasMapping certificate
 RefusesStrengthening model p certificate (faults.Symbol kind position) =

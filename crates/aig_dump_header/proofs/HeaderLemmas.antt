@@ -28,10 +28,6 @@ entries_more symbols kind n p old new entry is names h =
     ∙ ap (entries symbols kind n) (sym (add-one p))
 
 -- ---- columns
-pub no_columns : columns [] ≡ []
-unfolding columns
-no_columns = refl
-
 -- ---- lines
 pub no_scopes_at_first : scopes_of [] ≡ []
 unfolding path_of

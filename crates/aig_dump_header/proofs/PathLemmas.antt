@@ -48,14 +48,6 @@ or_none : (b : Bool) → (b || false) ≡ b
 or_none true = refl
 or_none false = refl
 
--- a dot right after the start of a piece, later, and none any more
-pub empty_piece : (name : List ℕ) (place : ℕ) → place < length name → get_or name place 0 ≡ 46
-    → has_empty (cut_at 46 (drop place name)) ≡ true
-empty_piece name place lt dot =
-    let none : place - place ≡ 0 = omega arith in
-    ap has_empty (piece_cut name place place (omega arith) lt (λ k le l. absurd (omega (arith, le, l))) dot
-    ∙ ap (λ (n : ℕ). take n (drop place name) ∷ cut_at 46 (drop (place + 1) name)) none)
-
 pub filled_piece : (name : List ℕ) (start place : ℕ) → start < place → place < length name
     → ((k : ℕ) → start ≤ k → k < place → get_or name k 0 ≢ 46) → get_or name place 0 ≡ 46
     → has_empty (cut_at 46 (drop start name)) ≡ has_empty (cut_at 46 (drop (place + 1) name))

@@ -30,16 +30,6 @@ held_skip buffer more s e n order within le =
     ∙ ap (λ (j : ℕ). drop n (take j (drop s buffer))) (sym k) in
     ap (λ (xs : List ℕ). xs ++ more) unread ∙ sym (drop-append-le n (held s e buffer) more le)
 
--- a read takes its bytes from the front
-pub filled : (old new : Option (List ℕ)) (bytes : List ℕ) → old ≡ before bytes new → AreKnownBytes old
-    → bytes ++ known new ≡ known old
-filled old None bytes is reported = absurd (subst AreKnownBytes is reported)
-filled old (Some left) bytes is reported = rw is refl
-
-pub none_left : (left : Option (List ℕ)) → IsAtEnd left → known left ≡ []
-none_left None at_end = refl
-none_left (Some left) at_end = at_end
-
 -- before the first read nothing is held
 pub first_left : (left : Option (List ℕ)) (bytes buffer : List ℕ) (s e : ℕ) → s ≡ e → left ≡ Some bytes
     → held s e buffer ++ known left ≡ bytes

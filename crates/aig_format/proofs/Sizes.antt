@@ -34,12 +34,6 @@ pub sizes_more : {X : Type 0} (all : List (List X)) (sizes : List ℕ) (i : ℕ)
 sizes_more {X} all sizes i new size lt so_far is at =
     map-append (length {A = X}) all (new ∷ []) ∙ rw (so_far, is, at) (sym (take_more sizes i 0 lt))
 
--- a fresh entry is added at the end
-pub inserted : (all new : List Entry) (e : Entry) (added : Bool) → (IsTrue added → new ≡ all ++ e ∷ [])
-    → (added ≡ false ↔ Contains (keys_of all) e.0) → (Contains (keys_of all) e.0 → ⊥) → new ≡ all ++ e ∷ []
-inserted all new e true appended when free = appended refl
-inserted all new e false appended when free = absurd (free (when.0 refl))
-
 -- one more symbol
 pub symbols_more : (c : Counts) (all new : List Entry) (kind : Kind) (position : ℕ) (name : List ℕ) → AreSymbols c all
     → position < count_of c kind → IsName name → (Contains (keys_of all) (kind, position) → ⊥)

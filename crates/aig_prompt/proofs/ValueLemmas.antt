@@ -28,9 +28,6 @@ use Rattle.aig_prompt.specs.Value.{AreLetters, IsDecimal, IsUnknown, RefusesBits
 use Rattle.aig_prompt.specs.Value.{reads_unknown, reads_letters, reads_digits, reads_sized, in_base_2, in_base_10}
 use Rattle.aig_prompt.specs.Value.{in_base_16}
 
-turned_more : {X : Type 0} (front : List X) (x : X) → reverse (front ++ x ∷ []) ≡ x ∷ reverse front
-turned_more front x = reverse-append front (x ∷ [])
-
 turned_cons : {X : Type 0} (x : X) (rest : List X) → reverse (x ∷ rest) ≡ reverse rest ++ x ∷ []
 turned_cons x rest = reverse-append (x ∷ []) rest
 
@@ -51,16 +48,6 @@ bits_down digits k n d e le is =
     ∙ sym (bits_cons (get_or digits k 0) (drop n digits))
     ∙ ap (λ (m : ℕ). digits_bits (get_or digits k 0 ∷ drop m digits)) (sym e)
     ∙ ap digits_bits (sym (drop_more digits k 0 (omega (arith, e, le))))
-
-pub letters_down : (letters : List ℕ) (values new : List Tern) (k n : ℕ) (w : Tern) → k + 1 ≡ n → n ≤ length letters
-    → letter_value (get_or letters k 0) ≡ Some w → new ≡ values ++ w ∷ []
-    → map letter_value (drop n letters) ≡ map Some (reverse values)
-    → map letter_value (drop k letters) ≡ map Some (reverse new)
-letters_down letters values new k n w e le is pushed h =
-    ap (map letter_value) (drop_more letters k 0 (omega (arith, e, le)))
-    ∙ (λ j. is j ∷ map letter_value (drop (e j) letters))
-    ∙ (λ j. Some w ∷ h j)
-    ∙ ap (map Some) (sym (ap reverse pushed ∙ turned_more values w))
 
 -- ---- numbers
 

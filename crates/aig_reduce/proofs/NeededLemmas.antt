@@ -227,16 +227,6 @@ pub is_marked : (marks : List Bool) (v n : ℕ) → n ≡ v → v < length marks
 is_marked marks v n e lt is =
     slice_get-get_or marks v false lt ∙ ap Some (ap (λ (k : ℕ). slice_index_or marks k false) (sym e) ∙ is)
 
--- no marks
-pub none_marked : (size : ℕ) (marks : List Bool) → marks ≡ replicate size false → (v : ℕ) → IsMarked marks v → ⊥
-none_marked size marks e v m =
-    let at : slice_get (replicate size false) v ≡ Some true = ap (λ (ms : List Bool). slice_get ms v) (sym e) ∙ m in
-    let lt = slice_get_within (replicate size false) v true at in
-    let is : false ≡ true =
-    sym (get_or-replicate {A = Bool} size v false false (omega (arith, lt, length-replicate {A = Bool} size false)))
-    ∙ get_or_from_slice_get (replicate size false) v true false at in
-    false≢true is
-
 -- ---- x at all places
 
 pub x_alone : (size i : ℕ) (w : Tern) (row : List Tern) → row ≡ replicate size X → slice_get row i ≡ Some w → w ≡ X

@@ -101,10 +101,6 @@ split u q t p (inr (e, below)) = elim (cases_eq q p) [
   | inr ne ↦ inl (inr (e, omega arith))
 ]
 
-less : (u q t p : ℕ) → IsBefore u q t p → IsBefore u q t (suc p)
-less u q t p (inl below) = inl below
-less u q t p (inr (e, below)) = inr (e, omega arith)
-
 module _ (C : List (List Tern) → Type 0) (given : List (List Tern)) where
   pub tried_none : C given → AreTried C given given 0 0
   tried_none c = record {

@@ -181,9 +181,3 @@ pub start_more : (raw c : Raw) (start : List Tern) (lit : ℕ) (w : Tern) (i : �
 start_more raw c start lit w i y s size is at named here =
     start_restarted c s lit w i y at named ∙ ap (λ (v : List Tern). slice_set v i w) is
     ∙ set_next start (start_of raw) i w here (start_length raw ∙ sym size)
-
-pub start_all : (raw : Raw) (start : List Tern) (i : ℕ) → length start ≡ length raw.latches → length start ≤ i
-    → take i start ++ drop i (start_of raw) ≡ start
-start_all raw start i size le =
-    ap (λ (v : List Tern). take i start ++ v) (drop_all i (start_of raw) (omega (arith, start_length raw, size, le)))
-    ∙ append-nil (take i start) ∙ take_all i start le

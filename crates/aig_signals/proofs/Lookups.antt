@@ -103,16 +103,3 @@ module _ (f : ℕ → ℕ) where
       let size : p - first + 1 ≡ p + 1 - first = omega (arith, le) in
       pushed ∙ (λ j. h j ++ is j ∷ []) ∙ sym (map-range_with_len_more f first (p - first) p (omega (arith, le)))
       ∙ ap (λ (n : ℕ). map f (range_with_len first n)) size
-
--- a signal that is not the one, and the one
-module _ (signals : List Signal) (name : List ℕ) (i : ℕ) (d : Signal) (lt : i < length signals) where
-  named_step : named_in (drop i signals) name ≡ named_in (get_or signals i d ∷ drop (i + 1) signals) name
-  named_step = ap (λ (xs : List Signal). named_in xs name) (drop_more signals i d lt)
-
-  pub named_past : (all : Option Signal) → bytes_eq (get_or signals i d).name name ≡ false → named_in (drop i signals) name ≡ all
-      → named_in (drop (i + 1) signals) name ≡ all
-  named_past all fails h = sym (named_step ∙ (rw fails refl)) ∙ h
-
-  pub named_here : (all : Option Signal) → bytes_eq (get_or signals i d).name name ≡ true → named_in (drop i signals) name ≡ all
-      → Some (get_or signals i d) ≡ all
-  named_here all holds h = sym (named_step ∙ (rw holds refl)) ∙ h

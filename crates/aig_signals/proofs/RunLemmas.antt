@@ -17,16 +17,6 @@ use Rattle.aig_signals.specs.Signals.{goes_on, put_entry, runs_from, runs_of, se
 pub turned_push : (xs : List Run) (run : Run) → reverse (xs ++ run ∷ []) ≡ run ∷ reverse xs
 turned_push xs run = reverse-append xs (run ∷ [])
 
--- an entry that joins no run
-pub put_alone : (p : ℕ) (runs : List Run) → record { first = p; end = p + 1 } ∷ runs ≡ put_entry false p runs
-put_alone p [] = refl
-put_alone p (run ∷ runs) = refl
-
--- one that joins the last run of a list
-pub put_joined : (old rest : List Run) (run : Run) (p : ℕ) → old ≡ rest ++ run ∷ []
-    → record { first = p; end = run.end } ∷ reverse rest ≡ put_entry true p (reverse old)
-put_joined old rest run p is = sym (ap (put_entry true p) (ap (λ (xs : List Run). reverse xs) is ∙ turned_push rest run))
-
 -- no entry yet
 pub runs_start : (raw : Raw) (kind : Kind) (p n : ℕ) (runs : List Run) → p ≡ n → runs ≡ [] → reverse runs ≡ runs_from raw kind p (n - p)
 unfolding runs_from

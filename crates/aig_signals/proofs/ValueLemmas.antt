@@ -58,9 +58,6 @@ module _ (bits : List (Option Tern)) where
       ap (λ (xs : List ℕ). xs ++ digits_below k) new_is ∙ append_assoc old (b ∷ []) (digits_below k)
       ∙ ap (λ (xs : List ℕ). old ++ xs) (sym turned) ∙ h
 
-  pub no_digits : (text : List ℕ) (n : ℕ) → n ≡ 0 → text ++ digits_below n ≡ text
-  no_digits text n is = ap (λ (m : ℕ). text ++ digits_below m) is ∙ append-nil text
-
   more_than_one : length bits ≢ 1 → (length bits == 1) ≡ false
   more_than_one h = ne_eqb (length bits) 1 h
 

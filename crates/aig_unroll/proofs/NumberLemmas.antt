@@ -60,10 +60,6 @@ pub record ArePlacesTo (raw : Raw) (order places : List ℕ) (n : ℕ) : Type 0 
   pub each : (p q : ℕ) (g : Gate) → p < n → p < length order → slice_get raw.gates q ≡ Some g
       → variable g.lhs ≡ get_or order p 0 → get_or places q 0 ≡ p
 
-pub places_none : (raw : Raw) (order places : List ℕ) → length places ≡ length raw.gates
-    → ArePlacesTo raw order places 0
-places_none raw order places size = record { size = size; each = λ p q g lt. absurd (omega arith) }
-
 module _ (raw : Raw) (sound : IsSound raw) (order : List ℕ) (canonical : IsCanonicalOrder raw order) where
   -- what stands at a place is a gate
   pub gate_there : (i : ℕ) → i < length order → IsGate raw (get_or order i 0)
@@ -99,14 +95,6 @@ module _ (raw : Raw) (sound : IsSound raw) (order : List ℕ) (canonical : IsCan
           let j : p ≡ i = place_in raw sound order canonical i p v (slice_get-get_or order i 0 lt)
           (slice_get-get_or order p 0 inside ∙ ap Some e) in
           omega arith
-
-  pub places_all : (places : List ℕ) (n : ℕ) → length order ≤ n → ArePlacesTo raw order places n
-      → ArePlaces raw order places
-  places_all places n over s = record {
-    size = s.size;
-    canonical = canonical;
-    each = λ p q g lt at is. s.each p q g (omega arith) lt at is;
-  }
 
   -- the number of a gate, whose place is one of the order
   pub gate_number : (places : List ℕ) (v q : ℕ) → Defines raw v (definition.Gate q) → ArePlaces raw order places

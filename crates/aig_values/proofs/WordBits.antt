@@ -25,9 +25,6 @@ abbrev moved : ℕ → ℕ → ℕ
 moved bits place = bits * 2 ^ (2 * place) % 256
 
 module _ (bits place : ℕ) (small : bits < 4) (within : place < 4) where
-  fits : moved bits place < 256
-  fits = omega arith
-
   moved_is : moved bits place ≡ bits * 2 ^ (2 * place) + 0
   moved_is = let whole = shl_whole bits 2 (2 * place) 8 small (omega arith) in omega (arith, whole)
 

@@ -70,14 +70,6 @@ module _ (text : List ℕ) (at a b c d : ℕ) (room : at + 4 ≤ length text) wh
       (filled_more f (set text at a) at 1 (at + 1) b refl (omega (arith, n1)) b_is
       (filled_more f text at 0 at a (omega arith) (omega arith) a_is (λ k lt. absurd (omega arith)))))
 
-  pub four_before : (k : ℕ) → k < at
-      → get_or (set (set (set (set text at a) (at + 1) b) (at + 2) c) (at + 3) d) k 0 ≡ get_or text k 0
-  four_before k lt =
-      get_or-set_other (set (set (set text at a) (at + 1) b) (at + 2) c) (at + 3) k d 0 (λ e. omega arith)
-      ∙ get_or-set_other (set (set text at a) (at + 1) b) (at + 2) k c 0 (λ e. omega arith)
-      ∙ get_or-set_other (set text at a) (at + 1) k b 0 (λ e. omega arith)
-      ∙ get_or-set_other text at k a 0 (λ e. omega arith)
-
 -- a cell by its word and its place there
 pub cell_there : (words : List ℕ) (v index place : ℕ) → 4 * index + place ≡ v → place < 4 → index < length words
     → value_in (get_or words index 0) place ≡ get_or (spelled words) v X

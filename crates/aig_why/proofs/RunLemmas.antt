@@ -30,15 +30,6 @@ use Rattle.aig_why.specs.declared.command.Span.{Span}
 use Rattle.aig_why.specs.declared.question.Question.{Question}
 use Rattle.aig_why.specs.Named.{IsNamingOf, NamesNothing}
 
--- frames
-pub frame_below : (asked : Option ℕ) (count t : ℕ) → IsFrame asked count t → t < count
-frame_below None count t h = omega (arith, h)
-frame_below (Some given) count t h = h.1
-
-pub frame_least : (depth : Option ℕ) (t : ℕ) → least_frame depth t ≤ t
-frame_least None t = omega arith
-frame_least (Some depth) t = omega arith
-
 -- no bench is made
 pub bench_refused : (raw : Raw) (run : Run) (property : ℕ) (name : Option (List ℕ)) (span : Span) (fault : BenchFault)
     → fault ≢ benches.Width → (fault ≡ benches.Limit → cell_limit < (raw.max_var + 1) * length run.rows)
@@ -58,9 +49,6 @@ module _ (raw other : Raw) (r : HasOtherResets raw other) where
   definitions_same =
       λ i. r.inputs i ++ latch_literals raw.latches other.latches r.latches i ++ map (λ (g : Gate). g.lhs) (r.gates i)
 
-  pub range_with : (literals : List ℕ) → All (λ l. variable l ≤ raw.max_var) literals → All (λ l. variable l ≤ other.max_var) literals
-  range_with literals h = subst (λ (n : ℕ). All (λ l. variable l ≤ n) literals) (sym r.size) h
-
   pub defined_with : (literals : List ℕ) → All (λ l. IsDefined raw (variable l)) literals → All (λ l. IsDefined other (variable l)) literals
   defined_with literals h =
       subst (λ (ls : List ℕ). All (λ l. Contains (0 ∷ map variable ls) (variable l)) literals) (sym definitions_same) h
@@ -69,16 +57,6 @@ module _ (raw other : Raw) (r : HasOtherResets raw other) where
       → IfSome question (λ q. All (λ l. IsDefined other (variable l)) q.literals)
   asked_with None h = tt
   asked_with (Some q) h = defined_with q.literals h
-
-  -- a new naming of the circuit
-  pub nothing_with : (n : Naming) → n.inputs.values ≡ replicate (length (literals_of raw kinds.Input)) None
-      → n.latches.values ≡ replicate (length (literals_of raw kinds.Latch)) None → NamesNothing other n
-  nothing_with n inputs latches = record {
-    inputs = inputs ∙ ap (λ (ls : List ℕ). replicate {A = Option Tern} (length ls) None) (sym r.inputs);
-    latches = latches
-        ∙ ap (λ (k : ℕ). replicate {A = Option Tern} k None)
-        (length-map raw.latches (λ (x : Latch). x.lit) ∙ sym (latches_length raw other r));
-  }
 
 -- what it returns for the run over a stimulus
 module _ (raw : Raw) (stimulus name : List ℕ) (span : Span) (rows : List (List Tern)) (spelled : SpellsRows (length raw.inputs) stimulus rows) where

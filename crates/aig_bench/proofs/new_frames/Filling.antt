@@ -11,9 +11,6 @@ pub cells_then : (a b c : EngineState) → FillsCells a b → FillsCells b c →
 cells_then a b c x y =
     y ∙ ap (λ (s : EngineState). let z : EngineState = record s { cells = c.cells; evaluations = c.evaluations } in z) x
 
-pub fills_none : (t : ℕ) (s : EngineState) → FillsRow t 0 s s
-fills_none t s = record { same = refl; others = λ u ne. refl; count = omega arith }
-
 pub pair_kept : (a b : EngineState) → FillsCells a b → b.pair ≡ a.pair
 pair_kept a b h = ap (λ (s : EngineState). s.pair) h
 

@@ -5,9 +5,6 @@ use Rattle.std.proofs.lemmas.Bool.Decides.{nat_tests}
 use Rattle.std.proofs.lemmas.List.{length-map, get_or-map, map-set}
 use Rattle.aig_bench.specs.state.Waiting.{idle, is_waiting, marks_of}
 
-pub length_marks : (next : List ℕ) → length (marks_of next) ≡ length next
-length_marks next = length-map next is_waiting
-
 not_idle : (n : ℕ) → n ≢ idle → is_waiting n ≡ true
 not_idle n ne = grind (arith, nat_tests)
 

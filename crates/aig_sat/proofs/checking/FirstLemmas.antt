@@ -81,35 +81,7 @@ known_still v truths l makes unknown unknown_too m known =
 
 -- ---- resolvents
 
-met_appended : (v : ℕ → Bool) (xs ys : List ℕ) → meets v (xs ++ ys) ≡ true → (meets v xs ≡ true) ⊎ (meets v ys ≡ true)
-met_appended v xs ys h = split_or (meets v xs) (meets v ys) (sym (list_any-append (is_true v) xs ys) ∙ h)
-
-met_pushed : (v : ℕ → Bool) (xs : List ℕ) (x : ℕ) → meets v (xs ++ x ∷ []) ≡ true
-    → (meets v xs ≡ true) ⊎ (is_true v x ≡ true)
-met_pushed v xs x h = elim (met_appended v xs (x ∷ []) h) [
-  | inl e ↦ inl e
-  | inr e ↦ inr (last (is_true v x) e)
-]
-  where
-    last : (b : Bool) → (b || false) ≡ true → b ≡ true
-    last true e = refl
-    last false e = e
-
 -- ---- candidates
-
--- the literals of the clause at a place
-settled_at : (v : ℕ → Bool) (words literals : List ℕ) (p lie : ℕ) → IsClauseAt words p literals → MeetsOther v literals lie
-    → Settles v words p lie
-settled_at v words literals p lie at (k, inside, other, holds) =
-    let is : get_or literals k 0 ≡ literal_at words p k = at.items k inside in
-    inr (k, omega (arith, at.size, inside), (λ e. other (is ∙ e)), ap (is_true v) (sym is) ∙ holds)
-
-settled_without : (v : ℕ → Bool) (words literals : List ℕ) (p lie : ℕ) → IsClauseAt words p literals → IsWithout literals lie
-    → Settles v words p lie
-settled_without v words literals p lie at none =
-    inl (λ k inside e.
-    let within : k < length literals = omega (arith, at.size, inside) in
-    none k within (at.items k within ∙ e))
 
 settled_then : (v : ℕ → Bool) (old new : List ℕ) (p lie : ℕ) → Shrinks old new → StandsAt new p → Settles v old p lie
     → Settles v new p lie
@@ -126,26 +98,6 @@ settled_then v old new p lie s stands (inr (k, inside, other, holds)) =
 -- a clause that stood at a place before stands there now
 stood : (old new : List ℕ) (p : ℕ) → Shrinks old new → StandsAt new p → StandsAt old p
 stood old new p s stands = let e : get_or new p 0 ≡ get_or old p 0 = s.heads p stands in omega (arith, e, stands)
-
--- no clause stands there
-pub settled_none : (p : Propagator) (clause : List ℕ) (lie place : ℕ) → (StandsAt p.clauses.words.items place → ⊥)
-    → IsSettled p p clause lie place
-settled_none p clause lie place none v a untrue stands = absurd (none stands)
-
--- the clause does not have the literal
-pub settled_lacking : (p : Propagator) (clause literals : List ℕ) (lie place : ℕ)
-    → IsClauseAt p.clauses.words.items place literals → IsWithout literals lie → IsSettled p p clause lie place
-settled_lacking p clause literals lie place at none v a untrue stands =
-    settled_without v p.clauses.words.items literals place lie at none
-
--- the resolvent follows
-pub settled_by : (old new : Propagator) (clause literals resolvent : List ℕ) (lie place : ℕ)
-    → IsClauseAt old.clauses.words.items place literals
-    → ((v : ℕ → Bool) → meets v resolvent ≡ true → meets v clause ≡ false → MeetsOther v literals lie)
-    → Narrows old new → Implies old resolvent → IsSettled old new clause lie place
-settled_by old new clause literals resolvent lie place at resolves n implied v a untrue stands =
-    settled_then v old.clauses.words.items new.clauses.words.items place lie n.same stands
-    (settled_at v old.clauses.words.items literals place lie at (resolves v (implied v a) untrue))
 
 -- what was settled stays so
 pub settled_later : (old mid new : Propagator) (clause : List ℕ) (lie p : ℕ) → IsSettled old mid clause lie p
@@ -165,19 +117,6 @@ pub settled_more : (old mid new : Propagator) (clause : List ℕ) (lie n : ℕ) 
 settled_more old mid new clause lie n first second before now p below = elim (same_or_other p n) [
   | inl e ↦ subst (λ (x : ℕ). IsSettled old new clause lie x) (sym e) (settled_earlier old mid new clause lie n first now)
   | inr ne ↦ settled_later old mid new clause lie p (before p (omega (arith, ne, below))) second
-]
-
--- no clause stands past the words
-pub settled_past : (old new : Propagator) (clause : List ℕ) (lie : ℕ) → Narrows old new
-    → ((p : ℕ) → p < length old.clauses.words.items → IsSettled old new clause lie p) → (p : ℕ) → IsSettled old new clause lie p
-settled_past old new clause lie n all p = elim (below_or_above p (length old.clauses.words.items)) [
-  | inl lt ↦ all p lt
-  | inr ge ↦ λ v a untrue stands.
-      absurd (omega (
-        arith,
-        get_or_past old.clauses.words.items p 0 ge,
-        stood old.clauses.words.items new.clauses.words.items p n.same stands,
-      ))
 ]
 
 -- ---- the clause may stand

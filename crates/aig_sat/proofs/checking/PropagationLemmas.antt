@@ -59,10 +59,6 @@ taken_found literal old new (inr t) before found l h = elim (taken_known literal
   ]
 ]
 
--- propagation step by step
-pub no_step : (p : Propagator) → Propagates p p
-no_step p = record { same = shrinks_none _; known = λ v a. a.known; found = λ b h. h }
-
 pub agrees_then : (old mid : Propagator) → Propagates old mid → (values : ℕ → Bool) → Agrees values old → Agrees values mid
 agrees_then old mid first values a = record { met = met_then _ _ first.same values a.met; known = first.known values a }
 
@@ -86,15 +82,6 @@ by_taking literal old new e t implied = record {
   found = taken_found literal old.known new.known t;
 }
 
--- only the clauses change
-pub by_words : (old new : Propagator) → Shrinks old.clauses.words.items new.clauses.words.items → new.known ≡ old.known
-    → Propagates old new
-by_words old new keeps e = record {
-  same = keeps;
-  known = λ v a. subst (λ (k : Known). MakesTrue v k.truths.items) (sym e) a.known;
-  found = λ b h. subst (λ (k : Known). IsFound b k) (sym e) h;
-}
-
 -- the only literal of a clause that is not known to be false is true
 pub unit_true : (p : Propagator) (place : ℕ) (literals : List ℕ) (other : ℕ)
     → IsClauseAt p.clauses.words.items place literals → AreFalseBeside p.known.truths.items literals other
@@ -108,12 +95,6 @@ unit_true p place literals other at all values a =
       | inr untrue ↦ absurd (negation_false values (get_or literals k 0) (a.known _ untrue) (ap (is_true values) is ∙ holds))
     ]
 
-pub conflict_false : (p : Propagator) (place : ℕ) (literals : List ℕ) (other : ℕ)
-    → IsClauseAt p.clauses.words.items place literals → AreFalseBeside p.known.truths.items literals other
-    → IsKnown p.known.truths.items (negation other) → Contradicts p
-conflict_false p place literals other at all untrue values a =
-    negation_false values other (a.known _ untrue) (unit_true p place literals other at all values a)
-
 -- a literal of a clause that is not met is false
 pub literal_false : (values : ℕ → Bool) (clause : List ℕ) (k : ℕ) → k < length clause → meets values clause ≡ false
     → is_true values (get_or clause k 0) ≡ false
@@ -122,9 +103,6 @@ literal_false values clause k inside untrue = go (is_true values (get_or clause 
     go : (b : Bool) → is_true values (get_or clause k 0) ≡ b → is_true values (get_or clause k 0) ≡ false
     go false e = e
     go true e = absurd (false≢true (sym untrue ∙ list_any_at (is_true values) clause k 0 inside e))
-
-pub assume_none : (clause : List ℕ) (p : Propagator) → Assumes clause p p
-assume_none clause p = record { same = shrinks_none _; known = λ v a _. a.known; found = λ b h. h }
 
 pub assumed_agrees : (clause : List ℕ) (old mid : Propagator) → Assumes clause old mid → (values : ℕ → Bool)
     → Agrees values old → meets values clause ≡ false → Agrees values mid
@@ -145,14 +123,6 @@ assume_more clause k literal old mid new inside is first e t = record {
   found = λ b h. taken_found (negation literal) mid.known new.known t b (first.found b h);
 }
 
-pub assume_then : (clause : List ℕ) (old mid new : Propagator) → Assumes clause old mid → Propagates mid new
-    → Assumes clause old new
-assume_then clause old mid new first second = record {
-  same = shrinks_then _ _ _ first.same second.same;
-  known = λ v a untrue. second.known v (assumed_agrees clause old mid first v a untrue);
-  found = λ b h. second.found b (first.found b h);
-}
-
 -- no assignment that agrees fails to meet the clause
 pub implied_by : (clause : List ℕ) (p : Propagator)
     → ((values : ℕ → Bool) → Agrees values p → meets values clause ≡ false → ⊥) → Implies p clause
@@ -161,12 +131,6 @@ implied_by clause p never values a = go (meets values clause) refl
     go : (b : Bool) → meets values clause ≡ b → meets values clause ≡ true
     go true e = e
     go false e = absurd (never values a e)
-
--- one of its literals is known to be true
-pub implied_known : (clause : List ℕ) (k literal : ℕ) (old mid : Propagator) → k < length clause
-    → literal ≡ get_or clause k 0 → Assumes clause old mid → IsKnown mid.known.truths.items literal → Implies old clause
-implied_known clause k literal old mid inside is first known = implied_by clause old (λ v a untrue.
-    false≢true (sym (ap (is_true v) is ∙ literal_false v clause k inside untrue) ∙ first.known v a untrue literal known))
 
 pub implied_conflict : (clause : List ℕ) (old mid : Propagator) → Assumes clause old mid → Contradicts mid
     → Implies old clause
@@ -206,9 +170,6 @@ agrees_narrowed old new n values a = record {
   met = met_then _ _ n.same values a.met;
   known = λ l h. a.known l (n.fewer l h);
 }
-
-pub narrows_none : (p : Propagator) → Narrows p p
-narrows_none p = record { same = shrinks_none _; fewer = λ l h. h }
 
 pub narrows_then : (old mid new : Propagator) → Narrows old mid → Narrows mid new → Narrows old new
 narrows_then old mid new first second = record {

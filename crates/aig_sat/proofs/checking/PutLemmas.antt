@@ -60,36 +60,8 @@ append_shrinks words tail laid small = record {
       | inr above ↦ absurd (omega (arith, small_after words tail small p above, now))
     ]
 
-pub append_keeps : (words tail : List ℕ) → IsLaidOut words → AreLiterals tail → KeepsMet words (words ++ tail)
-append_keeps words tail laid small = met_then words (words ++ tail) (append_shrinks words tail laid small)
-
 pub four_small : (a b : ℕ) → a < 0x8000_0000 → b < 0x8000_0000 → AreLiterals (0 ∷ a ∷ b ∷ 0 ∷ [])
 four_small a b ha hb k within = grind arith
-
-pub both_small : (xs ys : List ℕ) → AreLiterals xs → AreLiterals ys → AreLiterals (xs ++ ys)
-both_small xs ys hx hy k within = elim (below_or_above k (length xs)) [
-  | inl lt ↦ omega (arith, get_or_append_left xs ys 0 k lt, hx k lt)
-  | inr ge ↦ small_after xs ys hy k ge
-]
-
-pub put_words : (old literals : List ℕ) (a b : ℕ) → a < 0x8000_0000 → b < 0x8000_0000 → AreLiterals literals
-    → IsPut old literals ((old ++ (0 ∷ a ∷ b ∷ 0 ∷ [])) ++ literals)
-put_words old literals a b ha hb small =
-    let head : List ℕ = 0 ∷ a ∷ b ∷ 0 ∷ [] in
-    let inner : length (old ++ head) ≡ length old + 4 = length-append old head in
-    let outer : length ((old ++ head) ++ literals) ≡ length (old ++ head) + length literals = length-append (old ++ head) literals in
-    record {
-      len = omega (arith, inner, outer);
-      before = λ q below.
-          get_or_append_left (old ++ head) literals 0 q (omega (arith, inner, below)) ∙ get_or_append_left old head 0 q below;
-      small = λ q above. elim (below_or_above q (length (old ++ head))) [
-        | inl lt ↦ omega (arith, get_or_append_left (old ++ head) literals 0 q lt, small_after old head (four_small a b ha hb) q above)
-        | inr ge ↦ small_after (old ++ head) literals small q ge
-      ];
-      items = λ k within.
-          after (old ++ head) literals (length old + (4 + k)) (omega (arith, inner))
-          ∙ ap (λ i. get_or literals i 0) (let e : length old + (4 + k) - length (old ++ head) ≡ k = omega (arith, inner) in e);
-    }
 
 -- what was put is the last clause
 pub put_last : (old literals words : List ℕ) → IsLaidOut old → IsPut old literals words → IsLast words (length old) (length literals)

@@ -38,20 +38,6 @@ passed_fault inner (Err f) field fault was passed is = let e : f ≡ fault = cc 
 
 -- ---- bytes
 
--- a byte of the text
-pub byte_inside : (text : List ℕ) (at b : ℕ) → slice_get text at ≡ Some b → slice_get (text ++ 10 ∷ []) at ≡ Some b
-byte_inside (x ∷ text) zero b is = is
-byte_inside (x ∷ text) (suc at) b is = byte_inside text at b is
-byte_inside [] at b is = cc
-
--- the LF after it
-pub byte_after : (text : List ℕ) (at : ℕ) → at ≡ length text → slice_get (text ++ 10 ∷ []) at ≡ Some 10
-byte_after text at e = subst (λ (n : ℕ). slice_get (text ++ 10 ∷ []) n ≡ Some 10) (sym e) (last text)
-  where
-    last : (text : List ℕ) → slice_get (text ++ 10 ∷ []) (length text) ≡ Some 10
-    last [] = refl
-    last (x ∷ text) = last text
-
 -- ---- the bytes from a place to a space
 
 module _ (text : List ℕ) (at end b : ℕ) (after : at ≤ end) (bound : end ≤ length text)
@@ -180,18 +166,6 @@ begins_text {variables} reader before same named = record {
   names = subst (λ (phase : Phase). Names (length reader.values) [] phase []) (sym before) Names.nothing;
   named = subst (λ (n : ℕ). AreNamed [] n reader.values) (sym same) named;
 }
-
-pub ends_text : (reader : Reader) (variables : ℕ) (text : List ℕ) (at : ℕ) → length reader.values ≡ variables → length text < at
-    → reader.phase ≡ After → ReadUpTo reader text at
-    → (literals : List ℕ) × SpellsModel variables text literals × AreNamed literals variables reader.values
-ends_text reader variables text at same over after (bound, (literals, h)) = (
-  literals,
-  subst (λ (n : ℕ). Names n (text ++ 10 ∷ []) After literals) same
-      (subst (λ (phase : Phase). Names (length reader.values) (text ++ 10 ∷ []) phase literals) after
-      (subst (λ (xs : List ℕ). Names (length reader.values) xs reader.phase literals)
-      (take_all at (text ++ 10 ∷ []) (omega (arith, length_push text 10, over))) h.names)),
-  subst (λ (n : ℕ). AreNamed literals n reader.values) same h.named,
-)
 
 -- a line by which a solver answers otherwise
 pub status_stands : (IsLine : List ℕ → Type 0) (reader : Reader) (variables : ℕ) (text : List ℕ) (at end : ℕ) → at ≤ end

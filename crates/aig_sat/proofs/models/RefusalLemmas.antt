@@ -63,9 +63,6 @@ module _ (variables : ℕ) (reader : Reader) (text : List ℕ) (at : ℕ) (value
 
   -- the bytes from the place to one after it, and the rest
   module _ (end b : ℕ) (after : at ≤ end) (bound : end ≤ length text) (ends : slice_get (text ++ 10 ∷ []) end ≡ Some b) where
-    piece : List ℕ
-    piece = take (end - at) (drop at text)
-
     rest : List ℕ
     rest = drop (end + 1) (text ++ 10 ∷ [])
 

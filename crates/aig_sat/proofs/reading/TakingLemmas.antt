@@ -85,35 +85,10 @@ module _ (a b c : Block) (l m : Option (List ℕ)) (taken : b.waiting ≡ c.prev
     previous = refl;
   }
 
-  pub bytes_step : b.ended ≡ false → TakesBytes a b l m [] → TakesBytes a c l m (c.previous ∷ [])
-  bytes_step begun look = look ∙ before_none (bytes_to_come b m) ∙ one m b.ended c.ended begun (same ∙ begun)
-    where
-      one : (m : Option (List ℕ)) (e f : Bool) → e ≡ false → f ≡ false
-          → bytes_to_come (record b { ended = e }) m ≡ before (c.previous ∷ []) (bytes_to_come (record c { ended = f }) m)
-      one None e f k j = refl
-      one (Some left) false false k j = ap (λ (xs : List ℕ). Some (xs ++ left)) taken
-      one (Some left) true f k j = let never : ⊥ = cc in absurd never
-      one (Some left) false true k j = let never : ⊥ = cc in absurd never
-
 -- the end
 pub text_at_end : (b : Block) (m : Option (List ℕ)) → b.waiting ≡ [] → b.ended ≡ true → IsAtEnd (text_to_come b m)
 text_at_end b None none ended = tt
 text_at_end b (Some left) none ended = rw (ended, none) refl
-
-pub bytes_at_end : (a b : Block) (l m : Option (List ℕ)) → b.ended ≡ true → TakesBytes a b l m [] → IsAtEnd (bytes_to_come a l)
-bytes_at_end a b l m ended took = subst IsAtEnd (sym (took ∙ before_none (bytes_to_come b m))) (at_end m)
-  where
-    at_end : (m : Option (List ℕ)) → IsAtEnd (bytes_to_come b m)
-    at_end None = tt
-    at_end (Some left) = rw ended refl
-
-pub held_next : (buffer : List ℕ) (s e : ℕ) → s < e → e ≤ length buffer → held s e buffer ≡ get_or buffer s 0 ∷ held (s + 1) e buffer
-held_next buffer s e lt le =
-    let k : e - s ≡ suc (e - (s + 1)) = omega arith in
-    let long : s < length buffer = omega arith in
-    let next : suc s ≡ s + 1 = omega arith in
-    let d : drop s buffer ≡ get_or buffer s 0 ∷ drop (s + 1) buffer =
-    drop-cons buffer s 0 long ∙ ap (λ (j : ℕ). get_or buffer s 0 ∷ drop j buffer) next in rw (k, d) refl
 
 -- ---- text
 
@@ -186,12 +161,6 @@ none_all k d never = absurd (omega (arith, never))
 
 one_more : (b : ℕ) (blanks : List ℕ) → IsBlank b → All IsBlank blanks → All IsBlank (b ∷ blanks)
 one_more b blanks is all = All-append IsBlank (b ∷ []) blanks (All-push IsBlank [] b none_all is) all
-
--- what ends one
-pub ends_word : (f : Bool) (b : ℕ) → IsSpace b → (f ≡ false) ⊎ (b ≡ 10) → EndsStep f (b ∷ [])
-ends_word false b space one = (b, space, refl)
-ends_word true b space (inl never) = let k : ⊥ = cc in absurd k
-ends_word true b space (inr e) = ([], none_all, ap (λ (x : ℕ). x ∷ []) e)
 
 pub ends_line : (f : Bool) (b : ℕ) (blanks : List ℕ) → f ≡ true → IsSpace b → b ≢ 10 → All IsBlank blanks
     → EndsStep f (b ∷ (blanks ++ 10 ∷ []))

@@ -63,6 +63,12 @@ impl ProofBytes {
         }
     }
 
+    /// The place to report where a word that begins at a place does not go on: the end of the file, where the word is cut
+    /// off there.
+    pub(crate) fn cut_at(&self, at: u64) -> u64 {
+        if self.ended { self.begin } else { at }
+    }
+
     /// Whether the next byte begins a line.
     pub(crate) fn is_at_line(&self) -> bool
         ensures { IsTrue result ↔ (self.now.previous ≡ 10) }

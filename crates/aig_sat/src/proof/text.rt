@@ -272,7 +272,9 @@ fn text_number<R: Read>(bytes: &mut ProofBytes, reader: &mut R, at: u64) -> Resu
         to_take (R.reads_left reader.new) bytes.new < to_take (R.reads_left reader.old) bytes.old) }
 {
     let Some(first) = take_digit(bytes, reader)? else {
-        return Err(ReadFault::Text { at });
+        return Err(ReadFault::Text {
+            at: bytes.cut_at(at),
+        });
     };
     if first == 0 {
         // A digit after it is rejected, as any byte that is no space.

@@ -2,7 +2,7 @@ use Rattle.std.proofs.Common.{ℕ, List, drop, length, sym, ap, ◌∙◌, arith
 use Rattle.std.specs.Prelude.{◌==◌}
 use Rattle.aig_dump_header.specs.Names.{cut_at}
 use Rattle.aig_dump_header.specs.Paths.{has_empty}
-use Rattle.aig_dump_header.proofs.PathLemmas.{empty_piece, filled_piece, rest_piece, none_more}
+use Rattle.aig_dump_header.proofs.PathLemmas.{filled_piece, rest_piece, none_more}
 use Rattle.aig_dump_header.proofs.Words.{rest_is}
 use Rattle.aig_dump_header.proofs.paths.has_empty_piece.Goals as goal
 use Rattle.aig_dump_header.proofs.paths.has_empty_piece.Goals.{then-byte-eq46+else-place-start, else-byte-eq46}

@@ -55,8 +55,8 @@ returns-in_err-make_room-clause-memory g c =
     (λ f e. subst (λ (s : EngineState). HasFourReaders s.pair.circuit (variable c.args.r0)
     ⊎ HasFourReaders s.pair.circuit (variable c.args.r1)) c.self.view_is four)
 
-pub rewire-requires-clause-copy : goal.rewire-requires-clause-copy
-rewire-requires-clause-copy g c =
+pub rewire_with-requires-clause-copy : goal.rewire_with-requires-clause-copy
+rewire_with-requires-clause-copy g c =
     let w = c.self.invariant.work in (w.buckets.levels_are, w.buckets.chained.next_size)
 
 pub set_sides-requires : goal.set_sides-requires
@@ -67,8 +67,8 @@ set_sides-requires g c =
     let le = gate_in_range raw w.driven_is.circuit.sound (variable c.args.lhs) is_gate in
     omega (arith, c.in-Ok.ensures.copy.1, c.in-Ok.ensures.levels.size, c.var.ensures, le)
 
-pub rewire-requires-clause-readers : goal.rewire-requires-clause-readers
-rewire-requires-clause-readers g c =
+pub rewire_with-requires-clause-readers : goal.rewire_with-requires-clause-readers
+rewire_with-requires-clause-readers g c =
     readers_kept c.self.inside.driven.circuit _ _ c.self.invariant.work.readers c.make_room.ensures.kept.lists
 
 pub replace-requires-clause-readers : goal.replace-requires-clause-readers
@@ -82,7 +82,7 @@ invariant_of-self-in-Err g c =
     let w = k.working.work in
     let readers = readers_kept s.driven.circuit _ _ w.readers c.make_room.ensures.kept.lists in
     let fanouts : Fanouts = record {
-      levels = c.rewire.new.self;
+      levels = c.rewire_with.new.self;
       readers = c.make_room.new.self;
       latches = s.fanouts.latches;
     } in
@@ -111,7 +111,7 @@ invariant_of-self-2 g c =
     let e = c.replace_gate.ensures in
     let d = rw (← c.self.view_is) at c.requires.defined in
     let fanouts : Fanouts = record {
-      levels = c.rewire.new.self;
+      levels = c.rewire_with.new.self;
       readers = c.replace.new.self;
       latches = s.fanouts.latches;
     } in
@@ -124,7 +124,7 @@ invariant_of-self-2 g c =
           (laid_out_rewired s.driven new c.args.lhs c.args.r0 c.args.r1 _ _ w.laid_out
           (pair_rewired s.driven new (with_gate raw c.args.lhs c.args.r0 c.args.r1) e refl))
           (rw e c.in-Ok.ensures.levels) (rw e c.replace.ensures)
-          (buckets_renewed s.pending.buckets c.rewire.new.copy c.set_sides.new.self _ _ (variable c.args.lhs) c.args.r0 c.args.r1
+          (buckets_renewed s.pending.buckets c.rewire_with.new.copy c.set_sides.new.self _ _ (variable c.args.lhs) c.args.r0 c.args.r1
           c.in-Ok.ensures.copy.0 c.in-Ok.ensures.rest c.set_sides.ensures c.var.ensures);
       lists = record { readers = lists.readers; here = lists.here; ahead = lists.ahead };
       orders = c.forget.ensures c.replace_gate.new.self;
