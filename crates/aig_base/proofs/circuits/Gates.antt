@@ -145,10 +145,6 @@ free_no_gate raw v free h =
     free (subst (Contains (map variable (definitions raw))) is
     (Contains-map variable (definitions raw) g.lhs (gate_among raw q g at)))
 
-pub level_at : (raw : Raw) (levels : List ℕ) (v m n : ℕ) → AreLevels raw levels → Level raw v m
-    → slice_get levels v ≡ Some n → m ≡ n
-level_at raw levels v m n are level at = same_Some m n (sym (are.each v m level) ∙ at)
-
 -- a variable with a level is not over the greatest
 source_in_range : (raw : Raw) → IsSound raw → {v : ℕ} → IsSource raw v → v ≤ raw.max_var
 source_in_range raw s by.IsSource.constant = omega arith

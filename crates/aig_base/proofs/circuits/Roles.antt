@@ -151,14 +151,6 @@ module _ (raw : Raw) (sound : IsSound raw) where
         cc) in
         rw (e0, found) refl
 
-    pub role_gate : (q : ℕ) (g : Gate) → slice_get raw.gates q ≡ Some g → Contains order (variable g.lhs)
-        → (i : ℕ) × (role raw order (variable g.lhs) ≡ roles.gate i)
-    role_gate q g at has =
-        let (i, stands) = position_of order (variable g.lhs) has in
-        let (j, found) = place_some (λ u. u == variable g.lhs) order i (variable g.lhs) stands
-        (eqb-same (variable g.lhs)) in
-        (j, role_gate_at q j g at found)
-
     -- what is no input, no latch and no gate of the order is constant
     pub role_other : (v : ℕ) → ((p l : ℕ) → slice_get raw.inputs p ≡ Some l → variable l ≡ v → ⊥)
         → ((p : ℕ) (x : Latch) → slice_get raw.latches p ≡ Some x → variable x.lit ≡ v → ⊥)

@@ -1,4 +1,4 @@
--- Lists of gates in place and in memory of their own: what a write to one of them does.
+-- Lists of gates in place and far ones: what a write to one of them does.
 use Rattle.std.proofs.Common.{◌≡◌, ◌≢◌, inl, inr, ℕ, zero, suc, ◌-◌, ◌*◌, ◌<◌, ◌≤◌, max, List, [], ◌∷◌, ◌++◌}
 use Rattle.std.proofs.Common.{length, map, get_or, set, take, replicate, slice_get, Some, refl, sym, ◌∙◌, ap, subst}
 use Rattle.std.proofs.Common.{arith, swap_remove, length-set, length-take}
@@ -7,8 +7,7 @@ use Rattle.std.proofs.lemmas.List.{get_or_default, get_or_push, map-set, set-get
 use Rattle.std.proofs.lemmas.List.{get_or-set_same, get_or-set_other, get_or_append_left, get_or-map, length_push}
 use Rattle.std.proofs.lemmas.List.{length-map}
 use Rattle.std.proofs.lemmas.Option.{slice_get_read, slice_get_within, slice_get-get_or, none-some, same_Some}
-use Rattle.std.specs.Global.{Vec}
-use Rattle.std.specs.Vec.{vec_capacity}
+use Rattle.smallvec.specs.SmallVec.{SmallVec}
 use Rattle.aig_base.specs.declared.readers.gate_lists.Slot.{Slot}
 use Rattle.aig_base.specs.Readers.{GateList}
 use Rattle.aig_base.specs.state.GateLists.{AreSlots, GetsRoom, IsFar, far_list, near_list, position, slot_list}
@@ -232,8 +231,8 @@ module _ (far : List GateList) (slots : List Slot) (v : ℕ) (s : Slot) (l : Gat
   pub far_room : 4 ≤ (get_or far (position s) no_list).capacity
   far_room = are.roomy (position s) (get_or far (position s) no_list) (slice_get-get_or far (position s) no_list place_within)
 
--- the same, by the memory that was written
-module _ (vecs : List (Vec ℕ)) (slots : List Slot) (v p : ℕ) (s : Slot) (d w : Vec ℕ) (at : slice_get slots v ≡ Some s)
+-- the same, by the far list that was written
+module _ (vecs : List (SmallVec ℕ)) (slots : List Slot) (v p : ℕ) (s : Slot) (d w : SmallVec ℕ) (at : slice_get slots v ≡ Some s)
     (count : s.count ≡ 5) (is : p ≡ position s) (read : d ≡ get_or vecs p d) (are : AreSlots (map far_list vecs) slots)
   where
     abbrev far : List GateList
@@ -251,36 +250,36 @@ module _ (vecs : List (Vec ℕ)) (slots : List Slot) (v p : ℕ) (s : Slot) (d w
         list_before far slots v s (far_list w) at count are ∙ ap (λ q. get_or far q no_list) (sym is)
         ∙ get_or-map far_list vecs p d no_list (omega (arith, length-map vecs far_list)) ∙ ap far_list (sym read)
 
-    pub vec_roomy : 4 ≤ vec_capacity d
+    pub vec_roomy : 4 ≤ d.capacity
     vec_roomy = subst (λ (l : GateList). 4 ≤ l.capacity)
         (sym (list_before far slots v s (far_list w) at count are) ∙ list_was)
         (far_room far slots v s (far_list w) at count are)
 
-    pub written_kept : vec_capacity d ≤ vec_capacity w → AreSlots (map far_list (set vecs p w)) slots
+    pub written_kept : d.capacity ≤ w.capacity → AreSlots (map far_list (set vecs p w)) slots
     written_kept more = subst (λ ls. AreSlots ls slots) (sym written)
         (far_kept far slots v s (far_list w) at count are (let room = vec_roomy in omega arith))
 
     pub written_list : map (slot_list (map far_list (set vecs p w))) slots ≡ set view v (far_list w)
     written_list = ap (λ ls. map (slot_list ls) slots) written ∙ far_lists far slots v s (far_list w) at count are
 
-    pub written_with : (f : List ℕ → List ℕ) → w.items ≡ f d.items → vec_capacity w ≡ vec_capacity d
+    pub written_with : (f : List ℕ → List ℕ) → w.items ≡ f d.items → w.capacity ≡ d.capacity
         → map (slot_list (map far_list (set vecs p w))) slots ≡ with_items_at view v (f (items_at view v))
     written_with f items capacity =
         written_list
         ∙ ap (λ l. set view v l)
-        (ap (λ xs. listed xs (vec_capacity w)) items ∙ ap (λ c. listed (f d.items) c) capacity
+        (ap (λ xs. listed xs w.capacity) items ∙ ap (λ c. listed (f d.items) c) capacity
         ∙ ap (λ (l : GateList). listed (f l.items) l.capacity) (sym list_was))
 
-    pub written_room : w.items ≡ d.items → vec_capacity d ≤ vec_capacity w
-        → vec_capacity w ≤ max (vec_capacity d) (2 * length d.items)
+    pub written_room : w.items ≡ d.items → d.capacity ≤ w.capacity
+        → w.capacity ≤ max d.capacity (2 * length d.items)
         → GetsRoom v view (map (slot_list (map far_list (set vecs p w))) slots)
     written_room items more doubled =
         let was_items : items_at view v ≡ d.items = ap (λ (l : GateList). l.items) list_was in
-        let was_capacity : capacity_at view v ≡ vec_capacity d = ap (λ (l : GateList). l.capacity) list_was in
+        let was_capacity : capacity_at view v ≡ d.capacity = ap (λ (l : GateList). l.capacity) list_was in
         let long = ap length was_items in
         record {
-          capacity = vec_capacity w;
-          list = written_list ∙ ap (λ xs. set view v (listed xs (vec_capacity w))) (items ∙ sym was_items);
+          capacity = w.capacity;
+          list = written_list ∙ ap (λ xs. set view v (listed xs w.capacity)) (items ∙ sym was_items);
           more = omega arith;
           doubled = omega arith;
         }

@@ -322,9 +322,6 @@ module _ (raw : Raw) (sound : IsSound raw) (lhs r0 r1 : ℕ) (is_gate : IsLeftSi
   tally_away : (v : ℕ) → v ≢ variable r0 → v ≢ variable r1 → tally new v u ≡ 0
   tally_away v n0 n1 = m.both.away v n0 n1 ∙ gone v
 
-  new_gate : Gate
-  new_gate = record { lhs = g.lhs; rhs0 = r0; rhs1 = r1 }
-
   new_at : slice_get (map (rewired lhs r0 r1) raw.gates) q ≡ Some (record { lhs = g.lhs; rhs0 = r0; rhs1 = r1 })
   new_at = gate_new raw sound lhs r0 r1 is_gate q g at ∙ ap Some (rewired_same lhs r0 r1 g is)
 

@@ -18,9 +18,6 @@ use Rattle.aig_base.proofs.circuits.Gates.{IsGate-of_gate, gate_of, same_gate, s
 use Rattle.aig_base.proofs.circuits.InOrder.{gate_number}
 
 module _ (raw : Raw) where
-  pub first_none : AreFirstLevels raw []
-  first_none = record { each = λ v n lt known. absurd (omega arith); low = λ v lt. absurd (omega arith) }
-
   -- the level of one more variable
   first_more : (levels : List ℕ) (n : ℕ) → ((m : ℕ) → Level raw (length levels) m → n ≡ m) → n ≤ length levels
       → AreFirstLevels raw levels → AreFirstLevels raw (levels ++ n ∷ [])

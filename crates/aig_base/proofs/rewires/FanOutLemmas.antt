@@ -128,18 +128,6 @@ side_level {raw} sound (by.Level.gate k h a b here la lb) q g u at side is =
       | inr e ↦ (b, subst (λ x. Level raw x b) (ap (λ (x : Gate). variable x.rhs1) (sym one) ∙ e) lb, omega arith)
     ]
 
--- what is in the fan-out of t and is not t has a level over that of t
-pub fan_out_over : {raw : Raw} {t v : ℕ} → IsSound raw → (m n : ℕ) → Level raw t m → Level raw v n → IsInFanOut raw t v
-    → (v ≡ t) ⊎ (m < n)
-unfolding Opens
-fan_out_over {raw} {t} {v} sound m n lt lv IsInFanOut.self = inl refl
-fan_out_over {raw} {t} sound m n lt lv (IsInFanOut.reader q g u at side b) =
-    let (k, lu, below) = side_level sound lv q g u at side refl in
-    elim (fan_out_over sound m k lt lu b) [
-      | inl e ↦ inr (let same : k ≡ m = same_level sound (subst (λ x. Level raw x k) e lu) lt in omega arith)
-      | inr over ↦ inr (omega arith)
-    ]
-
 -- where the search up has ended, neither x nor y is in the fan-out of t
 module _ (raw : Raw) (sound : IsSound raw) (t x y bound : ℕ) (met queued : ℕ → Type 0)
     (s : IsSearchUp raw t x y bound met queued)

@@ -26,9 +26,6 @@ pub record Walked (into : PropertySection) (next places name : List ℕ) (old li
   pub listed : list ≡ old ++ map (with_name name) (map (entry_at into) front)
 
 module _ (into : PropertySection) (next places name : List ℕ) (old : List (Key × List ℕ)) where
-  pub walk_start : (at : ℕ) → IsChain next at places → Walked into next places name old old at
-  walk_start at c = record { front = []; left = places; split = refl; chain = c; listed = sym (append-nil old) }
-
   -- one position more
   pub record Step (list : List (Key × List ℕ)) (at : ℕ) : Type 0 where
     pub fresh : Contains (keys_of list) (entry_at into at) → ⊥
@@ -96,9 +93,6 @@ pub record Sorted (from into : PropertySection) (positions : List ℕ) (all list
   pub listed : list ≡ flat_map (kept_symbols from into positions) front
 
 module _ (from into : PropertySection) (positions : List ℕ) (all : List (Key × List ℕ)) where
-  pub sort_start : (list : List (Key × List ℕ)) → list ≡ [] → Sorted from into positions all list all
-  sort_start list none = record { front = []; split = refl; listed = none }
-
   pub sort_fresh : (list rest rest' : List (Key × List ℕ)) (s : Key × List ℕ) → rest ≡ s ∷ rest'
       → AllPairs (λ x y. x ≢ y) (keys_of all) → Sorted from into positions all list rest
       → AllPairs (λ x y. x ≢ y) (keys_of list ++ kept_entries from into positions s.0.0 s.0.1)
@@ -120,9 +114,3 @@ module _ (from into : PropertySection) (positions : List ℕ) (all : List (Key �
         (sym (append-nil (kept_symbols from into positions s)))
         ∙ sym (flat_map-append (kept_symbols from into positions) w.front (s ∷ []));
   }
-
-  pub sort_end : (list rest : List (Key × List ℕ)) → rest ≡ [] → Sorted from into positions all list rest
-      → list ≡ flat_map (kept_symbols from into positions) all
-  sort_end list rest none w =
-      w.listed ∙ ap (flat_map (kept_symbols from into positions))
-      (sym (append-nil w.front) ∙ ap (λ (es : List (Key × List ℕ)). w.front ++ es) (sym none) ∙ sym w.split)

@@ -1,8 +1,7 @@
--- Lists of gates as the code keeps them: short ones in place, and others in memory of their own.
+-- Lists of gates as the code keeps them: short ones in place, and the far ones in a second table.
 use Rattle.std.specs.Prelude.{◌≡◌, ◌≢◌, ℕ, ◌*◌, ◌<◌, ◌≤◌, max, List, length, take, cond, nat_eq, Some}
 use Rattle.std.specs.Prelude.{slice_get, slice_index_or, slice_set}
-use Rattle.std.specs.Global.{Vec}
-use Rattle.std.specs.Vec.{vec_capacity}
+use Rattle.smallvec.specs.SmallVec.{SmallVec}
 use Rattle.aig_base.specs.declared.readers.gate_lists.Slot.{Slot}
 use Rattle.aig_base.specs.Readers.{GateList}
 use Rattle.aig_base.specs.state.ReaderSlots.{capacity_at, items_at, no_list}
@@ -12,11 +11,11 @@ pub record RoomyLists : Type 0 where
   pub slots : List GateList
   pub fitting : ℕ
 
--- the list in memory of its own
-abbrev pub far_list : Vec ℕ → GateList
-far_list v = record { items = v.items; capacity = vec_capacity v }
+-- a far list
+abbrev pub far_list : SmallVec ℕ → GateList
+far_list v = record { items = v.items; capacity = v.capacity }
 
--- where the memory of a slot's list is among those lists
+-- where the list of a slot is among the far lists
 abbrev pub position : Slot → ℕ
 position s = slice_index_or s.gates 0 0
 

@@ -2,7 +2,7 @@
 ghost use Rattle.std.specs.Prelude.{◌≡◌, ℕ, ◌<◌, ◌≤◌, List, length, slice_set};
 ghost use Rattle.aig_parts.specs.Formed.{limit};
 
-/// Something that keeps a copy of a circuit's levels. `Levels::rewire` reports each level that it changes to it.
+/// Something that keeps a copy of a circuit's levels. `Levels::rewire_with` reports each level that it changes to it.
 pub trait LevelCopy {
     /// The copy has these levels.
     ghost has: { Self → List ℕ → Type 0 };
@@ -19,4 +19,18 @@ pub trait LevelCopy {
         requires level { level ≤ limit }
         ensures copy { (levels : List ℕ) → has self.old levels → has self.new (slice_set levels variable level) }
         ensures rest { rest self.new ≡ rest self.old };
+}
+
+/// Keeps no copy of the levels.
+#[derive(Drop)]
+pub(crate) struct NoCopy;
+
+impl LevelCopy for NoCopy {
+    ghost has = { λ c levels. Unit {0} };
+
+    ghost Rest = { Unit {0} };
+
+    ghost rest = { λ c. tt };
+
+    fn set_level(&mut self, _variable: u32, _level: u32) {}
 }

@@ -1,4 +1,5 @@
-//! For each variable a list of gates. Four gates are in place; a list that needs room for more has memory of its own.
+//! For each variable a list of gates. Four gates are in place; a list that needs room for more is in a second table,
+//! among the far lists.
 ghost use Rattle.std.specs.Prelude.{◌≡◌, ◌+◌, ◌*◌, ◌<◌, ◌≤◌, [], ◌∷◌, ◌++◌, max, length, map, replicate, swap_remove};
 ghost use Rattle.std.specs.Prelude.{IfOk, IsTrue, ◌↔◌, OnOk, OnErr};
 ghost use Rattle.std.specs.Vec.{vec_capacity};
@@ -6,13 +7,14 @@ ghost use Rattle.aig_base.specs.state.GateLists.{GetsRoom, far_list, near_list, 
 ghost use Rattle.aig_base.specs.state.ReaderSlots.{FitsOneReader, items_at, with_items_at};
 
 use aig_bytes::Memory;
+use smallvec::SmallVec;
 use std::alloc::Global;
 use std::marker::Model;
 
 /// How many gates a list has in place.
 const NEAR: usize = 4;
 
-/// In place of a count: the list has memory of its own.
+/// In place of a count: the list is far.
 const FAR: u32 = 5;
 
 /// The list of a variable, or where it is.
@@ -25,7 +27,7 @@ pub(crate) struct Slot {
 }
 
 impl Slot {
-    // Whether the list has memory of its own.
+    // Whether the list is far.
     fn is_far(&self) -> bool
         ensures far { IsTrue result ↔ (self.now.count ≡ 5) }
         ensures places { length self.now.gates ≡ 4 }
@@ -74,7 +76,8 @@ impl Slot {
 #[derive(Drop)]
 pub(crate) struct GateLists {
     slots: Vec<Slot>,
-    far: Vec<Vec<u32>>,
+    // Of five to eight gates they take no memory of their own.
+    far: Vec<SmallVec<u32, 8>>,
 }
 
 impl Model for GateLists {
@@ -93,12 +96,12 @@ impl Model for GateLists {
 }
 
 // Makes room for one more in a list, which doubles if it is full.
-fn double_full(list: &mut Vec<u32>) -> Result<(), Memory>
-    requires { 4 ≤ vec_capacity list.old }
+fn double_full(list: &mut SmallVec<u32, 8>) -> Result<(), Memory>
+    requires { 4 ≤ list.old.capacity }
     ensures items { list.new.items ≡ list.old.items }
-    ensures ok { OnOk result (length list.new.items < vec_capacity list.new) }
-    ensures capacity { vec_capacity list.old ≤ vec_capacity list.new }
-    ensures doubled { vec_capacity list.new ≤ max (vec_capacity list.old) (2 * length list.old.items) }
+    ensures ok { OnOk result (length list.new.items < list.new.capacity) }
+    ensures capacity { list.old.capacity ≤ list.new.capacity }
+    ensures doubled { list.new.capacity ≤ max (list.old.capacity) (2 * length list.old.items) }
     ensures refused { OnErr result (4 ≤ length list.old.items) }
 {
     let len = list.len();
@@ -110,20 +113,16 @@ fn double_full(list: &mut Vec<u32>) -> Result<(), Memory>
 }
 
 // A list of these gates, with room for as many again.
-fn far_copy(alloc: Global, gates: &[u32]) -> Result<Vec<u32>, Memory>
+fn far_copy(alloc: Global, gates: &[u32]) -> Result<SmallVec<u32, 8>, Memory>
     requires { length gates.now ≡ 4 }
     ensures items { IfOk result (λ list. list.items ≡ gates.now) }
-    ensures capacity { IfOk result (λ list. vec_capacity list ≡ 8) }
+    ensures capacity { IfOk result (λ list. list.capacity ≡ 8) }
 {
-    let mut list = Vec::with_capacity(alloc, 2 * NEAR)?;
-    for gate in gates {
-        list.push_reserved(*gate);
-    }
-    Ok(list)
+    Ok(SmallVec::from_slice(alloc, gates)?)
 }
 
 // Keeps these gates as one more far list, and returns its slot.
-fn keep_far(alloc: Global, gates: &[u32], far: &mut Vec<Vec<u32>>) -> Result<Slot, Memory>
+fn keep_far(alloc: Global, gates: &[u32], far: &mut Vec<SmallVec<u32, 8>>) -> Result<Slot, Memory>
     requires { length gates.now ≡ 4 }
     ensures slot { IfOk result (λ slot. (slot.count ≡ 5) × (position slot ≡ length far.old.items)) }
     ensures far { OnOk result (map far_list far.new.items

@@ -39,7 +39,7 @@ impl<G: Grid> Engine<G> {
         fanouts.readers.make_room(r0, r1)?;
         match fanouts
             .levels
-            .rewire(circuit, &fanouts.readers, lhs, r0, r1, buckets)
+            .rewire_with(circuit, &fanouts.readers, lhs, r0, r1, buckets)
         {
             Ok(()) => {}
             Err(_) => return Err(EditFault::Cycle),

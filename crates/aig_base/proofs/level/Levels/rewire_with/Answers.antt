@@ -4,7 +4,7 @@ use Rattle.aig_base.specs.Sections.{IsGate}
 use Rattle.aig_base.proofs.rewires.FanOutLemmas.{acyclic_from_before, cycle_from_fan_out}
 use Rattle.aig_base.proofs.circuits.Gates.{IsGate-of_gate}
 use Rattle.aig_base.proofs.checks.Walks.{the_gate}
-use Rattle.aig_base.proofs.level.Levels.rewire.Goals as goal
+use Rattle.aig_base.proofs.level.Levels.rewire_with.Goals as goal
 
 pub is_in_fan_out-requires-clause-gate : goal.is_in_fan_out-requires-clause-gate
 is_in_fan_out-requires-clause-gate g c =
