@@ -157,23 +157,25 @@ ok_of P (Ok value) (Err e) is p = tt
 ok_of P (Err fault) (Err e) is p = tt
 
 -- a good end of a check is that of a confirmed witness
-pub confirmed_file : (trace : Bool) (file text : List ℕ) (answer : Result Verdict RunFault) (r : Result (Unit {0}) Exit)
-    → Answers (OfFile file (ChecksWitness trace text)) answer → r ≡ end_of_verdict answer → OnOk r (AreConfirmed file text)
-confirmed_file trace file text answer (Err e) a is = tt
-confirmed_file trace file text (Err fault) (Ok done) a is = cc
-confirmed_file trace file text (Ok (Initial latch)) (Ok done) a is = cc
-confirmed_file trace file text (Ok (Constraint frame constraint)) (Ok done) a is = cc
-confirmed_file trace file text (Ok NotBad) (Ok done) a is = cc
-confirmed_file true file text (Ok Confirmed) (Ok done) (writes bytes (raw, is_file, means)) is = (raw, is_file, means.0)
-confirmed_file false file text (Ok Confirmed) (Ok done) (writes bytes (raw, is_file, means)) is = (raw, is_file, means.0)
+pub confirmed_file : (trace : Bool) (asked : Option ℕ) (file text : List ℕ) (answer : Result Verdict RunFault)
+    (r : Result (Unit {0}) Exit) → Answers (OfFile file (ChecksWitness trace asked text)) answer → r ≡ end_of_verdict answer
+    → OnOk r (AreConfirmed asked file text)
+confirmed_file trace asked file text answer (Err e) a is = tt
+confirmed_file trace asked file text (Err fault) (Ok done) a is = cc
+confirmed_file trace asked file text (Ok (Initial latch)) (Ok done) a is = cc
+confirmed_file trace asked file text (Ok (Constraint frame constraint)) (Ok done) a is = cc
+confirmed_file trace asked file text (Ok NotBad) (Ok done) a is = cc
+confirmed_file true None file text (Ok Confirmed) (Ok done) (writes bytes (raw, is_file, means)) is =
+    (raw, is_file, means.0, tt)
+confirmed_file false None file text (Ok Confirmed) (Ok done) (writes bytes (raw, is_file, means)) is =
+    (raw, is_file, means.0, tt)
+confirmed_file true (Some property) file text (Ok Confirmed) (Ok done) (writes bytes (raw, is_file, (of, means))) is =
+    (raw, is_file, means.0, of)
+confirmed_file false (Some property) file text (Ok Confirmed) (Ok done) (writes bytes (raw, is_file, (of, means))) is =
+    (raw, is_file, means.0, of)
 
 -- what holds of a good end, of bytes that were read
 pub ok_whole : (r : Result (Unit {0}) Exit) (left : Option (List ℕ)) (bytes : List ℕ) → IfSome left (λ xs. bytes ≡ xs)
     → (Q : List ℕ → Type 0) → OnOk r (Q bytes) → OnOk r (IfSome left Q)
 ok_whole (Ok done) left bytes whole Q q = of_whole left bytes whole Q q
 ok_whole (Err e) left bytes whole Q q = tt
-
--- what holds anyway holds of a good end
-pub any_end : (P : Type 0) (r : Result (Unit {0}) Exit) → P → OnOk r P
-any_end P (Ok done) p = p
-any_end P (Err e) p = tt

@@ -62,7 +62,8 @@ HoldsSpan matches span = HoldsNumber matches (codes "T") span.frame × HoldsNumb
 abbrev pub HoldsOptions : {F : Type 0} → ArgMatches → Command (Source F) → Type 0
 HoldsOptions matches (commands.Unroll frames to circuit) = HoldsNumber matches (codes "K") (Some frames)
 HoldsOptions matches (commands.UnrollAndMap frames to circuit opened map) = HoldsNumber matches (codes "K") (Some frames)
-HoldsOptions matches (commands.Check with_trace circuit witness) = HoldsFlag matches (codes "trace") with_trace
+HoldsOptions matches (commands.Check with_trace property circuit witness) =
+    HoldsFlag matches (codes "trace") with_trace × HoldsReached matches circuit property
 HoldsOptions matches (commands.Cnf query circuit) = HoldsQuery matches circuit query
 HoldsOptions matches (commands.CnfAlive frames circuit) = HoldsNumber matches (codes "K") (Some frames)
 HoldsOptions matches (commands.Witness property circuit stimulus) = HoldsReached matches circuit property

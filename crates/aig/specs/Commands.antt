@@ -48,9 +48,9 @@ EndsAsMeant left (commands.Unroll frames to circuit) result =
     IfSome (left circuit) (λ file. Ends end_of (OfFile file (UnrollsKept frames to)) result)
 EndsAsMeant left (commands.UnrollAndMap frames to circuit opened map) result =
     OnOk result (IfSome (left circuit) (λ file. GoesWell (OfFile file (UnrollsKept frames to))))
-EndsAsMeant left (commands.Check with_trace circuit witness) result =
+EndsAsMeant left (commands.Check with_trace property circuit witness) result =
     IfSome (left circuit) (λ file. IfSome (left witness) (λ text.
-    Ends end_of_verdict (OfFile file (ChecksWitness with_trace text)) result))
+    Ends end_of_verdict (OfFile file (ChecksWitness with_trace property text)) result))
 EndsAsMeant left (commands.Cnf query circuit) result =
     IfSome (left circuit) (λ file. Ends end_of (OfFile file (WritesFormula query)) result)
 EndsAsMeant left (commands.CnfAlive frames circuit) result =

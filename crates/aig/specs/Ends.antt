@@ -1,9 +1,10 @@
 -- How the program takes a command's answer. Standard output is the system's: no clause says which bytes reach it.
 -- Examples: `bench` with a faulty stimulus ends with the stimulus's fault; `not bad` ends as `NotConfirmed`.
-use Rattle.std.specs.Prelude.{◌≡◌, ◌⊎◌, ℕ, List, Bool, true, false, Result, Ok, Err}
+use Rattle.std.specs.Prelude.{◌≡◌, ◌⊎◌, ℕ, List, Bool, true, false, Option, Result, Ok, Err, IfSome}
 use Rattle.aig_parts.specs.declared.raw.Raw.{Raw}
 use Rattle.aig_sim.specs.declared.witness.verdict.Verdict.{Verdict}
 use Rattle.aig_sim.specs.declared.witness.verdict.Verdict.TheVariants.{Initial, Constraint, NotBad, Confirmed}
+use Rattle.aig_sim.specs.WitnessText.{IsWitnessOf}
 use Rattle.aig_base.specs.declared.select.PropertySection.{PropertySection}
 use Rattle.aig_format.specs.declared.reader.header.Format.{Format}
 use Rattle.aig_run.specs.Command.{IsFileOf, OfCircuit, Text}
@@ -12,7 +13,7 @@ use Rattle.aig_run.specs.declared.run_fault.RunFault.TheVariants as run_faults
 use Rattle.aig_files.specs.declared.exit.Exit.{Exit}
 use Rattle.aig_files.specs.declared.exit.Exit.TheVariants as exits
 use Rattle.aig_terminal.specs.declared.part.Part.{Part}
-use Rattle.aig_commands.specs.Check.{Checks, ChecksAndTraces, ShowsVerdict}
+use Rattle.aig_commands.specs.Check.{Checks, ChecksAndTraces, OfProperty, ShowsVerdict}
 use Rattle.aig_commands.specs.Select.{SelectsNamed}
 use Rattle.aig_commands.specs.declared.select.NamedSelection.{NamedSelection}
 
@@ -56,9 +57,12 @@ pub data Ends {T : Type 0} (end : Result T RunFault → Result (Unit {0}) Exit)
   as_meant : (answer : Result T RunFault) → Answers Means answer → result ≡ end answer → Ends end Means result
   unread : (exit : Exit) → result ≡ Err exit → IsUnread exit → Ends end Means result
 
--- the files are a circuit and a witness of it whose verdict is `confirmed`
-abbrev pub AreConfirmed : List ℕ → List ℕ → Type 0
-AreConfirmed file text = (raw : Raw) × IsFileOf file raw × ShowsVerdict raw text Confirmed
+-- the files are a circuit and a witness of it whose verdict is `confirmed`, and which is one of the property that is
+-- asked for, if one is
+abbrev pub AreConfirmed : Option ℕ → List ℕ → List ℕ → Type 0
+AreConfirmed asked file text =
+    (raw : Raw) × IsFileOf file raw × ShowsVerdict raw text Confirmed
+    × IfSome asked (λ property. IsWitnessOf property raw text)
 
 -- `select --names` ends as it means for these positions and the text of names
 abbrev pub EndsSelectingNamed : PropertySection → PropertySection → List ℕ → List ℕ → Format → Result (Unit {0}) Exit
@@ -68,7 +72,7 @@ EndsSelectingNamed from into positions text to result =
     × (s.positions.now ≡ positions)
     × (s.names.now ≡ text) × OfCircuit (SelectsNamed s to) answer bytes) result
 
--- what `check` means, with `--trace` or without
-abbrev pub ChecksWitness : Bool → List ℕ → Raw → Result Verdict RunFault → List ℕ → Type 0
-ChecksWitness true text = ChecksAndTraces text
-ChecksWitness false text = Checks text
+-- what `check` means, with `--trace` or without, for the property that is asked for, if one is
+abbrev pub ChecksWitness : Bool → Option ℕ → List ℕ → Raw → Result Verdict RunFault → List ℕ → Type 0
+ChecksWitness true asked text = OfProperty asked ChecksAndTraces text
+ChecksWitness false asked text = OfProperty asked Checks text

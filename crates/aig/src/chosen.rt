@@ -173,10 +173,11 @@ fn open_check<'m, 't, R: Files + AllocGlobal + Clock + Eprint>(
 ) -> Result<Command<'m, Source<Tracked<'t, R, R::File>>>, Exit>
     ensures options { IfOk result (HoldsOptions matches.now) }
 {
-    let circuit = open_circuit(terminal, matches)?;
+    let (circuit, property) = open_circuit_and_reached(terminal, matches)?;
     let witness = open_named(terminal, matches, "WITNESS", Part::Witness)?;
     Ok(Command::Check {
         with_trace: has_flag(matches, "trace"),
+        property,
         circuit,
         witness,
     })

@@ -80,9 +80,10 @@ pub enum Command<'a, F> {
         file: Metadata,
         map: &'a str,
     },
-    /// `check`: the verdict on a witness, with `--trace` after its run.
+    /// `check`: the verdict on a witness, of a property if one is asked for; with `--trace` after its run.
     Check {
         with_trace: bool,
+        property: Option<u32>,
         circuit: F,
         witness: F,
     },
@@ -234,9 +235,10 @@ impl<F: Read + Drop> Command<'_, F> {
             } => unroll_and_map(terminal, frames, to, circuit, &file, map),
             Command::Check {
                 with_trace,
+                property,
                 circuit,
                 witness,
-            } => check(terminal, with_trace, circuit, witness),
+            } => check(terminal, with_trace, property, circuit, witness),
             Command::Cnf { query, circuit } => cnf(terminal, query, circuit),
             Command::CnfAlive { frames, circuit } => cnf_alive(terminal, frames, circuit),
             Command::Info { circuit } => info(terminal, circuit),

@@ -48,7 +48,7 @@ impl<'a, F: io::Write + OpenFile + AsFd + Drop> BenchFiles<'a, F> {
 
     fn create<R: Files<File = F>>(&mut self, rt: &R) -> Result<(), Unwritten> {
         self.place = 1;
-        if self.circuit.is_same(&self.stimulus) {
+        if self.circuit.is_same(rt, &self.stimulus) {
             return Err(Unwritten::Twice);
         }
         self.place = 0;
@@ -121,7 +121,10 @@ fn find_at<'a, R: Files + AllocGlobal>(
     rt: &R,
     name: Option<&'a str>,
     place: usize,
-) -> Result<OutputFile<'a, R::File>, Failure> {
+) -> Result<OutputFile<'a, R::File>, Failure>
+where
+    R::File: AsFd,
+{
     match find(rt, name) {
         Ok(file) => Ok(file),
         Err(why) => Err(Failure { place, why }),

@@ -13,38 +13,41 @@ use aig_run::RunFault;
 use aig_sim::Verdict;
 use std::io::Read;
 
-/// Writes the verdict on a witness, and before it the trace of its run if `with_trace`.
+/// Writes the verdict on a witness, and before it the trace of its run if `with_trace`. If a property is asked for, a
+/// witness of another one is rejected.
 pub fn check<R: AllocGlobal + Print, F: Read + Drop>(
     rt: &R,
     with_trace: bool,
+    property: Option<u32>,
     circuit: F,
     witness: F,
 ) -> Result<(), Exit>
     ensures confirmed { OnOk result
-        (IfSome (F.remaining circuit) (λ file. IfSome (F.remaining witness) (AreConfirmed file))) }
+        (IfSome (F.remaining circuit) (λ file. IfSome (F.remaining witness) (AreConfirmed property file))) }
     ensures ends { IfSome (F.remaining circuit) (λ file. IfSome (F.remaining witness) (λ text.
-        Ends end_of_verdict (OfFile file (ChecksWitness with_trace text)) result)) }
+        Ends end_of_verdict (OfFile file (ChecksWitness with_trace property text)) result)) }
 {
     let circuit = read_whole(rt.alloc(), circuit, Part::Circuit)?;
     let witness = read_whole(rt.alloc(), witness, Part::Witness)?;
     let file = circuit.as_slice();
     let text = witness.as_slice();
-    confirmed(write_verdict(rt, with_trace, file, text))
+    confirmed(write_verdict(rt, with_trace, property, file, text))
 }
 
 fn write_verdict<R: AllocGlobal + Print>(
     rt: &R,
     with_trace: bool,
+    property: Option<u32>,
     circuit: &[u8],
     witness: &[u8],
 ) -> Result<Verdict, RunFault>
-    ensures { Answers (OfFile circuit.now (ChecksWitness with_trace witness.now)) result }
+    ensures { Answers (OfFile circuit.now (ChecksWitness with_trace property witness.now)) result }
 {
     let mut out = output(rt);
     if with_trace {
-        check::check_and_trace(rt.alloc(), circuit, witness, &mut out)
+        check::check_and_trace(rt.alloc(), circuit, witness, property, &mut out)
     } else {
-        check::check(rt.alloc(), circuit, witness, &mut out)
+        check::check(rt.alloc(), circuit, witness, property, &mut out)
     }
 }
 

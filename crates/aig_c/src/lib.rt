@@ -7,6 +7,7 @@ mod circuits;
 mod formulas;
 mod refutations;
 mod runs;
+mod version;
 
 pub use circuits::{aig_info, aig_names, aig_strengthen, aig_toaig, aig_unroll};
 pub use formulas::{
@@ -14,3 +15,4 @@ pub use formulas::{
 };
 pub use refutations::{aig_refute, aig_refute_alive, aig_refute_certified, aig_refute_step};
 pub use runs::{aig_bench, aig_check, aig_reduce, aig_wave_witness, aig_witness};
+pub use version::aig_version;

@@ -196,6 +196,13 @@ pub const REACHED: Argument = Argument {
     need: Need::Never,
 };
 
+pub const CHECKED: Argument = Argument {
+    name: "P",
+    help: "Bad state property that the witness has to be of, by\nits position, counted from 0 (3 or b3), or by its\nname (default: any)",
+    kind: Kind::Worded("property"),
+    need: Need::Never,
+};
+
 pub const PROPERTIES: Argument = Argument {
     name: "P",
     help: "Property to keep, by its position, counted from 0\n(3 or b3), or by its name; once for each property\n(default: all)",

@@ -161,6 +161,9 @@ The exit status is 0 for confirmed, and 1 for any other verdict.
 With --trace, check prints the run before the verdict, one line per frame as sim
 does, whatever the verdict is.
 
+With --property, check accepts only a witness of this property, and rejects any
+other with status 1: confirmed then says that property P is reached.
+
 A witness has the line 1, a line b with a position (such as b0), a line with the
 latch values, a line with the input values for each frame, and a last line with
 a dot.

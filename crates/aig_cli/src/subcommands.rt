@@ -108,7 +108,12 @@ static WITNESSES: [Subcommand; 4] = [
         about: "Check that a witness reaches a bad state, and print the verdict",
         help: help::CHECK,
         choice: None,
-        arguments: &[arguments::TRACE, arguments::CIRCUIT, arguments::WITNESS],
+        arguments: &[
+            arguments::TRACE,
+            arguments::CHECKED,
+            arguments::CIRCUIT,
+            arguments::WITNESS,
+        ],
     },
     Subcommand {
         name: "witness",

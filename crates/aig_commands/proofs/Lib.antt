@@ -1,3 +1,4 @@
+pub mod Asked
 pub mod BenchEnds
 pub mod Benches
 pub mod Certificates

@@ -1,13 +1,14 @@
 -- What `check` answers and writes. How a verdict is written is our own choice.
--- Example: `aag 1 1 0 0 0 1/2/2/` and `1/b0//1/./`: `confirmed/`, with its trace ` 1  /confirmed/`.
-use Rattle.std.specs.Prelude.{◌≡◌, ℕ, List, [], ◌++◌, Result, Ok, Err, codes}
+-- Examples: `aag 1 1 0 0 0 1/2/2/` and `1/b0//1/./`: `confirmed/`, with its trace ` 1  /confirmed/`; for property 1 this
+-- witness is refused, as it is one of property 0.
+use Rattle.std.specs.Prelude.{◌≡◌, ◌≢◌, ℕ, List, [], ◌++◌, Option, None, Some, Result, Ok, Err, codes}
 use Rattle.std.specs.Fmt.{decimal}
 use Rattle.aig_parts.specs.declared.raw.Raw.{Raw}
 use Rattle.aig_sim.specs.declared.witness.verdict.Verdict.{Verdict}
 use Rattle.aig_sim.specs.declared.witness.verdict.Verdict.TheVariants.{Initial, Constraint, NotBad, Confirmed}
 use Rattle.aig_sim.specs.Replayed.{ReportsRun}
 use Rattle.aig_sim.specs.Verdict.{IsVerdict, IsConfirmed}
-use Rattle.aig_sim.specs.WitnessText.{Witness, SpellsWitness, IsAdmitted, HasWitnessFault}
+use Rattle.aig_sim.specs.WitnessText.{Witness, SpellsWitness, IsAdmitted, IsWitnessOf, HasWitnessFault}
 use Rattle.aig_values.specs.Trace.{IsTrace}
 use Rattle.aig_run.specs.declared.run_fault.RunFault.{RunFault}
 use Rattle.aig_run.specs.declared.run_fault.RunFault.TheVariants as run_faults
@@ -46,3 +47,15 @@ ChecksAndTraces text raw (Ok verdict) written =
     × ((trace : List ℕ) × ReportsRun (λ raw start rows reported. IsTrace raw start rows reported) raw text trace
     × (written ≡ trace ++ verdict_text verdict))
 ChecksAndTraces text raw (Err fault) written = RefusesWitness text raw fault written
+
+-- What a command on a witness answers and writes that may be asked for a property: of a witness of that property what
+-- `Means` says, and no other is accepted. If it is asked for none, of each witness what `Means` says.
+abbrev pub OfProperty : Option ℕ → (List ℕ → Raw → Result Verdict RunFault → List ℕ → Type 0) → List ℕ → Raw
+    → Result Verdict RunFault → List ℕ
+    → Type 0
+OfProperty None Means text raw answer written = Means text raw answer written
+OfProperty (Some asked) Means text raw (Ok verdict) written =
+    IsWitnessOf asked raw text × Means text raw (Ok verdict) written
+OfProperty (Some asked) Means text raw (Err (run_faults.OtherProperty found other)) written =
+    (other ≡ asked) × (found ≢ asked) × IsWitnessOf found raw text × (written ≡ [])
+OfProperty (Some asked) Means text raw (Err fault) written = Means text raw (Err fault) written

@@ -1,5 +1,6 @@
 -- What proofs alone need. No contract of an exported function reaches it.
 pub mod Answered
+pub mod Asked
 pub mod Extended
 pub mod NamedSelections
 pub mod Parts

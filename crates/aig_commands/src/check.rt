@@ -1,15 +1,17 @@
 //! `check`: the verdict on a witness.
-ghost use Rattle.std.specs.Prelude.{◌≡◌, ◌≢◌, ℕ, ◌+◌, ◌≤◌, Err, IfErr};
+ghost use Rattle.std.specs.Prelude.{◌≡◌, ◌≢◌, ℕ, ◌+◌, ◌≤◌, Err, IfErr, IfSome, OnOk};
 ghost use Rattle.aig_bytes.specs.Bytes.{Writes};
 ghost use Rattle.aig_bytes.specs.Flow.{flow};
 ghost use Rattle.aig_run.specs.Command.{OfFile};
 ghost use Rattle.aig_run.specs.Command.{CommandEnds};
 ghost use Rattle.aig_commands.specs.GoesWell.{GoesWell};
-ghost use Rattle.aig_commands.specs.Check.{verdict_text, Checks, ChecksAndTraces};
+ghost use Rattle.aig_commands.specs.Check.{verdict_text, Checks, ChecksAndTraces, OfProperty};
+ghost use Rattle.aig_commands.specs.state.Asked.{RefusesAsked};
+ghost use Rattle.aig_sim.specs.WitnessText.{IsWitnessOf};
 
 use aig_base::{Circuit, Io, Write, write_all, write_number};
 use aig_run::{RunFault, flushed, read_circuit};
-use aig_sim::{ReplayFault, Verdict, check_witness, trace_witness};
+use aig_sim::{ReplayFault, Verdict, check_witness, trace_witness, witness_property};
 use std::alloc::Global;
 
 /// Writes the line of a latch that starts at a wrong value.
@@ -64,6 +66,41 @@ fn check_circuit<W: Write>(
     }
 }
 
+/// Rejects a witness of another property than the one that is asked for, if one is.
+fn refuse_other(circuit: &Circuit, witness: &[u8], asked: Option<u32>) -> Result<(), RunFault>
+    ensures ok { OnOk result (IfSome asked (λ property. IsWitnessOf property circuit.now witness.now)) }
+    ensures fault { IfErr result (RefusesAsked asked circuit.now witness.now) }
+{
+    let Some(asked) = asked else {
+        return Ok(());
+    };
+    let found = witness_property(circuit, witness)?;
+    if found != asked {
+        return Err(RunFault::OtherProperty { found, asked });
+    }
+    Ok(())
+}
+
+/// Checks a witness of the property that is asked for against the circuit of a file, as `check_bytes` does.
+fn check_file<W: Write>(
+    alloc: Global,
+    circuit: &[u8],
+    witness: &[u8],
+    property: Option<u32>,
+    out: &mut W,
+) -> Result<Verdict, RunFault>
+    ensures ends { CommandEnds (flow W.written W.failures out.old out.new) RunFault.Output
+        (OfFile circuit.now (OfProperty property Checks witness.now)) result }
+    ensures count { W.failures out.new ≤ W.failures out.old + 1 }
+    ensures refused { IfErr result (λ fault. fault ≢ RunFault.Output → out.new ≡ out.old) }
+    ensures output { result ≡ Err RunFault.Output →
+        GoesWell (OfFile circuit.now (OfProperty property Checks witness.now)) }
+{
+    let circuit = read_circuit(alloc, circuit)?;
+    refuse_other(&circuit, witness, property)?;
+    check_circuit(alloc, &circuit, witness, out)
+}
+
 /// Checks a witness against the circuit of a file (AIGER 1.9, witnesses). It writes the verdict's line (`confirmed`,
 /// `initial P`, `constraint T P` or `not bad`) and answers the verdict, for every circuit file that is accepted and
 /// every witness for it. A circuit that is refused wins over the witness; at a refusal nothing is written. A failed
@@ -80,22 +117,23 @@ pub fn check_bytes<W: Write>(
     ensures refused { IfErr result (λ fault. fault ≢ RunFault.Output → out.new ≡ out.old) }
     ensures output { result ≡ Err RunFault.Output → GoesWell (OfFile circuit.now (Checks witness.now)) }
 {
-    let circuit = read_circuit(alloc, circuit)?;
-    check_circuit(alloc, &circuit, witness, out)
+    check_file(alloc, circuit, witness, None, out)
 }
 
-/// The command `check`: checks as `check_bytes` does, and flushes the writer before it answers.
+/// The command `check`: checks as `check_bytes` does, and flushes the writer before it returns. If a property is asked
+/// for, it rejects a witness of another property: after the faults of the text, and before it runs the circuit.
 pub fn check<W: Write>(
     alloc: Global,
     circuit: &[u8],
     witness: &[u8],
+    property: Option<u32>,
     out: &mut W,
 ) -> Result<Verdict, RunFault>
     ensures ends { CommandEnds (flow W.written W.failures out.old out.new) RunFault.Output
-        (OfFile circuit.now (Checks witness.now)) result }
+        (OfFile circuit.now (OfProperty property Checks witness.now)) result }
     ensures flushed { W.failures out.new ≡ W.failures out.old → W.is_flushed out.new }
 {
-    let done = check_bytes(alloc, circuit, witness, out);
+    let done = check_file(alloc, circuit, witness, property, out);
     flushed(done, out, RunFault::Output)
 }
 
@@ -126,12 +164,14 @@ fn check_and_write_run<W: Write>(
     alloc: Global,
     circuit: &[u8],
     witness: &[u8],
+    property: Option<u32>,
     out: &mut W,
 ) -> Result<Verdict, RunFault>
     ensures { CommandEnds (flow W.written W.failures out.old out.new) RunFault.Output
-        (OfFile circuit.now (ChecksAndTraces witness.now)) result }
+        (OfFile circuit.now (OfProperty property ChecksAndTraces witness.now)) result }
 {
     let circuit = read_circuit(alloc, circuit)?;
+    refuse_other(&circuit, witness, property)?;
     write_run(alloc, &circuit, witness, out)
 }
 
@@ -141,12 +181,13 @@ pub fn check_and_trace<W: Write>(
     alloc: Global,
     circuit: &[u8],
     witness: &[u8],
+    property: Option<u32>,
     out: &mut W,
 ) -> Result<Verdict, RunFault>
     ensures ends { CommandEnds (flow W.written W.failures out.old out.new) RunFault.Output
-        (OfFile circuit.now (ChecksAndTraces witness.now)) result }
+        (OfFile circuit.now (OfProperty property ChecksAndTraces witness.now)) result }
     ensures flushed { W.failures out.new ≡ W.failures out.old → W.is_flushed out.new }
 {
-    let done = check_and_write_run(alloc, circuit, witness, out);
+    let done = check_and_write_run(alloc, circuit, witness, property, out);
     flushed(done, out, RunFault::Output)
 }

@@ -23,6 +23,9 @@ pub enum RunFault {
     Stimulus(StimFault),
     #[error("witness: {0}")]
     Witness(WitnessFault),
+    /// A witness of one property that is checked for another.
+    #[error("witness: of b{found}, not b{asked}")]
+    OtherProperty { found: u32, asked: u32 },
     #[error("bench: {0}")]
     Bench(BenchFault),
     #[error("script: {0}")]
@@ -91,6 +94,7 @@ impl RunFault {
             RunFault::Circuit(_)
             | RunFault::Stimulus(_)
             | RunFault::Witness(_)
+            | RunFault::OtherProperty { .. }
             | RunFault::Bench(_)
             | RunFault::Unroll(_)
             | RunFault::Cnf(_)

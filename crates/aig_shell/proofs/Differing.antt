@@ -216,18 +216,10 @@ pub end_less : (first given : ℕ) (least least' : Option ℕ) (end end' t : ℕ
 end_less first given least least' end end' t e f range h =
     end_same first given (Some t) least' t end' e f (refl, range.0, omega (arith, range.1, end_within first given least end h))
 
-pub end_range : (first given : ℕ) (least : Option ℕ) (end : ℕ) → IsEndSoFar first given least end
-    → IfSome least (λ t. (first ≤ t) × (t < given))
-end_range first given None end h = tt
-end_range first given (Some t) end h = (h.1, h.2)
-
 module _ (now was : CircuitAndRows) (first given : ℕ) (items : List Signal) where
   abbrev pub IsLeast : ℕ → Option ℕ → Type 0
   IsLeast i None = AreAllSame now was (take i items) first given
   IsLeast i (Some t) = OneDiffers now was (take i items) t 1
-
-  pub least_begin : IsLeast 0 None
-  least_begin signal there = absurd (none_there signal there)
 
   -- a signal that is the same
   pub least_same : (i : ℕ) (signal : Signal) (least : Option ℕ) (end : ℕ) → i < length items → signal ≡ get_or items i signal

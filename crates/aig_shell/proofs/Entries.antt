@@ -15,9 +15,6 @@ use Rattle.aig_signals.specs.Names.{literals_of}
 use Rattle.aig_shell.specs.Session.{HasSameEntries}
 use Rattle.aig_shell.specs.State.{Leads}
 
-pub own_entries : (raw : Raw) → HasSameEntries raw raw
-own_entries raw = record { outputs = refl; others = λ kind other. refl }
-
 -- gates are no entries
 of_gates : (raw : Raw) (m : ℕ) (gates : List Gate) (kind : Kind)
     → literals_of raw kind ≡ literals_of (record raw { max_var = m; gates = gates }) kind

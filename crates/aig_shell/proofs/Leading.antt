@@ -20,27 +20,9 @@ pub leads_end : (p q : CircuitAndRows) → q ≡ p → Leads p [] q
 unfolding Leads
 leads_end p q e = e
 
-pub leads_nothing : (p q : CircuitAndRows) → Leads p [] q → q ≡ p
-unfolding Leads
-leads_nothing p q e = e
-
--- one edit first
-pub leads_more : (p mid q : CircuitAndRows) (e : Edit) (more : List Edit) → NoneApplies (Forbids p e) → mid ≡ edited p e
-    → Leads mid more q → Leads p (e ∷ more) q
-unfolding Leads
-leads_more p mid q e more none is h = (none, subst (λ m. Leads m more q) is h)
-
 pub leads_one : (p q : CircuitAndRows) (e : Edit) → NoneApplies (Forbids p e) → q ≡ edited p e → Leads p (e ∷ []) q
 unfolding Leads
 leads_one p q e none is = (none, is)
-
-pub leads_first : (p q : CircuitAndRows) (e : Edit) (more : List Edit) → Leads p (e ∷ more) q → NoneApplies (Forbids p e)
-unfolding Leads
-leads_first p q e more h = h.0
-
-pub leads_rest : (p q : CircuitAndRows) (e : Edit) (more : List Edit) → Leads p (e ∷ more) q → Leads (edited p e) more q
-unfolding Leads
-leads_rest p q e more h = h.1
 
 -- edits after edits
 pub leads_append : (xs : List Edit) (p mid q : CircuitAndRows) (ys : List Edit) → Leads p xs mid → Leads mid ys q → Leads p (xs ++ ys) q
@@ -167,9 +149,6 @@ pub rows_more : (all rows new : List (List Tern)) (row : List Tern) (n : ℕ) �
 rows_more all rows new row n is now =
     now ∙ ap (λ (xs : List (List Tern)). xs ++ row ∷ []) is ∙ append_assoc all (replicate n row) (row ∷ [])
     ∙ ap (λ (xs : List (List Tern)). all ++ xs) (replicate_more n row)
-
-pub rows_size : (all rows : List (List Tern)) (row : List Tern) (n : ℕ) → rows ≡ all ++ replicate n row → length rows ≡ length all + n
-rows_size all rows row n is = ap length is ∙ length-append all (replicate n row) ∙ ap (λ k. length all + k) (length-replicate n row)
 
 -- a latch keeps its literal
 pub restarted_lits : (l : ℕ) (w : Tern) (xs : List Latch) → map (λ (x : Latch). x.lit) (map (restarted l w) xs) ≡ map (λ (x : Latch). x.lit) xs

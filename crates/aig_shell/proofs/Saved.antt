@@ -233,12 +233,6 @@ module _ (old : Session) (r : Request) where
   files_denied text calls (Err e) cause is none =
       (refl, [], no_call calls, inl refl, λ other s h. inl (none (λ m. other (is ∙ m)) s h, refl))
 
-  -- memory is wanting before the files
-  pub files_lacking : {A : Type 0} (text : List ℕ) (calls : Option (List Call)) (result : Result A Refusal)
-      → IsErrAnd result (λ e. e ≡ refusals.Memory) → EndsFiles old r result text calls calls old
-  files_lacking text calls (Ok x) is = absurd is
-  files_lacking text calls (Err e) is = (refl, [], no_call calls, inl refl, λ other. absurd (other is))
-
   -- one file is kept, or refused, and the session stays
   pub one_file_ends : {A : Type 0} (text : List ℕ) (old_calls new_calls : Option (List Call))
       (result : Result A Refusal) (one : KeptText) → GivesTexts old r text (one ∷ []) old

@@ -32,14 +32,6 @@ session_kept old new edits s k h = record {
   resets = subst (All IsReset) (sym (ap (λ v. v.items) k.latches)) s.resets;
 }
 
-pub session_same : (old new : Session) → IsSession old → KeepsRest old new → new.run.bench.pair ≡ old.run.bench.pair → IsSession new
-session_same old new s k e = record {
-  signals = ap (λ v. v.items) k.signals ∙ s.signals ∙ sym (ap (λ (p : CircuitAndRows). signals_of p.circuit) e);
-  latches = subst (λ (ls : List Latch). AllZip IsSameLatch ls new.run.bench.pair.circuit.latches) (sym (ap (λ v. v.items) k.latches))
-      (subst (λ (p : CircuitAndRows). AllZip IsSameLatch old.run.latches.items p.circuit.latches) (sym e) s.latches);
-  resets = subst (All IsReset) (sym (ap (λ v. v.items) k.latches)) s.resets;
-}
-
 -- the positions are those of inputs
 pub positions_within : (raw : Raw) (literals positions : List ℕ) → ArePositions raw literals positions
     → All (λ p. p < length raw.inputs) positions

@@ -256,11 +256,6 @@ refuses file begun kind raw start rows (Ok s) same is begins h = tt
 refuses file begun kind raw start rows (Err e) same is begins h =
     subst (λ (g : Begun). RefusesFiles file g e) (sym same) (inr (raw, is, inr (start, rows, begins, h)))
 
-pub refuses_text : (file : List ℕ) (begun kind : Begun) (raw : Raw) (fault : RunFault) → begun ≡ kind → IsFileOf file raw
-    → RefusesText raw kind fault → RefusesFiles file begun fault
-refuses_text file begun kind raw fault same is h =
-    subst (λ (g : Begun). RefusesFiles file g fault) (sym same) (inr (raw, is, inl h))
-
 -- ---- the session of lines
 
 module _ {Y X Z : Type 0} (passes : Passes Y X Z) (person : Bool) (file : List ℕ) (begun : Begun) where

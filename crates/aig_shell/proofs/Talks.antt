@@ -25,11 +25,6 @@ use Rattle.aig_shell.specs.Talking.{EndsInput, newline}
 
 -- ---- lists
 
--- no bytes more
-more_of_none : (text bytes : List ℕ) → text ++ bytes ≡ [] → bytes ≡ []
-more_of_none [] bytes e = e
-more_of_none (x ∷ text) bytes e = let no : ⊥ = cc in absurd no
-
 first_of_none : (text bytes : List ℕ) → text ++ bytes ≡ [] → text ≡ []
 first_of_none [] bytes e = refl
 first_of_none (x ∷ text) bytes e = let no : ⊥ = cc in absurd no
@@ -73,20 +68,6 @@ holds_same text bytes line e h = subst (λ (t : List ℕ). HoldsLine t line) (sy
 pub holds_cut : (text bytes : List ℕ) (line : Line) → line.is_cut ≡ true → HoldsLine text line → HoldsLine (text ++ bytes) line
 holds_cut text bytes line cut (inl (whole, is)) = absurd (false≢true (sym whole ∙ cut))
 holds_cut text bytes line cut (inr (is, some)) = inr (is, λ e. some (first_of_none text bytes e))
-
-pub holds_more : (text bytes : List ℕ) (old new : Line) → old.is_cut ≡ false → new.is_cut ≡ old.is_cut
-    → new.bytes.items ≡ old.bytes.items ++ bytes → HoldsLine text old → HoldsLine (text ++ bytes) new
-holds_more text bytes old new uncut same is (inl (whole, e)) =
-    inl (same ∙ uncut, is ∙ ap (λ (t : List ℕ). t ++ bytes) e)
-holds_more text bytes old new uncut same is (inr (cut, some)) = absurd (false≢true (sym uncut ∙ cut))
-
-pub holds_less : (text bytes : List ℕ) (new : Line) → bytes ≢ [] → new.is_cut ≡ true → HoldsLine (text ++ bytes) new
-holds_less text bytes new some cut = inr (cut, λ e. some (more_of_none text bytes e))
-
--- a line that is whole has its bytes
-pub held_bytes : (text : List ℕ) (line : Line) → line.is_cut ≡ false → HoldsLine text line → line.bytes.items ≡ text
-held_bytes text line uncut (inl (whole, e)) = e
-held_bytes text line uncut (inr (cut, some)) = absurd (false≢true (sym uncut ∙ cut))
 
 -- ---- the answer to a line
 
@@ -610,10 +591,6 @@ ends_finished {start} {old} {t} mid now what (Err e) f first unfailed says ok (d
 pub is_greeting : (b : Bool) (words : List ℕ) → b ≡ true → IsGreeting b (words ++ prompt b)
 is_greeting true words is = (words, refl)
 is_greeting false words is = absurd (false≢true is)
-
-pub no_greeting : (b : Bool) → b ≡ false → IsGreeting b []
-no_greeting false is = refl
-no_greeting true is = absurd (false≢true (sym is))
 
 -- ---- the same input
 

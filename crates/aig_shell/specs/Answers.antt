@@ -64,7 +64,7 @@ standings_text raw k [] = []
 standings_text raw k (standing ∷ more) =
     property_name raw k ++ (codes ": " ++ (standing_text standing ++ 10 ∷ standings_text raw (k + 1) more))
 
--- a line for each property, and then why the run is none of the circuit
+-- A line for each property. After them comes why the run is none of the circuit, which is only tested.
 abbrev pub IsChecked : SessionState → List ℕ → Type 0
 IsChecked s text =
     (standings : List Standing) × (reasons : List ℕ) × AreStandings (circuit_of s) s.pair 0 s.pair.circuit.bad standings
@@ -96,8 +96,8 @@ IsAfterSave s (Some stimulus) after =
     (StartsByReset s → after ≡ record s { kept = run_of s.pair; has_edited_circuit = false; has_warned = false })
     × ((StartsByReset s → ⊥) → after ≡ record s { has_edited_circuit = false; has_warned = false })
 
--- What a request answers, which files it writes at once, and what it leaves. The words of `gate`, `names` and `help`,
--- and the notes above a table are only tested.
+-- What a request answers, which files it writes at once, and what it leaves. Only tested are the texts after `gate`,
+-- `save`, `witness`, `wave`, `names` and `help`, and the notes above a table.
 abbrev pub Answers : SessionState → Request → List ℕ → List KeptText → SessionState → Type 0
 Answers s (show names frames) text texts after =
     (first : ℕ) × (last : ℕ) × (rows : List TableRow) × (note : List ℕ) × (table : List ℕ)

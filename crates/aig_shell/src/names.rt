@@ -166,10 +166,13 @@ impl Session {
     ) -> Result<(), Refusal<'a>>
         ensures { EndsQuery self.now (request.list_names (option_map (λ w. w.now) part.entry)) result text.new.items }
     {
-        let part = part.unwrap_or(b"");
-        let listed = self.listed(alloc, part)?;
+        let listed = self.listed(alloc, part.unwrap_or(b""))?;
         if listed.is_empty() {
-            return Err(Refusal::NoneContains(part));
+            if let Some(part) = part {
+                return Err(Refusal::NoneContains(part));
+            }
+            text.extend_from_slice(b"the circuit has no names\n")?;
+            return Ok(());
         }
         let mut folding = Folding::new(0);
         for name in listed.as_slice() {

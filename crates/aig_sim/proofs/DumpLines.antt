@@ -64,14 +64,6 @@ directive_then line rest is no_end h = record {
   directives = All-cons IsDirective line h.each is h.directives;
 }
 
-pub directives_then : (a b : List ℕ) → AreDirectives a → AreDirectives b → AreDirectives (a ++ b)
-directives_then a b h k = record {
-  each = h.each ++ k.each;
-  cut = λ more. ap lines (append_assoc a b more) ∙ h.cut (b ++ more)
-      ∙ ap (λ (ls : List (List ℕ)). h.each ++ ls) (k.cut more) ∙ sym (append_assoc h.each k.each (lines more));
-  directives = All-append IsDirective h.each k.each h.directives k.directives;
-}
-
 -- ---- the header
 lines_directives : (each : List (List ℕ)) → All (λ line. HasNoEnd line × IsDirective line) each
     → AreDirectives (flat_map (λ line. line ++ 10 ∷ []) each)

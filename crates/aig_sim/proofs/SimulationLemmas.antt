@@ -442,21 +442,6 @@ simulates_nothing raw left reads start count = record {
   ended = ((refl, refl), refl, (refl, refl));
 }
 
--- what is streamed as a trace is simulated
-pub simulates : (raw : Raw) (old new : Streams) (written written' : Option (List ℕ)) (result : Result ℕ StimFault)
-    → Streamed (λ raw start rows text. IsTrace raw start rows text) raw old new written written' result
-    → Simulates raw old new written written' result
-simulates raw old new written written' result h = record {
-  text = h.text;
-  rows = h.rows;
-  trace = h.trace;
-  done = h.done;
-  read = h.read;
-  trace_is = h.trace_is;
-  wrote = h.wrote;
-  ended = h.ended;
-}
-
 -- a simulation that has begun does not run out of memory
 stops_for_no_memory : (is_text : RunText) (raw : Raw) (start : Option (List ℕ)) (count : ℕ) (text : List ℕ)
     (written : Option (List ℕ)) (failures : ℕ) (f : StimFault) → f ≡ fault.Memory

@@ -41,22 +41,12 @@ values_of (b ∷ line) h =
       ]
     ]
 
-middle : (a rest : List ℕ) (x : ℕ) → get_or (a ++ (x ∷ rest)) (length a) 0 ≡ x
-middle [] rest x = refl
-middle (y ∷ a) rest x = middle a rest x
-
 front : (a rest : List ℕ) → take (length a) (a ++ rest) ≡ a
 front [] rest = refl
 front (y ∷ a) rest = ap (λ (t : List ℕ). y ∷ t) (front a rest)
 
 row_length : (row : List Tern) → length (map character row) ≡ length row
 row_length row = length-map row character
-
-pub row_is_ended : (width : ℕ) (text : List ℕ) → BeginsWithRow width text → get_or text width 0 ≡ 10
-row_is_ended width text (row, rest, len, is) =
-    let e : length (map character row) ≡ width = row_length row ∙ len in
-    ap (λ (t : List ℕ). get_or t width 0) is ∙ ap (λ (n : ℕ). get_or (map character row ++ (10 ∷ rest)) n 0) (sym e)
-    ∙ middle (map character row) rest 10
 
 pub row_is_characters : (width : ℕ) (text : List ℕ) → BeginsWithRow width text → All IsCharacter (take width text)
 row_is_characters width text (row, rest, len, is) =
@@ -271,15 +261,6 @@ module _ (raw : Raw) (text position : List ℕ) (head : text ≡ 49 ∷ (10 ∷ 
 pub row_is_long : (width : ℕ) (text : List ℕ) → BeginsWithRow width text → width < length text
 row_is_long width text (row, rest, len, is) =
     omega (arith, len, ap length is ∙ length-append (map character row) (10 ∷ rest), row_length row)
-
--- the values that a line was read as
-pub values_are : (width : ℕ) (text : List ℕ) (values : List Tern) → BeginsWithRow width text → length values ≡ width
-    → map character values ≡ take width text → text ≡ map character values ++ (10 ∷ drop (width + 1) text)
-values_are width text values begins len is =
-    sym (take-append-drop width text)
-    ∙ ap (λ (t : List ℕ). take width text ++ t) (drop_more text width 0 (row_is_long width text begins))
-    ∙ ap (λ (b : ℕ). take width text ++ (b ∷ drop (width + 1) text)) (row_is_ended width text begins)
-    ∙ ap (λ (t : List ℕ). t ++ (10 ∷ drop (width + 1) text)) (sym is)
 
 -- ---- one witness a text
 

@@ -44,6 +44,10 @@ pub record SpellsWitness (raw : Raw) (text : List ℕ) (w : Witness) : Type 0 wh
 abbrev pub IsAdmitted : Raw → Witness → Type 0
 IsAdmitted raw w = (w.property < length raw.bad) × (length w.rows ≤ frame_limit)
 
+-- the text is an admitted witness of the property at this position
+abbrev pub IsWitnessOf : ℕ → Raw → List ℕ → Type 0
+IsWitnessOf property raw text = (w : Witness) × SpellsWitness raw text w × IsAdmitted raw w × (w.property ≡ property)
+
 -- the first of the faults: no witness's text; no such property; over 65,536 frames
 abbrev pub HasWitnessFault : Raw → List ℕ → WitnessFault → Type 0
 HasWitnessFault raw text fault.Text = (w : Witness) → SpellsWitness raw text w → ⊥

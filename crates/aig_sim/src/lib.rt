@@ -23,7 +23,7 @@ pub use witness::check_witness;
 pub use witness::fault::WitnessFault;
 pub use witness::reach_fault::ReachFault;
 pub use witness::reached::{Reached, first_reached};
-pub use witness::reader::{Witness, read_witness};
+pub use witness::reader::{Witness, read_witness, witness_property};
 pub use witness::replay::{dump_witness, trace_witness};
 pub use witness::replay_fault::ReplayFault;
 pub use witness::verdict::Verdict;

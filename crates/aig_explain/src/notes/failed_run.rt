@@ -15,7 +15,7 @@ use crate::notes::names_look::{explain_names, explain_property};
 use crate::notes::output_look::{explain_output, explain_standard_output};
 use crate::notes::proof_look::{ProofOf, explain_proof};
 use crate::notes::select_look::explain_select;
-use crate::notes::verdict_look::explain_verdict;
+use crate::notes::verdict_look::{explain_other, explain_verdict};
 use crate::notes::why_look::explain_why;
 use crate::stimulus::explain_stimulus;
 use crate::unrolling::explain_unroll;
@@ -87,6 +87,7 @@ fn explain_fault<R: Files + AllocGlobal + Print + Eprint>(
         RunFault::Circuit(fault) => of_circuit(rt, files, fault),
         RunFault::Stimulus(fault) => of_stimulus(rt, files, fault),
         RunFault::Witness(fault) => of_witness(rt, files, fault),
+        RunFault::OtherProperty { found, asked } => explain_other(rt, files, found, asked),
         RunFault::Bench(fault) => of_bench(rt, files, fault),
         RunFault::Script(fault) => of_script(rt, files, fault),
         RunFault::Unroll(fault) => of_unroll(rt, files, fault),

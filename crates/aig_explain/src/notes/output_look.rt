@@ -1,7 +1,7 @@
 //! A second look at what a run could not write to: standard output, or the file of an option.
 
 use crate::notes::look::{explain_error, note, note_name};
-use aig_files::{are_one, is_free, name_beside};
+use aig_files::{is_free, is_one, is_one_new, leads_to, name_beside, parts_of};
 use std::fs::{self, FileType, Files, Metadata, OpenOptions};
 use std::io::{self, ErrorKind, Write};
 use std::os::unix::fs::{FileTypeExt, MetadataExt};
@@ -105,28 +105,6 @@ fn is_same_new<R: Files>(rt: &R, new: &str, other: Option<&str>) -> bool {
     }
 }
 
-/// Whether two names are of one file, which may not exist.
-fn is_one_new<R: Files>(rt: &R, name: &str, other: &str) -> bool {
-    let (folder, file) = parts_of(name);
-    let (other_folder, other_file) = parts_of(other);
-    file == other_file && is_one(rt, folder, other_folder)
-}
-
-/// Whether two names lead to one file.
-fn is_one<R: Files>(rt: &R, name: &str, other: &str) -> bool {
-    match fs::metadata(rt, name) {
-        Ok(metadata) => leads_to(rt, other, &metadata),
-        Err(_) => false,
-    }
-}
-
-fn leads_to<R: Files>(rt: &R, name: &str, file: &Metadata) -> bool {
-    match fs::metadata(rt, name) {
-        Ok(metadata) => are_one(&metadata, file),
-        Err(_) => false,
-    }
-}
-
 fn explain_named<R: Files + AllocGlobal + Eprint>(rt: &R, name: &str) {
     match fs::metadata(rt, name) {
         Ok(metadata) => explain_existing(rt, name, &metadata),
@@ -142,15 +120,15 @@ fn explain_named<R: Files + AllocGlobal + Eprint>(rt: &R, name: &str) {
 fn explain_existing<R: Files + AllocGlobal + Eprint>(rt: &R, name: &str, file: &Metadata) {
     if file.is_dir() {
         note(rt, "it is a folder: name a file");
-    } else if !file.is_file() {
-        note(
-            rt,
-            "it is a pipe or a device, which aig does not open again: it may be full, or without a reader",
-        );
     } else if leads_to(rt, "/dev/stdout", file) || leads_to(rt, "/dev/stderr", file) {
         note(
             rt,
             "standard output or standard error goes to it: name another file",
+        );
+    } else if !file.is_file() {
+        note(
+            rt,
+            "it is a pipe or a device, which aig does not open again: it may be full, or without a reader",
         );
     } else if are_streams_unknown(rt) {
         note(
@@ -193,15 +171,6 @@ fn explain_free<R: Files + AllocGlobal + Eprint>(rt: &R, name: &str) {
     match fs::metadata(rt, parts_of(name).0) {
         Ok(_) => explain_beside(rt, name),
         Err(error) => explain_error(rt, error),
-    }
-}
-
-/// The folder of a file, and its name there.
-fn parts_of(name: &str) -> (&str, &str) {
-    match name.rsplit_once('/') {
-        Some(("", file)) => ("/", file),
-        Some((folder, file)) => (folder, file),
-        None => (".", name),
     }
 }
 

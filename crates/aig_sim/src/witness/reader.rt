@@ -2,7 +2,7 @@
 ghost use Rattle.std.specs.Prelude.{◌≡◌, ◌≤◌, List, [], length, IfOk, IfErr, OnOk};
 ghost use Rattle.aig_parts.specs.declared.ternary.Tern.{Tern};
 ghost use Rattle.aig_parts.specs.Limits.{frame_limit};
-ghost use Rattle.aig_sim.specs.WitnessText.{SpellsWitness, IsAdmitted, HasWitnessFault};
+ghost use Rattle.aig_sim.specs.WitnessText.{SpellsWitness, IsAdmitted, IsWitnessOf, HasWitnessFault};
 ghost use Rattle.aig_sim.specs.state.Checking.{SpellsFrames};
 
 use crate::witness::fault::WitnessFault;
@@ -68,4 +68,15 @@ pub fn read_witness(alloc: Global, circuit: &Circuit, text: &[u8]) -> Result<Wit
         start,
         rows,
     })
+}
+
+/// The position of the property that a witness names. Refused are the texts that `check_witness` refuses. It runs
+/// nothing and takes no memory.
+pub fn witness_property(circuit: &Circuit, text: &[u8]) -> Result<u32, WitnessFault>
+    ensures property { IfOk result (λ property. IsWitnessOf property circuit.now text.now) }
+    ensures fault { IfErr result (HasWitnessFault circuit.now text.now) }
+{
+    circuit.facts();
+    let parts = admitted_parts(circuit, text)?;
+    Ok(parts.property)
 }

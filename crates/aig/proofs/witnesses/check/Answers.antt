@@ -11,10 +11,10 @@ returns-clause-confirmed g c =
     let text = c.as_slice-text.result.now in
     ok_whole c.confirmed.result (g.F.Read.remaining c.args.circuit) file
     (slice_whole (g.F.Read.remaining c.args.circuit) _ _ c.as_slice-file.ensures.value c.in_ok-circuit.ensures.whole)
-    (λ xs. IfSome (g.F.Read.remaining c.args.witness) (AreConfirmed xs))
+    (λ xs. IfSome (g.F.Read.remaining c.args.witness) (AreConfirmed c.args.property xs))
     (ok_whole c.confirmed.result (g.F.Read.remaining c.args.witness) text
-    (slice_whole (g.F.Read.remaining c.args.witness) _ _ c.as_slice-text.ensures.value c.in_ok-witness.ensures.whole) (AreConfirmed file)
-    (confirmed_file c.args.with_trace file text c.write_verdict.result c.confirmed.result c.write_verdict.ensures c.confirmed.ensures))
+    (slice_whole (g.F.Read.remaining c.args.witness) _ _ c.as_slice-text.ensures.value c.in_ok-witness.ensures.whole) (AreConfirmed c.args.property file)
+    (confirmed_file c.args.with_trace c.args.property file text c.write_verdict.result c.confirmed.result c.write_verdict.ensures c.confirmed.ensures))
 
 pub returns-in_err-circuit-clause-confirmed : goal.returns-in_err-circuit-clause-confirmed
 returns-in_err-circuit-clause-confirmed g c =
@@ -30,24 +30,25 @@ returns-clause-ends g c =
     let text = c.as_slice-text.result.now in
     of_whole (g.F.Read.remaining c.args.circuit) file
     (slice_whole (g.F.Read.remaining c.args.circuit) _ _ c.as_slice-file.ensures.value c.in_ok-circuit.ensures.whole)
-    (λ xs. IfSome (g.F.Read.remaining c.args.witness) (λ ys. Ends end_of_verdict (OfFile xs (ChecksWitness c.args.with_trace ys)) c.confirmed.result))
+    (λ xs. IfSome (g.F.Read.remaining c.args.witness)
+    (λ ys. Ends end_of_verdict (OfFile xs (ChecksWitness c.args.with_trace c.args.property ys)) c.confirmed.result))
     (of_whole (g.F.Read.remaining c.args.witness) text
     (slice_whole (g.F.Read.remaining c.args.witness) _ _ c.as_slice-text.ensures.value c.in_ok-witness.ensures.whole)
-    (λ ys. Ends end_of_verdict (OfFile file (ChecksWitness c.args.with_trace ys)) c.confirmed.result)
+    (λ ys. Ends end_of_verdict (OfFile file (ChecksWitness c.args.with_trace c.args.property ys)) c.confirmed.result)
     (as_meant c.write_verdict.result (c.write_verdict.ensures) c.confirmed.ensures))
 
 pub returns-in_err-circuit-clause-ends : goal.returns-in_err-circuit-clause-ends
 returns-in_err-circuit-clause-ends g c =
     let r = c.from_residual in
     of_any (g.F.Read.remaining c.args.circuit)
-    (λ xs. IfSome (g.F.Read.remaining c.args.witness) (λ ys. Ends end_of_verdict (OfFile xs (ChecksWitness c.args.with_trace ys)) r.result))
-    (λ xs. of_any (g.F.Read.remaining c.args.witness) (λ ys. Ends end_of_verdict (OfFile xs (ChecksWitness c.args.with_trace ys)) r.result)
+    (λ xs. IfSome (g.F.Read.remaining c.args.witness) (λ ys. Ends end_of_verdict (OfFile xs (ChecksWitness c.args.with_trace c.args.property ys)) r.result))
+    (λ xs. of_any (g.F.Read.remaining c.args.witness) (λ ys. Ends end_of_verdict (OfFile xs (ChecksWitness c.args.with_trace c.args.property ys)) r.result)
     (λ ys. (ends_unread r.result c.in_err-circuit.field-0.0 parts.Circuit c.in_err-circuit.ensures.fails r.ensures.1)))
 
 pub returns-in_err-witness-clause-ends : goal.returns-in_err-witness-clause-ends
 returns-in_err-witness-clause-ends g c =
     let r = c.from_residual-in_err-witness in
     of_any (g.F.Read.remaining c.args.circuit)
-    (λ xs. IfSome (g.F.Read.remaining c.args.witness) (λ ys. Ends end_of_verdict (OfFile xs (ChecksWitness c.args.with_trace ys)) r.result))
-    (λ xs. of_any (g.F.Read.remaining c.args.witness) (λ ys. Ends end_of_verdict (OfFile xs (ChecksWitness c.args.with_trace ys)) r.result)
+    (λ xs. IfSome (g.F.Read.remaining c.args.witness) (λ ys. Ends end_of_verdict (OfFile xs (ChecksWitness c.args.with_trace c.args.property ys)) r.result))
+    (λ xs. of_any (g.F.Read.remaining c.args.witness) (λ ys. Ends end_of_verdict (OfFile xs (ChecksWitness c.args.with_trace c.args.property ys)) r.result)
     (λ ys. (ends_unread r.result c.in_err-witness.field-0.0 parts.Witness c.in_err-witness.ensures.fails r.ensures.1)))

@@ -1,20 +1,34 @@
 use Rattle.aig_bytes.specs.Flow.{flow}
-use Rattle.aig_commands.specs.Check.{ChecksAndTraces}
+use Rattle.aig_commands.specs.Check.{ChecksAndTraces, OfProperty}
+use Rattle.aig_commands.proofs.Asked.{asked_ends, refused_ends, traces_witness}
 use Rattle.aig_commands.proofs.check.check_and_write_run.Goals as goal
-use Rattle.aig_run.proofs.Files.{answered, ends_of_file, file_refused}
-use Rattle.aig_run.specs.Command.{OfFile}
-use Rattle.aig_run.specs.Command.{CommandEnds}
+use Rattle.aig_run.proofs.Files.{answered, file_refused}
+use Rattle.aig_run.specs.Command.{CommandEnds, OfFile}
 use Rattle.aig_run.specs.declared.run_fault.RunFault.TheVariants as run_faults
 
 pub returns : goal.returns
 returns g c =
-    ends_of_file (ChecksAndTraces c.args.witness.now) c.in_ok-circuit.circuit (λ fault bytes h. h)
-    (flow g.W.Write.written g.W.Write.failures c.args.out.now c.write_run.new.out) run_faults.Output c.args.circuit.now c.in_ok-circuit.ensures.circuit
-    c.write_run.result c.write_run.ensures
+    asked_ends ChecksAndTraces c.args.witness.now c.in_ok-circuit.circuit
+    (traces_witness c.args.witness.now c.in_ok-circuit.circuit)
+    (flow g.W.Write.written g.W.Write.failures c.args.out.now c.write_run.new.out) c.args.circuit.now c.in_ok-circuit.ensures.circuit
+    c.args.property c.in_ok-refuse_other.ensures.ok c.write_run.result c.write_run.ensures
+
+pub returns-in_err-refuse_other : goal.returns-in_err-refuse_other
+returns-in_err-refuse_other g c =
+    answered c.from_residual-in_err-refuse_other.result c.in_err-refuse_other.field-0.0
+    (CommandEnds (flow g.W.Write.written g.W.Write.failures c.args.out.now c.args.out.now) run_faults.Output
+    (OfFile c.args.circuit.now (OfProperty c.args.property ChecksAndTraces c.args.witness.now)))
+    c.from_residual-in_err-refuse_other.ensures.1
+    (refused_ends ChecksAndTraces c.args.witness.now c.in_ok-circuit.circuit
+    (traces_witness c.args.witness.now c.in_ok-circuit.circuit)
+    g.W.Write.written g.W.Write.failures c.args.out.now c.args.circuit.now c.in_ok-circuit.ensures.circuit c.args.property
+    c.in_err-refuse_other.field-0.0 c.in_err-refuse_other.ensures.fault)
 
 pub returns-in_err-circuit : goal.returns-in_err-circuit
 returns-in_err-circuit g c =
     answered c.from_residual.result (run_faults.Circuit c.in_err-circuit.field-0.0)
-    (CommandEnds (flow g.W.Write.written g.W.Write.failures c.args.out.now c.args.out.now) run_faults.Output (OfFile c.args.circuit.now (ChecksAndTraces c.args.witness.now)))
+    (CommandEnds (flow g.W.Write.written g.W.Write.failures c.args.out.now c.args.out.now) run_faults.Output
+    (OfFile c.args.circuit.now (OfProperty c.args.property ChecksAndTraces c.args.witness.now)))
     c.from_residual.ensures.1
-    (file_refused g.W.Write.written g.W.Write.failures c.args.out.now run_faults.Output (ChecksAndTraces c.args.witness.now) c.args.circuit.now c.in_err-circuit.field-0.0 c.in_err-circuit.ensures.fault)
+    (file_refused g.W.Write.written g.W.Write.failures c.args.out.now run_faults.Output
+    (OfProperty c.args.property ChecksAndTraces c.args.witness.now) c.args.circuit.now c.in_err-circuit.field-0.0 c.in_err-circuit.ensures.fault)
