@@ -51,9 +51,6 @@ pub record Keeping (section : PropertySection) (all list rest : List (Key × Lis
   pub listed : list ≡ other_symbols section front
 
 module _ (section : PropertySection) (all : List (Key × List ℕ)) where
-  pub keep_start : (list : List (Key × List ℕ)) → list ≡ [] → Keeping section all list all
-  keep_start list none = record { front = []; split = refl; listed = none }
-
   pub keep_fresh : (list rest rest' : List (Key × List ℕ)) (s : Key × List ℕ) → rest ≡ s ∷ rest'
       → AllPairs (λ x y. x ≢ y) (keys_of all) → Keeping section all list rest → Contains (keys_of list) s.0 → ⊥
   keep_fresh list rest rest' s next distinct w c =
@@ -88,31 +85,10 @@ module _ (section : PropertySection) (all : List (Key × List ℕ)) where
         (let one : other_symbols section (s ∷ []) ≡ [] = rw other refl in one));
   }
 
-  pub keep_end : (list rest : List (Key × List ℕ)) → rest ≡ [] → Keeping section all list rest → list ≡ other_symbols section all
-  keep_end list rest none w =
-      w.listed ∙ ap (λ (es : List (Key × List ℕ)). other_symbols section es)
-      (sym (append-nil w.front) ∙ ap (λ (es : List (Key × List ℕ)). w.front ++ es) (sym none) ∙ sym w.split)
-
 -- no entry of the section has a symbol among those of the others
 pub not_other : (section : PropertySection) → is_other section (kind_of section) ≡ false
 not_other sections.Bad = refl
 not_other sections.Outputs = refl
-
-pub own_kind : (section : PropertySection) (k : Kind) → is_other section k ≡ false → k ≡ kind_of section
-own_kind sections.Bad kinds.Input e = cc
-own_kind sections.Bad kinds.Latch e = cc
-own_kind sections.Bad kinds.Output e = cc
-own_kind sections.Bad kinds.Bad e = refl
-own_kind sections.Bad kinds.Constraint e = cc
-own_kind sections.Bad kinds.Justice e = cc
-own_kind sections.Bad kinds.Fairness e = cc
-own_kind sections.Outputs kinds.Input e = cc
-own_kind sections.Outputs kinds.Latch e = cc
-own_kind sections.Outputs kinds.Output e = refl
-own_kind sections.Outputs kinds.Bad e = cc
-own_kind sections.Outputs kinds.Constraint e = cc
-own_kind sections.Outputs kinds.Justice e = cc
-own_kind sections.Outputs kinds.Fairness e = cc
 
 pub others_free : (section : PropertySection) (all : List (Key × List ℕ)) → IsFreeFor (kind_of section) (other_symbols section all)
 others_free section [] p (k, l, is) = absurd (omega arith)
@@ -202,18 +178,6 @@ module _ (kind : Kind) (text : List ℕ) (old : List (Key × List ℕ)) where
         (let h : n ≡ 0 + length w.names = omega (arith, w.count) in h)
         ∙ sym (symbols_more kind 0 w.names line));
   }
-
-  pub name_end : (list : List (Key × List ℕ)) (rest : List ℕ) (n : ℕ) → rest ≡ [] → Naming kind text old list rest n
-      → (names : List (List ℕ)) × AreLines text names × (length names ≡ n) × (list ≡ old ++ symbols_from kind 0 names)
-  name_end list rest n none w = (
-    w.names,
-    record {
-      spelled = w.split ∙ ap (λ (t : List ℕ). flat_map ended w.names ++ t) none ∙ append-nil (flat_map ended w.names);
-      ended = w.lines;
-    },
-    w.count,
-    w.listed,
-  )
 
   -- the lines of the text that are left
   left : (list : List (Key × List ℕ)) (rest : List ℕ) (n all : ℕ) → n ≤ all → (w : Naming kind text old list rest n)

@@ -51,7 +51,7 @@ abbrev pub IsNamed : Raw → PropertySection → List ℕ → Raw → Type 0
 IsNamed raw section text x =
     (names : List (List ℕ)) × AreNamesOf raw section text names × (x ≡ with_names raw section names)
 
--- why there are no names: the text is no line per property, or else no memory was found
+-- why there are no names: the text is not one line per property; out of memory may come in any case
 abbrev pub RefusesNames : Raw → PropertySection → List ℕ → NamesFault → Type 0
 RefusesNames raw section text faults.Lines = (names : List (List ℕ)) → AreNamesOf raw section text names → ⊥
 RefusesNames raw section text faults.Memory = ⊤

@@ -42,7 +42,7 @@ pub enum PropertyFault {
     /// No property has this name.
     #[error("name")]
     Name,
-    /// The properties at these two positions have it.
+    /// The properties at these two positions have it, and none before the second has it but the first.
     #[error("twice {first} {second}")]
     Twice { first: u32, second: u32 },
 }

@@ -3,11 +3,36 @@ ghost use Rattle.std.specs.Prelude.{◌≡◌, ◌↔◌, IsTrue, IfOk, IfErr};
 ghost use Rattle.aig_base.specs.Selected.{kind_of};
 ghost use Rattle.aig_names.specs.Property.{IsPosition, RefusesProperty};
 ghost use Rattle.aig_names.specs.Property.{IsOnlyNamed, RefusesName};
+ghost use Rattle.aig_names.specs.state.Found.{Adds};
 
 use crate::fault::PropertyFault;
 use crate::naming::is_other;
 use crate::number::number_of;
 use aig_base::{Circuit, Kind, PropertySection};
+
+/// The positions that have a name, as far as they were looked at: the two least.
+#[derive(Clone, Copy)]
+enum Found {
+    Nothing,
+    One(u32),
+    Two(u32, u32),
+}
+
+impl Found {
+    /// One more position.
+    fn with(self, position: u32) -> Found
+        ensures { Adds self position result }
+    {
+        match self {
+            Found::Nothing => Found::One(position),
+            Found::One(first) if position < first => Found::Two(position, first),
+            Found::One(first) => Found::Two(first, position),
+            Found::Two(first, _) if position < first => Found::Two(position, first),
+            Found::Two(first, second) if position < second => Found::Two(first, position),
+            Found::Two(..) => self,
+        }
+    }
+}
 
 /// Whether a symbol names an entry of the section by this name.
 fn is_named(section: PropertySection, kind: Kind, other: &[u8], name: &[u8]) -> bool
@@ -27,21 +52,16 @@ fn position_named(
 {
     // Its contract says that no entry has two names.
     circuit.facts();
-    let mut found = None;
+    let mut found = Found::Nothing;
     for (entry, other) in circuit.symbols().iter() {
         if is_named(section, entry.0, other, name) {
-            if let Some(first) = found {
-                return Err(PropertyFault::Twice {
-                    first,
-                    second: entry.1,
-                });
-            }
-            found = Some(entry.1);
+            found = found.with(entry.1);
         }
     }
     match found {
-        Some(position) => Ok(position),
-        None => Err(PropertyFault::Name),
+        Found::Nothing => Err(PropertyFault::Name),
+        Found::One(position) => Ok(position),
+        Found::Two(first, second) => Err(PropertyFault::Twice { first, second }),
     }
 }
 

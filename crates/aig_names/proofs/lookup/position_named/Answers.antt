@@ -1,23 +1,12 @@
-use Rattle.std.proofs.Common.{ℕ, List, Option, None, Some, refl, sym, subst, ◌∙◌}
+use Rattle.std.proofs.Common.{ℕ, List, sym, subst, ◌∙◌}
 use Rattle.std.specs.Map.Iter.{deref_pair}
 use Rattle.std.proofs.lemmas.Bool.{false≢true}
 use Rattle.std.proofs.lemmas.Map.Iter.{rest_all, rest_more}
 use Rattle.aig_parts.specs.declared.symbols.Kind.{Kind}
 use Rattle.aig_base.specs.Selected.{kind_of}
-use Rattle.aig_names.proofs.Lookups.{Found, Looking, look_start, look_past, look_found, look_twice, look_end}
+use Rattle.aig_names.specs.declared.lookup.Found.{Found}
+use Rattle.aig_names.proofs.Lookups.{AreFound, look_past, look_found, look_end}
 use Rattle.aig_names.proofs.lookup.position_named.Goals as goal
-
-pub returns-in-Some-found-clause-fault : goal.returns-in-Some-found-clause-fault
-returns-in-Some-found-clause-fault c =
-    let kind = kind_of c.args.section in
-    let all = c.args.circuit.now.symbols in
-    let rest = c.loop-entry.entry-iterator in
-    let next = rest_more (deref_pair {K = Kind × ℕ} {X = List ℕ}) rest c.next.new.self c.next.result
-    (c.in-Some.entry, c.in-Some.other) c.in-Some.is c.next.ensures.steps in
-    let is = c.is_named.ensures.0 c.if-is_named.true in
-    look_twice kind c.args.name.now all rest c.next.new.self (c.in-Some.entry.now, c.in-Some.other.now) c.in-Some-found.first next
-    is.0 is.1 c.facts.ensures.formed.names
-    (subst (λ (o : Option ℕ). Looking kind c.args.name.now all o rest) c.in-Some-found.is c.loop-entry.invariant)
 
 pub loop-entry-preserved-then-is_named : goal.loop-entry-preserved-then-is_named
 loop-entry-preserved-then-is_named c =
@@ -27,8 +16,8 @@ loop-entry-preserved-then-is_named c =
     let next = rest_more (deref_pair {K = Kind × ℕ} {X = List ℕ}) rest c.next.new.self c.next.result
     (c.in-Some.entry, c.in-Some.other) c.in-Some.is c.next.ensures.steps in
     let is = c.is_named.ensures.0 c.if-is_named.true in
-    look_found kind c.args.name.now all rest c.next.new.self (c.in-Some.entry.now, c.in-Some.other.now) next
-    is.0 is.1 (subst (λ (o : Option ℕ). Looking kind c.args.name.now all o rest) c.in_default.is c.loop-entry.invariant)
+    look_found kind c.args.name.now all rest c.next.new.self (c.in-Some.entry.now, c.in-Some.other.now) c.loop-entry.found
+    c.with-found.result next is.0 is.1 c.facts.ensures.formed.names c.with-found.ensures c.loop-entry.invariant
 
 pub loop-entry-preserved : goal.loop-entry-preserved
 loop-entry-preserved c =
@@ -41,20 +30,29 @@ loop-entry-preserved c =
     (λ is_kind is_name. false≢true (sym c.if-is_named.false ∙ c.is_named.ensures.1 (is_kind, is_name)))
     c.loop-entry.invariant
 
-pub returns-in-Some-found-2-clause-position : goal.returns-in-Some-found-2-clause-position
-returns-in-Some-found-2-clause-position c =
+pub returns-in-Nothing-clause-fault : goal.returns-in-Nothing-clause-fault
+returns-in-Nothing-clause-fault c =
     let kind = kind_of c.args.section in
     let all = c.args.circuit.now.symbols in
     let rest = c.loop-entry.entry-iterator in
     let none = rest_all (deref_pair {K = Kind × ℕ} {X = List ℕ}) rest c.next.new.self c.next.result c.in-None.is c.next.ensures.steps in
-    subst (λ (o : Option ℕ). Found kind c.args.name.now all o) c.in-Some-found-2.is
+    subst (λ (f : Found). AreFound kind c.args.name.now all f) c.in-Nothing.is
     (look_end kind c.args.name.now all c.loop-entry.found rest none c.loop-entry.invariant)
 
-pub returns-in-None-found-clause-fault : goal.returns-in-None-found-clause-fault
-returns-in-None-found-clause-fault c =
+pub returns-in-One-clause-position : goal.returns-in-One-clause-position
+returns-in-One-clause-position c =
     let kind = kind_of c.args.section in
     let all = c.args.circuit.now.symbols in
     let rest = c.loop-entry.entry-iterator in
     let none = rest_all (deref_pair {K = Kind × ℕ} {X = List ℕ}) rest c.next.new.self c.next.result c.in-None.is c.next.ensures.steps in
-    subst (λ (o : Option ℕ). Found kind c.args.name.now all o) c.in-None-found.is
+    subst (λ (f : Found). AreFound kind c.args.name.now all f) c.in-One.is
+    (look_end kind c.args.name.now all c.loop-entry.found rest none c.loop-entry.invariant)
+
+pub returns-in-Two-clause-fault : goal.returns-in-Two-clause-fault
+returns-in-Two-clause-fault c =
+    let kind = kind_of c.args.section in
+    let all = c.args.circuit.now.symbols in
+    let rest = c.loop-entry.entry-iterator in
+    let none = rest_all (deref_pair {K = Kind × ℕ} {X = List ℕ}) rest c.next.new.self c.next.result c.in-None.is c.next.ensures.steps in
+    subst (λ (f : Found). AreFound kind c.args.name.now all f) c.in-Two.is
     (look_end kind c.args.name.now all c.loop-entry.found rest none c.loop-entry.invariant)

@@ -4,7 +4,7 @@ use Rattle.std.proofs.lemmas.Bool.{eqb-false}
 use Rattle.aig_parts.specs.declared.symbols.Kind.{Kind}
 use Rattle.aig_base.specs.Selected.{kind_of}
 use Rattle.aig_names.specs.Named.{symbol_of}
-use Rattle.aig_names.proofs.NamedEntries.{name_start, name_fresh, name_more, name_short, name_long, name_end}
+use Rattle.aig_names.proofs.NamedEntries.{name_start, name_fresh, name_more, name_short, name_long}
 use Rattle.aig_names.proofs.naming.push_names.Goals as goal
 
 pub loop-position-init : goal.loop-position-init
