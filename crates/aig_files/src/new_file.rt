@@ -1,5 +1,6 @@
 //! Files that take their names only once they are complete.
 
+use crate::same::{are_one, is_one_new};
 use crate::unwritten::Unwritten;
 use std::alloc::{AllocError, Global};
 use std::fs::{self, Files, Metadata, OpenFile, OpenOptions, Permissions};
@@ -68,11 +69,11 @@ impl<F: Drop> NewFile<F> {
         }
     }
 
-    /// Whether both files replace the same one, under two of its names.
-    pub fn replaces_same(&self, other: &NewFile<F>) -> bool {
+    /// Whether both files take the name of the same one, which may not exist, under two of its names.
+    pub fn replaces_same<R: Files>(&self, rt: &R, other: &NewFile<F>) -> bool {
         match &other.old {
             Some(old) => self.replaces(old),
-            None => false,
+            None => self.old.is_none() && is_one_new(rt, self.name.as_str(), other.name.as_str()),
         }
     }
 
@@ -259,9 +260,4 @@ pub fn is_free<R: Files>(rt: &R, name: &str) -> bool {
         Ok(_) => false,
         Err(error) => error.kind() == ErrorKind::NotFound,
     }
-}
-
-/// Whether two names led to the same file.
-pub fn are_one(one: &Metadata, other: &Metadata) -> bool {
-    one.dev() == other.dev() && one.ino() == other.ino()
 }

@@ -1,9 +1,10 @@
 //! The files, devices and pipes that the options name for a text.
 
-use crate::new_file::{NewFile, are_one, is_free};
+use crate::new_file::{NewFile, is_free};
+use crate::same::{are_one, is_one};
 use crate::unwritten::Unwritten;
 use std::fs::{self, Files, Metadata, OpenFile, OpenOptions};
-use std::io::ErrorKind;
+use std::io::{ErrorKind, IsTerminal};
 use std::os::fd::AsFd;
 use std::os::unix::fs::FileTypeExt;
 
@@ -40,10 +41,11 @@ impl<F: Drop> OutputFile<'_, F> {
         }
     }
 
-    /// Whether both are names of one file.
-    pub fn is_same(&self, other: &OutputFile<'_, F>) -> bool {
+    /// Whether both are names of one file, or of one pipe.
+    pub fn is_same<R: Files>(&self, rt: &R, other: &OutputFile<'_, F>) -> bool {
         match (self, other) {
-            (OutputFile::File(one), OutputFile::File(other)) => one.replaces_same(other),
+            (OutputFile::File(one), OutputFile::File(other)) => one.replaces_same(rt, other),
+            (OutputFile::Pipe(one), OutputFile::Pipe(other)) => is_one(rt, one, other),
             _ => false,
         }
     }
@@ -94,7 +96,10 @@ impl<F: OpenFile + AsFd + Drop> OutputFile<'_, F> {
 pub fn find<'a, R: Files + AllocGlobal>(
     rt: &R,
     name: Option<&'a str>,
-) -> Result<OutputFile<'a, R::File>, Unwritten> {
+) -> Result<OutputFile<'a, R::File>, Unwritten>
+where
+    R::File: AsFd,
+{
     match name {
         Some(name) => find_named(rt, name),
         None => Ok(OutputFile::NotGiven),
@@ -104,13 +109,28 @@ pub fn find<'a, R: Files + AllocGlobal>(
 fn find_named<'a, R: Files + AllocGlobal>(
     rt: &R,
     name: &'a str,
-) -> Result<OutputFile<'a, R::File>, Unwritten> {
+) -> Result<OutputFile<'a, R::File>, Unwritten>
+where
+    R::File: AsFd,
+{
     match fs::metadata(rt, name) {
-        Ok(metadata) if metadata.file_type().is_fifo() => Ok(OutputFile::Pipe(name)),
+        Ok(metadata) if metadata.file_type().is_fifo() => find_pipe(rt, name, &metadata),
         Ok(_) => find_existing(rt, name),
         Err(error) if error.kind() == ErrorKind::NotFound => find_free(rt, name),
         Err(error) => Err(Unwritten::of(&error)),
     }
+}
+
+/// The same for a pipe.
+fn find_pipe<'a, R: Files>(
+    rt: &R,
+    name: &'a str,
+    pipe: &Metadata,
+) -> Result<OutputFile<'a, R::File>, Unwritten> {
+    if may_be_standard(rt, pipe) {
+        return Err(Unwritten::Standard);
+    }
+    Ok(OutputFile::Pipe(name))
 }
 
 /// The same for a name that leads to nothing. It may be a link, whose target does not exist.
@@ -128,16 +148,34 @@ fn find_free<'a, R: Files + AllocGlobal>(
 fn find_existing<'a, R: Files + AllocGlobal>(
     rt: &R,
     name: &str,
-) -> Result<OutputFile<'a, R::File>, Unwritten> {
+) -> Result<OutputFile<'a, R::File>, Unwritten>
+where
+    R::File: AsFd,
+{
     let file = match OpenOptions::new().write(true).open(rt, name) {
         Ok(file) => file,
         Err(error) => return Err(Unwritten::of(&error)),
     };
     match file.metadata() {
         Ok(metadata) if metadata.is_file() => find_file(rt, name, metadata),
-        Ok(_) => Ok(OutputFile::Device(file)),
+        Ok(metadata) => find_device(rt, file, &metadata),
         Err(error) => Err(Unwritten::of(&error)),
     }
+}
+
+/// The same for a device, which is open. Two texts may go to a device such as `/dev/null`, but not to a terminal.
+fn find_device<'a, R: Files>(
+    rt: &R,
+    device: R::File,
+    metadata: &Metadata,
+) -> Result<OutputFile<'a, R::File>, Unwritten>
+where
+    R::File: AsFd,
+{
+    if device.as_fd().is_terminal() && may_be_standard(rt, metadata) {
+        return Err(Unwritten::Standard);
+    }
+    Ok(OutputFile::Device(device))
 }
 
 /// The same for a file.
@@ -194,7 +232,7 @@ pub fn open_pipe<R: Files>(rt: &R, name: &str) -> Result<R::File, Unwritten> {
     }
 }
 
-/// Whether a file may be standard output or standard error, which have output of this run. It may if the system does
+/// Whether it may be standard output or standard error, which have output of this run. It may if the system does
 /// not say which files they are, as without the folder `/dev`.
 fn may_be_standard<R: Files>(rt: &R, file: &Metadata) -> bool {
     may_be(rt, "/dev/stdout", file) || may_be(rt, "/dev/stderr", file)

@@ -1,6 +1,7 @@
-//! The descriptors of the standard streams.
+//! What the program needs whatever it does: the descriptors of the standard streams, and its stack.
 
 use crate::exit::Exit;
+use crate::stack::reserve_stack;
 use crate::unwritten::OUTPUT;
 use std::fs::{self, Files};
 
@@ -14,12 +15,17 @@ pub struct Reserved<F: Drop> {
     third: F,
 }
 
-/// Opens the three files. They are open for reading, so that a write to a closed standard output still fails.
-pub fn reserve<R: Files>(rt: &R) -> Result<Reserved<R::File>, Exit> {
+/// Opens the three files, and makes the stack large enough. The files are open for reading, so that a write to a closed
+/// standard output still fails.
+pub fn reserve<R: Files + AllocGlobal>(rt: &R) -> Result<Reserved<R::File>, Exit> {
+    let mut first = open_idle(rt)?;
+    let second = open_idle(rt)?;
+    let third = open_idle(rt)?;
+    reserve_stack(rt.alloc(), &mut first)?;
     Ok(Reserved {
-        first: open_idle(rt)?,
-        second: open_idle(rt)?,
-        third: open_idle(rt)?,
+        first,
+        second,
+        third,
     })
 }
 
