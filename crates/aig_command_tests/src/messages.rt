@@ -10,7 +10,7 @@ use aig_unroll::UnrollFault;
 use std::alloc::Global;
 use std::fmt::Display;
 
-static MESSAGES: [(RunFault, &str); 53] = [
+static MESSAGES: [(RunFault, &str); 54] = [
     (RunFault::Circuit(Fault::Cycle(2)), "circuit: cycle 2"),
     (RunFault::Circuit(Fault::Memory), "circuit: memory"),
     (
@@ -38,6 +38,13 @@ static MESSAGES: [(RunFault, &str); 53] = [
     ),
     (RunFault::Witness(WitnessFault::Limit), "witness: limit"),
     (RunFault::Witness(WitnessFault::Memory), "witness: memory"),
+    (
+        RunFault::OtherProperty {
+            found: 0,
+            asked: 12,
+        },
+        "witness: of b0, not b12",
+    ),
     (RunFault::Bench(BenchFault::Width), "bench: width"),
     (RunFault::Bench(BenchFault::Limit), "bench: limit"),
     (RunFault::Bench(BenchFault::Memory), "bench: memory"),

@@ -1,14 +1,16 @@
 //! Steps that are added on their first literal, and variables of the proof's own, through the public calls. A slow
-//! checker that follows the definition gave the numbers of steps; it shares nothing with ours.
+//! checker that follows the definition gave the numbers of steps; it shares nothing with ours. A function that names a
+//! table is proved in the square of its rows, so no table has more than eight.
 use aig_base::{Lit, MemReader};
 use aig_sat::{ProofReader, Refutation, StepKind};
 use std::alloc::Global;
 
-// The formula's variables and those of the proof's own; the formula's clauses as text, and how many; a proof; how many
-// of its steps are right up to the first that is not; and whether they refute the formula.
-type Steps = (u8, u8, &'static [u8], usize, &'static [u8], usize, bool);
+/// The formula's variables and those of the proof's own; the formula's clauses as text, and how many; a proof; how many
+/// of its steps are right up to the first that is not; and whether they refute the formula.
+pub type Steps = (u8, u8, &'static [u8], usize, &'static [u8], usize, bool);
 
-static PROOFS: [Steps; 66] = [
+// Variables of the proof's own.
+static OWN_VARIABLES: [Steps; 7] = [
     // At most one of four and one of each two: a variable of the proof's own for the first two.
     (
         4,
@@ -55,44 +57,6 @@ static PROOFS: [Steps; 66] = [
         52,
         true,
     ),
-    // The only clause with the negation does not give one that follows.
-    (3, 0, b"1 2 0\n-1 3 0", 2, b"1 0\n", 0, false),
-    // It does where another literal has both signs.
-    (3, 0, b"1 2 0\n-1 3 0", 2, b"1 -3 0\n", 1, false),
-    // The first literal may be any one.
-    (3, 0, b"1 2 0\n-1 3 0", 2, b"-3 1 0\n", 1, false),
-    // Each clause with the negation counts, also the last one.
-    (4, 0, b"-1 2 0\n-1 3 4 0", 2, b"1 -2 0\n", 0, false),
-    // Both are right.
-    (4, 0, b"-1 2 0\n-1 3 2 0", 2, b"1 -2 0\n", 1, false),
-    // By propagation.
-    (4, 0, b"-1 2 0\n2 3 0 -3 4 0 -4 2 0", 4, b"1 0\n", 1, false),
-    // The literal is known to be false.
-    (3, 0, b"-1 0\n2 3 0", 2, b"1 2 0\n", 0, false),
-    // Its negation is known to be true.
-    (3, 0, b"1 0\n2 3 0", 2, b"-1 2 0\n", 0, false),
-    // It stays known where its clause was deleted.
-    (3, 0, b"-1 0\n2 3 0", 2, b"d -1 0\n1 0\n", 1, false),
-    // The first literal is there twice.
-    (3, 0, b"2 3 0", 1, b"1 1 0\n", 1, false),
-    // Twice, and a clause has the negation.
-    (3, 0, b"-1 2 0\n2 3 0", 2, b"1 1 0\n", 0, false),
-    // The clause has the negation twice.
-    (3, 0, b"-1 -1 2 0", 1, b"1 -2 1 0\n", 1, false),
-    // A clause of both signs counts like any other one.
-    (3, 0, b"-1 1 2 0", 1, b"1 0\n", 0, false),
-    // It does not stand in the way of this one.
-    (3, 0, b"-1 1 2 0", 1, b"1 -2 0\n", 1, false),
-    // A clause of both signs follows.
-    (3, 0, b"2 3 0", 1, b"1 -1 0\n-2 2 3 0\n", 2, false),
-    // And counts once it was added.
-    (3, 0, b"2 3 0", 1, b"-1 1 2 0\n1 0\n", 1, false),
-    // The empty clause has no first literal.
-    (2, 0, b"1 2 0", 1, b"0\n", 0, false),
-    // A literal whose negation no clause has.
-    (3, 0, b"1 2 0\n-1 2 0", 2, b"3 0\n2 0\n", 2, false),
-    // An assignment satisfies the formula, and not with the step.
-    (2, 0, b"1 2 0\n-1 -2 0 1 -2 0", 3, b"-1 0\n", 0, false),
     // Variables of the proof's own are bound by what was said of them.
     (1, 2, b"1 0", 1, b"2 0\n-3 0\n-2 3 0\n", 2, false),
     // A variable of the proof's own for a clause.
@@ -107,401 +71,56 @@ static PROOFS: [Steps; 66] = [
     ),
     // What a step said of such a variable counts for the next one.
     (2, 1, b"1 2 0", 1, b"-3 1 0\n3 0\n", 1, false),
-    // Formulas and steps at random.
-    (
-        3,
-        1,
-        b"2 -2 0\n3 -2 0 -3 2 -2 0 3 -1 2 0 2 1 0 3 3 -1 0",
-        6,
-        b"4 0\n4 0\nd -2 -3 2 0\nd 4 0\n1 2 -1 0\n-1 -2 4 0\nd 4 0\n4 4 -4 0\n-2 2 -1 0\n1 0\n-4 -3 -2 0\n2 -2 \
-        0\n",
-        10,
-        false,
-    ),
-    (
-        4,
-        2,
-        b"3 -4 0\n3 -1 -2 0 1 -4 -2 0 2 3 0 -1 3 -2 0 2 -1 -3 0 2 -2 -4 0 -2 1 -4 0 -1 2 0 -4 -2 0 -4 -1 2 0 4 \
-        -1 0 1 -2 0",
-        13,
-        b"-2 6 0\n-4 0\n-3 -3 -4 0\n4 3 0\nd -4 3 0\nd -2 2 -4 0\n6 0\n-1 3 0\n6 0\n6 0\n-3 -5 2 0\n3 -4 0\n",
-        10,
-        false,
-    ),
-    (
-        4,
-        1,
-        b"-2 -4 0\n-1 4 0 4 -1 2 0 -4 -1 0 -3 -3 -2 0 1 -3 -1 0 1 4 3 0 3 2 3 0 1 4 -4 0 -3 2 0 2 -3 0 -1 -2 0 \
-        -1 1 -2 0 3 -3 4 0",
-        14,
-        b"-3 4 0\n1 2 4 0\n5 0\n-1 5 1 0\nd 5 0\nd 1 4 2 0\n3 3 0\n",
-        7,
-        true,
-    ),
-    (
-        3,
-        2,
-        b"3 2 -2 0\n2 -1 0 1 3 0 1 2 1 0 -1 3 0 2 -1 0 3 2 -3 0 -3 3 -2 0 -1 1 0 -3 3 0 1 -2 -3 0 -1 1 0 1 -3 \
-        -3 0 3 -3 -2 0 2 1 3 0 3 3 2 0 -1 1 0",
-        17,
-        b"d 3 2 -3 0\n3 0\n3 0\n5 0\n5 -3 -5 0\n4 0\n2 0\n1 0\n2 -3 1 0\n3 4 1 0\n-2 0\n3 2 -2 0\n",
-        10,
-        false,
-    ),
-    (
-        4,
-        2,
-        b"3 4 -2 0\n3 3 1 0 -3 -3 0 -1 4 0 -2 3 0 3 -3 0",
-        6,
-        b"-6 -5 0\n-3 -5 1 0\nd 1 -3 -5 0\nd -3 3 0\nd -6 -5 0\n1 2 0\n5 0\n1 -4 0\n-1 -2 3 0\n-2 0\n-5 6 0\n3 \
-        4 -2 0\n",
-        10,
-        false,
-    ),
-    (
-        4,
-        2,
-        b"-1 -4 -2 0\n1 2 0 2 2 0 3 2 1 0 1 -4 0 -4 1 -4 0 3 -2 -3 0 -4 -4 -1 0 1 1 -1 0 3 2 -2 0 -2 3 -3 0 -1 \
-        2 0 -1 -2 0 2 -1 2 0 2 -2 0 -4 -2 4 0 3 -4 -3 0 -1 -3 0 3 -3 3 0 2 2 0 -4 -3 0",
-        21,
-        b"-6 -5 0\n-1 6 0\n-1 0\n-6 0\nd 2 2 0\n-5 0\n-1 -2 2 0\n-3 -4 1 0\nd -1 0\n-3 -6 0\n1 0\n-1 -4 -2 0\n",
-        10,
-        false,
-    ),
-    (
-        5,
-        2,
-        b"5 4 4 0\n4 5 5 0 5 5 4 0 -3 -5 -3 0 -2 -3 0 -1 1 -3 0 -2 5 0 -2 -2 3 0 2 -1 -5 0 4 2 4 0 3 2 0 -1 5 \
-        -2 0 1 -5 0",
-        13,
-        b"-6 -7 5 0\n7 4 -2 0\n-2 0\n2 -7 -6 0\n6 4 -6 0\nd -2 7 4 0\n-7 -4 -3 0\nd -7 -4 -3 0\nd 4 5 5 0\n6 \
-        0\n1 -3 2 0\n5 4 4 0\n",
-        10,
-        false,
-    ),
-    (
-        5,
-        2,
-        b"2 -4 -2 0\n1 -1 0 -5 -4 4 0 -4 1 2 0 5 5 0 -3 -5 4 0 -1 -5 0 2 -5 0 2 -1 3 0 -3 -4 0 -1 -1 0 -4 -4 -2 \
-        0 -1 -1 0 -2 -4 4 0 -3 -2 -4 0 5 -1 -2 0 -1 4 0",
-        17,
-        b"1 -3 0\n7 5 0\n-7 0\n-6 -1 7 0\nd -4 4 -5 0\n-1 0\n-1 7 0\n2 0\nd -2 -1 5 0\n6 0\n-2 3 0\n2 -4 -2 \
-        0\n",
-        10,
-        false,
-    ),
-    (
-        4,
-        2,
-        b"-4 -4 0\n1 -4 1 0 2 -1 2 0 -2 -1 -4 0 -1 3 1 0 3 3 3 0 -2 -4 2 0 4 -2 0",
-        8,
-        b"-4 6 -2 0\n3 -1 2 0\nd 1 -4 1 0\n-1 6 0\nd 3 3 3 0\n5 0\n6 0\n1 -1 2 0\nd 5 0\n3 0\n1 0\n-4 -4 0\n",
-        10,
-        false,
-    ),
-    (
-        5,
-        2,
-        b"-2 -5 0\n-2 -2 0 4 -2 3 0 3 3 5 0 4 5 0 -5 4 0 -2 -2 0",
-        7,
-        b"d 5 4 0\n4 0\n-7 -7 0\nd -5 4 0\n-2 2 -2 0\nd -2 -5 0\n-2 -1 6 0\n-1 0\n5 5 0\n6 5 0\n1 -6 0\n-2 -5 \
-        0\n",
-        10,
-        false,
-    ),
-    (
-        5,
-        0,
-        b"1 3 -4 0\n4 1 0 2 -4 -5 0 2 4 -3 0 -5 1 0 -3 -2 0 1 -4 0",
-        7,
-        b"4 -4 0\n-3 0\n-2 4 0\n-5 4 3 0\n-4 -3 0\n-5 5 0\n-3 0\n-1 -3 0\n1 -3 0\nd 1 -5 0\n4 0\n1 3 -4 0\n",
-        10,
-        false,
-    ),
-    (
-        5,
-        0,
-        b"-1 2 0\n1 5 2 0 1 2 0 1 4 -3 0 5 -3 -2 0 -4 -4 -5 0 -1 -2 0 2 2 -4 0 5 -2 0 -4 3 0 4 -4 -3 0 5 -5 4 0 \
-        -5 -4 5 0 5 1 -1 0 -1 3 0 5 1 -1 0 -2 1 0 2 5 2 0 -3 -4 -5 0",
-        19,
-        b"-1 1 -1 0\n2 -4 4 0\n-3 0\n",
-        3,
-        true,
-    ),
-    (
-        3,
-        2,
-        b"-2 -3 0\n-1 2 1 0 -2 -2 0 2 -1 0 -2 1 0",
-        5,
-        b"-1 -1 -4 0\n3 5 1 0\n-1 4 0\n3 0\n-3 -1 0\nd -1 -1 -4 0\n-3 -2 0\n4 -5 0\n-2 0\nd -1 2 0\n-3 0\n-2 \
-        -3 0\n",
-        10,
-        false,
-    ),
-    (
-        5,
-        1,
-        b"-4 4 4 0\n4 -5 -4 0 -1 -4 1 0 -2 3 -2 0 -3 5 0 3 -3 0 -2 -1 -3 0 -3 3 -5 0 4 -4 -3 0 3 4 -5 0 4 5 -3 \
-        0 -3 -4 5 0 -4 3 0 -2 -3 1 0 -4 2 0 -4 2 0",
-        16,
-        b"d 3 -2 -2 0\n-1 3 2 0\n-4 1 2 0\n6 0\n-2 2 0\n-4 -5 0\nd -3 -2 -1 0\nd -5 -3 3 0\n3 -3 0\n1 6 0\n1 \
-        0\n-4 4 4 0\n",
-        10,
-        false,
-    ),
-    (
-        4,
-        1,
-        b"4 -1 -3 0\n2 3 0 -3 2 0 -3 -2 -3 0 1 2 0 -4 1 2 0 1 3 -1 0",
-        7,
-        b"4 -2 -2 0\n1 -3 -1 0\n-5 0\n-5 0\nd -1 -3 1 0\n1 -3 -5 0\n4 -1 -3 0\nd -5 0\n5 -3 -1 0\nd -3 2 0\n-4 \
-        -1 5 0\n4 -1 -3 0\n",
-        10,
-        false,
-    ),
-    (
-        5,
-        2,
-        b"3 2 2 0\n-1 -1 1 0 4 5 1 0 3 -5 -5 0 1 -2 4 0 -3 -1 0 -2 2 0 1 3 5 0 4 1 0 5 4 4 0 -3 2 -2 0 2 -1 0 \
-        -3 -1 0 -2 2 -3 0 2 -5 0",
-        15,
-        b"7 -5 3 0\n-7 -4 3 0\n-3 3 0\n6 -3 0\n6 0\n-2 2 0\n4 0\n3 -3 0\n7 2 0\n4 -3 -7 0\n-4 -2 0\n3 2 2 0\n",
-        10,
-        false,
-    ),
-    (
-        5,
-        1,
-        b"4 2 3 0\n4 5 0 2 3 4 0 -5 1 5 0 3 -1 5 0 -2 -5 -1 0 -2 -4 1 0 -3 1 -1 0 -2 -3 0",
-        9,
-        b"-6 -4 0\n5 -6 -3 0\n-1 1 3 0\n-2 -1 0\n5 3 -6 0\n-6 4 0\n6 -4 4 0\nd -6 -3 5 0\n5 -1 0\n-3 1 -4 \
-        0\n-5 2 0\n4 2 3 0\n",
-        10,
-        false,
-    ),
-    (
-        5,
-        2,
-        b"-4 4 0\n-4 1 0 -4 -1 0 3 -5 0 4 -1 2 0 1 2 0",
-        6,
-        b"3 4 0\n-6 -5 0\n-6 0\n2 2 0\n-5 -6 0\nd 4 -4 0\nd 3 -5 0\n-5 5 -1 0\n-1 0\n-2 4 2 0\n4 0\n-4 4 0\n",
-        10,
-        false,
-    ),
-    (
-        3,
-        2,
-        b"-2 2 0\n-1 3 0 -2 3 0 2 1 1 0 2 2 1 0 -1 -1 2 0 -1 3 0",
-        7,
-        b"5 0\n4 0\n-1 -3 -3 0\n-5 4 0\n2 0\n3 0\n-1 0\n-2 2 3 0\n-3 3 -2 0\n2 4 -2 0\n1 0\n-2 2 0\n",
-        10,
-        false,
-    ),
-    (
-        5,
-        0,
-        b"4 -2 1 0\n-1 3 0 -2 -1 0 4 5 0 3 1 2 0 -1 3 -5 0 3 -1 -2 0",
-        7,
-        b"4 0\n-1 3 0\n2 -2 0\n4 -1 0\n-5 -2 0\n3 0\n-2 -5 0\n-5 -5 0\n3 -1 -3 0\n3 -1 0\n1 0\n4 -2 1 0\n",
-        10,
-        false,
-    ),
-    (
-        5,
-        0,
-        b"3 2 -2 0\n-5 -4 0 -5 3 -3 0 4 -4 0 4 5 5 0 -2 5 1 0 -5 3 -5 0 -5 1 0 4 -4 -4 0 -4 4 3 0",
-        10,
-        b"1 0\n-1 1 0\n-3 5 0\n-2 -5 0\nd 4 -4 3 0\n1 -4 5 0\nd -5 1 0\n-2 -3 0\n5 5 -5 0\n1 0\n-2 0\n3 2 -2 \
-        0\n",
-        10,
-        false,
-    ),
-    (
-        3,
-        1,
-        b"1 1 -2 0\n2 -1 0 2 3 -2 0 2 1 -1 0 1 -1 1 0 -2 -2 3 0 -1 -1 3 0 -2 2 -2 0 1 -1 0",
-        9,
-        b"3 2 2 0\n-1 3 -4 0\n1 3 0\n-4 -4 0\n3 -4 -2 0\n1 -2 1 0\n2 -2 0\n-2 -3 3 0\n2 -2 1 0\nd 2 -2 1 0\n-3 \
-        0\n1 1 -2 0\n",
-        10,
-        false,
-    ),
-    (
-        4,
-        2,
-        b"-3 -1 0\n4 1 -2 0 -1 2 0 -3 -4 1 0 -1 4 0",
-        5,
-        b"-3 0\n-1 0\nd -3 0\n-5 0\n-4 -3 -2 0\n-1 0\n6 -2 0\n-1 -5 2 0\n-3 5 0\nd -1 0\n-6 1 0\n-3 -1 0\n",
-        10,
-        false,
-    ),
-    (
-        5,
-        2,
-        b"4 -1 -3 0\n-5 4 0 -3 -3 5 0 4 5 -5 0 -4 -3 4 0 4 -3 0 -3 -5 0 -4 4 2 0 1 4 0 -3 5 3 0 -3 4 -4 0",
-        11,
-        b"-2 -4 0\n-6 3 -1 0\nd -5 4 0\n-1 -3 0\n7 -2 4 0\n7 -1 0\n7 1 -1 0\n5 3 1 0\n-6 0\n-2 2 0\n4 3 6 0\n4 \
-        -1 -3 0\n",
-        10,
-        false,
-    ),
-    (
-        4,
-        1,
-        b"-3 -4 -2 0\n4 -3 1 0 -1 4 0 4 -4 2 0 4 -2 3 0 -2 4 0 3 -1 0 -3 -2 0",
-        8,
-        b"d -3 1 4 0\n-5 3 -1 0\n5 4 0\n-3 4 0\n-5 5 2 0\n-2 -5 0\n1 -1 -5 0\nd -1 -5 1 0\n-2 2 0\n-2 2 0\n-5 \
-        0\n-3 -4 -2 0\n",
-        10,
-        false,
-    ),
-    (
-        3,
-        2,
-        b"-1 -2 -2 0\n-2 -3 0 -2 2 1 0 -2 3 -2 0 2 2 -1 0 -2 -2 3 0 -1 -1 0 1 1 3 0 -1 2 0 -2 1 0 3 1 0",
-        11,
-        b"-1 0\n-4 0\nd -2 -3 0\n-5 3 0\nd -1 2 2 0\n-5 -5 0\n-4 0\n-5 0\n-5 -4 -1 0\n1 -4 0\n2 0\n-1 -2 -2 \
-        0\n",
-        10,
-        false,
-    ),
-    (
-        4,
-        2,
-        b"-2 -3 -4 0\n1 -3 3 0 1 -3 -1 0 -4 2 -3 0 -1 -4 4 0 3 -2 0 1 4 -1 0 2 -3 1 0 -3 -1 0 1 -3 3 0 3 -1 -4 \
-        0 -1 -2 0 -2 4 2 0 -3 2 0 2 4 1 0 -3 4 0 1 1 1 0 -1 -4 3 0 1 4 0 -3 4 -1 0",
-        20,
-        b"-5 0\n-1 -2 3 0\n-4 6 0\nd -1 3 -4 0\nd 1 1 1 0\n6 5 0\n1 -3 3 0\n-2 6 -3 0\n-3 0\n-4 -2 4 0\n2 \
-        0\n-2 -3 -4 0\n",
-        10,
-        false,
-    ),
-    (
-        4,
-        0,
-        b"2 2 -1 0\n-1 1 1 0 -4 -3 4 0 -2 1 -4 0 1 2 4 0 1 -2 0 -4 1 0 -3 -2 -2 0 1 -2 2 0 -4 -2 -3 0 2 -1 0 -1 \
-        -4 0 3 -4 0 -4 -1 0 -3 3 0 3 2 0 -2 3 0 1 -1 1 0 -1 -2 1 0",
-        19,
-        b"4 0\n",
-        1,
-        true,
-    ),
-    (
-        4,
-        2,
-        b"-1 -4 1 0\n4 -4 0 3 -3 0 1 -1 -2 0",
-        4,
-        b"6 -5 0\n2 2 1 0\n-5 0\n6 2 0\n-5 0\nd 1 -4 -1 0\n6 -1 0\n2 0\n6 -3 -6 0\n-1 -6 -5 0\n-4 -4 0\n-1 -4 \
-        1 0\n",
-        10,
-        false,
-    ),
-    (
-        5,
-        0,
-        b"2 -3 3 0\n5 -3 0 1 3 -1 0 -5 1 0 -5 5 -4 0 -3 4 0 4 -4 -3 0",
-        7,
-        b"2 0\n4 -2 0\n4 -5 3 0\n2 0\n-5 -1 4 0\n5 -5 0\n-2 2 0\n3 -4 4 0\n-3 1 5 0\n4 -2 4 0\n-2 0\n2 -3 3 \
-        0\n",
-        10,
-        false,
-    ),
-    (
-        4,
-        1,
-        b"-3 2 -3 0\n2 3 0 -4 3 0 -3 1 0 -3 -3 0 -4 -3 2 0",
-        6,
-        b"1 -5 -2 0\nd -5 -2 1 0\n-1 1 -2 0\nd -3 -3 0\nd 2 -3 -3 0\n-1 -2 -3 0\n4 -4 5 0\n5 0\n-5 3 -3 0\n2 \
-        0\n1 -2 1 0\n-3 2 -3 0\n",
-        10,
-        false,
-    ),
-    (
-        4,
-        2,
-        b"3 2 0\n4 3 0 4 2 0 -4 -4 3 0 4 -2 1 0",
-        5,
-        b"-2 2 0\n-6 -2 0\n-6 2 0\n5 -1 0\nd 5 -1 0\n5 -5 0\n1 0\n1 0\n2 -6 6 0\nd -2 2 0\n-5 0\n3 2 0\n",
-        10,
-        false,
-    ),
-    (
-        5,
-        0,
-        b"-3 -2 0\n-5 -2 -3 0 -4 3 0 1 -4 0 1 2 -1 0 -1 5 0 -4 -2 2 0 -2 2 0 -2 5 0 -5 2 5 0 4 -3 0 -5 2 3 0 -4 \
-        -2 0 -3 4 -1 0 -4 -1 2 0 3 -4 -4 0 -2 -5 1 0 4 -3 0 4 3 0 -2 1 -1 0",
-        20,
-        b"-1 4 -4 0\nd -4 3 0\n-4 -3 0\n-1 0\n",
-        4,
-        true,
-    ),
-    (
-        5,
-        2,
-        b"2 -5 -4 0\n-1 1 0 -5 -2 -4 0 -1 2 0 -4 1 -2 0 5 2 0 1 3 -5 0 3 4 0 -3 4 0 -3 -1 1 0 -4 -1 0 -1 -1 0 \
-        -4 -5 2 0 -1 3 5 0 -2 -3 0",
-        15,
-        b"6 0\n-7 0\n6 -4 0\n1 -6 -2 0\n",
-        4,
-        true,
-    ),
-    (
-        4,
-        1,
-        b"1 2 0\n3 -1 -2 0 -3 -1 0 -3 2 2 0 -4 -4 1 0 2 3 -4 0 4 -3 0 2 3 -1 0 -3 1 3 0 -3 -1 2 0 4 -2 -3 0 -3 \
-        -2 0 4 3 3 0",
-        13,
-        b"-1 4 0\n2 -2 0\n-5 0\n1 5 0\n",
-        4,
-        true,
-    ),
-    (
-        4,
-        1,
-        b"3 -1 0\n1 -3 0 4 -2 0 -1 -2 0 1 2 0 -4 -1 0 -2 2 -1 0 1 -1 0 1 2 -3 0 2 2 1 0 -4 1 0 2 -1 1 0 -3 2 0",
-        13,
-        b"-1 2 -5 0\n3 1 0\n5 5 -3 0\nd -2 -1 0\n-5 0\n",
-        5,
-        true,
-    ),
-    (
-        3,
-        2,
-        b"1 1 2 0\n3 -2 0 3 2 0 1 -3 1 0 -1 -3 -3 0 1 3 0 -2 2 0 1 3 0",
-        8,
-        b"5 0\n-2 -2 5 0\nd -2 5 -2 0\n-1 0\n",
-        4,
-        true,
-    ),
-    (
-        3,
-        2,
-        b"1 3 -3 0\n3 -1 0 -3 1 0 1 -3 1 0 -2 -1 2 0 -1 3 -2 0 3 -2 1 0 -1 -3 0 -1 -3 3 0 -2 -3 0 1 3 2 0",
-        11,
-        b"-2 0\n4 -1 0\n-4 0\n",
-        3,
-        true,
-    ),
-    (
-        5,
-        0,
-        b"4 -4 1 0\n3 4 5 0 -3 -1 -5 0 5 2 0 2 3 0 2 3 -1 0 3 -2 2 0 2 5 0 -5 5 4 0 -1 -2 3 0 -5 1 5 0 -4 2 -1 \
-        0 1 5 0 -3 3 0 1 -3 0 -4 -2 -1 0 -5 -3 0 -2 -3 2 0 -3 5 -3 0 -5 3 0 5 4 0",
-        21,
-        b"5 1 -3 0\n-1 0\n",
-        2,
-        true,
-    ),
-    (
-        4,
-        2,
-        b"4 -3 0\n4 2 1 0 3 1 0 -2 -3 0 4 2 0 1 2 4 0 -4 -2 -4 0 2 -3 0 -1 1 0 4 -1 -2 0 -4 4 -2 0 -4 -1 2 0 -1 \
-        -1 -2 0 -1 2 0 3 1 0 -3 1 2 0 2 -2 -1 0 4 -4 0",
-        18,
-        b"-6 0\n-5 0\n2 -6 0\n-2 -6 0\n6 -2 0\n",
-        5,
-        true,
-    ),
+];
+
+// The clauses with the negation of the first literal.
+static NEGATIONS: [Steps; 6] = [
+    // The only clause with the negation does not give one that follows.
+    (3, 0, b"1 2 0\n-1 3 0", 2, b"1 0\n", 0, false),
+    // It does where another literal has both signs.
+    (3, 0, b"1 2 0\n-1 3 0", 2, b"1 -3 0\n", 1, false),
+    // The first literal may be any one.
+    (3, 0, b"1 2 0\n-1 3 0", 2, b"-3 1 0\n", 1, false),
+    // Each clause with the negation counts, also the last one.
+    (4, 0, b"-1 2 0\n-1 3 4 0", 2, b"1 -2 0\n", 0, false),
+    // Both are right.
+    (4, 0, b"-1 2 0\n-1 3 2 0", 2, b"1 -2 0\n", 1, false),
+    // By propagation.
+    (4, 0, b"-1 2 0\n2 3 0 -3 4 0 -4 2 0", 4, b"1 0\n", 1, false),
+];
+
+// First literals that are known, or are there twice.
+static KNOWN: [Steps; 6] = [
+    // The literal is known to be false.
+    (3, 0, b"-1 0\n2 3 0", 2, b"1 2 0\n", 0, false),
+    // Its negation is known to be true.
+    (3, 0, b"1 0\n2 3 0", 2, b"-1 2 0\n", 0, false),
+    // It stays known where its clause was deleted.
+    (3, 0, b"-1 0\n2 3 0", 2, b"d -1 0\n1 0\n", 1, false),
+    // The first literal is there twice.
+    (3, 0, b"2 3 0", 1, b"1 1 0\n", 1, false),
+    // Twice, and a clause has the negation.
+    (3, 0, b"-1 2 0\n2 3 0", 2, b"1 1 0\n", 0, false),
+    // The clause has the negation twice.
+    (3, 0, b"-1 -1 2 0", 1, b"1 -2 1 0\n", 1, false),
+];
+
+// Clauses of both signs, no clause, and literals that no clause has or none may have.
+static BOTH_SIGNS: [Steps; 7] = [
+    // A clause of both signs counts like any other one.
+    (3, 0, b"-1 1 2 0", 1, b"1 0\n", 0, false),
+    // It does not stand in the way of this one.
+    (3, 0, b"-1 1 2 0", 1, b"1 -2 0\n", 1, false),
+    // A clause of both signs follows.
+    (3, 0, b"2 3 0", 1, b"1 -1 0\n-2 2 3 0\n", 2, false),
+    // And counts once it was added.
+    (3, 0, b"2 3 0", 1, b"-1 1 2 0\n1 0\n", 1, false),
+    // The empty clause has no first literal.
+    (2, 0, b"1 2 0", 1, b"0\n", 0, false),
+    // A literal whose negation no clause has.
+    (3, 0, b"1 2 0\n-1 2 0", 2, b"3 0\n2 0\n", 2, false),
+    // An assignment satisfies the formula, and not with the step.
+    (2, 0, b"1 2 0\n-1 -2 0 1 -2 0", 3, b"-1 0\n", 0, false),
 ];
 
 // The formula of a row, with the variables of the proof's own.
@@ -559,10 +178,36 @@ fn is_as_expected(alloc: Global, row: Steps) -> bool {
     }
 }
 
-// Proofs by steps on first literals end where they should.
-#[test]
-fn steps_on_first_literals(rt: HostRuntime) {
-    for row in &PROOFS {
-        assert!(rt; is_as_expected(rt.alloc(), *row));
+/// Whether the proofs of a table end where they should.
+pub fn are_as_expected(alloc: Global, rows: &[Steps]) -> bool {
+    for row in rows {
+        if !is_as_expected(alloc, *row) {
+            return false;
+        }
     }
+    true
+}
+
+// The first step on a variable of the proof's own says what it stands for.
+#[test]
+fn steps_on_own_variables(rt: HostRuntime) {
+    assert!(rt; are_as_expected(rt.alloc(), &OWN_VARIABLES));
+}
+
+// A step is right if each clause with the negation of its first literal gives one that follows.
+#[test]
+fn steps_beside_negations(rt: HostRuntime) {
+    assert!(rt; are_as_expected(rt.alloc(), &NEGATIONS));
+}
+
+// What is known of the first literal counts.
+#[test]
+fn steps_on_known_literals(rt: HostRuntime) {
+    assert!(rt; are_as_expected(rt.alloc(), &KNOWN));
+}
+
+// A clause of both signs follows, and counts like any other one.
+#[test]
+fn steps_of_both_signs(rt: HostRuntime) {
+    assert!(rt; are_as_expected(rt.alloc(), &BOTH_SIGNS));
 }

@@ -27,6 +27,10 @@ mod own_variables;
 #[cfg(test)]
 mod parts;
 #[cfg(test)]
+mod random_refutations;
+#[cfg(test)]
+mod random_steps;
+#[cfg(test)]
 mod reader;
 #[cfg(test)]
 mod refutations;

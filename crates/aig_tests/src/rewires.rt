@@ -5,22 +5,8 @@ ghost use Rattle.aig_base.specs.Readers.{AreReaders};
 ghost use Rattle.aig_base.specs.Sections.{IsDefined, IsLeftSide};
 
 use crate::parts::{TWO_GATES, is_defined, of_file};
-use aig_base::{Circuit, LevelCopy, Levels, Lit, Memory, Readers};
+use aig_base::{Circuit, Levels, Lit, Memory, Readers};
 use std::alloc::Global;
-
-/// Keeps no copy of the levels.
-#[derive(Drop)]
-struct NoCopy;
-
-impl LevelCopy for NoCopy {
-    ghost has = { λ c levels. Unit {0} };
-
-    ghost Rest = { Unit {0} };
-
-    ghost rest = { λ c. tt };
-
-    fn set_level(&mut self, _variable: u32, _level: u32) {}
-}
 
 // Whether the gate got the right sides; it does not where they close a cycle.
 fn rewire_parts(
@@ -41,10 +27,7 @@ fn rewire_parts(
 {
     circuit.facts();
     readers.make_room(r0, r1)?;
-    if levels
-        .rewire(circuit, readers, gate, r0, r1, &mut NoCopy)
-        .is_err()
-    {
+    if levels.rewire(circuit, readers, gate, r0, r1).is_err() {
         return Ok(false);
     }
     readers.replace(circuit, gate, r0, r1);
