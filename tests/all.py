@@ -3,7 +3,7 @@
 
 The script with the large files takes most of the time, so it runs beside all others. With --crates the tests of the
 crates run beside both. It runs them by `rt try --test`, which proves nothing; in the gate `rt ci` proves and runs them.
-Of a script that fails, all output is shown."""
+Of a script that fails, all output is shown. A script that does not end in its time fails, and is ended."""
 
 import argparse
 import concurrent.futures
@@ -12,35 +12,57 @@ import re
 import shutil
 import subprocess
 import sys
+import tempfile
 import time
 
+from library import supervised
 from library.runs import REPOSITORY, TESTS
+from library.supervised import SECONDS
 
+# How long a script may take: half an hour, where a run may take two minutes.
+WHOLE_SECONDS = 15 * SECONDS
 LARGE = "run_large.py"
-SCRIPTS = ("run_program.py", "run_faults.py", "run_random.py", "run_library.py", "run_dist.py", "tour.py")
+SCRIPTS = ("run_bounds.py", "run_gate.py", "run_program.py", "run_faults.py", "run_random.py", "run_library.py",
+           "run_dist.py", "tour.py")
 # this runs aig_proof_tests
 STEPS = "run_steps.py"
-# this runs the package of Python
-PACKAGE = "python/tests/run_package.py"
+# these run the package of Python, and aig-verdicts as far as it needs no other program
+PACKAGES = ("python/tests/run_package.py", "python/tests/run_pages.py", "python/tests/run_bundles.py",
+            "python/tests/run_circuit.py")
 # this compares with the C++ program of the benchmarks on broken files
 COMPARED = ("benchmarks/measure.py", "compare", "--count", "40")
 # these read the sources and pages alone
-READERS = ("tools/definitions.py", "tools/contracts.py", "tools/edges.py", "tools/pages.py")
+READERS = ("tools/definitions.py", "tools/contracts.py", "tools/edges.py", "tools/unused.py", "tools/pages.py")
 CRATES = ("aig_tests", "aig_command_tests", "aig_bench_tests")
 COUNTS = re.compile(r"(\d+) passed[,;] (\d+) failed")
 SHOWN = re.compile(r"(?m)^.*(?: passed[,;] |left out|to believe|as the sources| compared, ).*\n")
 
 
-def ended(name, words, folder):
+def ran(name, words, folder, seconds):
+    """The exit status of a script and its output; no status where it was ended or not started. A file has the output,
+    as a pipe would wait for all that have it."""
+    status, why = None, ""
+    with tempfile.TemporaryFile() as output:
+        try:
+            status = supervised.run(words, timeout=seconds, cwd=folder, stdin=subprocess.DEVNULL, stdout=output,
+                                    stderr=subprocess.STDOUT).returncode
+        except subprocess.TimeoutExpired:
+            why = f"\nSTOPPED: {name}: it does not end within {seconds} seconds\n"
+        except OSError as error:
+            why = f"FAILED: {name}: it does not start: {error}\n"
+        output.seek(0)
+        return status, output.read().decode(errors="replace") + why
+
+
+def ended(name, words, folder, seconds=WHOLE_SECONDS):
     """Runs a script, prints what it says, and returns how many of its checks passed and failed. One that counts none is
     one check."""
     began = time.monotonic()
-    ran = subprocess.run(words, cwd=folder, stdin=subprocess.DEVNULL, stdout=subprocess.PIPE, stderr=subprocess.STDOUT,
-                         errors="replace", text=True, check=False)
-    counts = [(int(passed), int(failed)) for passed, failed in COUNTS.findall(ran.stdout)]
-    passed, failed = (sum(column) for column in zip(*counts)) if counts else (int(ran.returncode == 0), 0)
-    failed += ran.returncode != 0 and failed == 0
-    shown = ran.stdout if failed else "".join(SHOWN.findall(ran.stdout))
+    status, said = ran(name, words, folder, seconds)
+    counts = [(int(passed), int(failed)) for passed, failed in COUNTS.findall(said)]
+    passed, failed = (sum(column) for column in zip(*counts)) if counts else (int(status == 0), 0)
+    failed += status != 0 and failed == 0
+    shown = said if failed else "".join(SHOWN.findall(said))
     print(f"== {name}: {time.monotonic() - began:.0f} s\n{shown}", end="", flush=True)
     return passed, failed
 
@@ -60,7 +82,7 @@ def main():
         lanes[1] += [("compare", [f"{REPOSITORY}/{COMPARED[0]}", *COMPARED[1:], *named], REPOSITORY)]
     else:
         print("compare: left out: there is no c++", flush=True)
-    lanes[1] += [(PACKAGE, [f"{REPOSITORY}/{PACKAGE}", *program], REPOSITORY)]
+    lanes[1] += [(name, [f"{REPOSITORY}/{name}", *program], REPOSITORY) for name in PACKAGES]
     lanes[1] += [(name, [f"{REPOSITORY}/{name}"], REPOSITORY) for name in READERS]
     if chosen.crates:
         lanes.append([(name, ["rt", "try", "--test"], f"{REPOSITORY}/crates/{name}") for name in CRATES])

@@ -12,11 +12,12 @@ import importlib.util
 import os
 import re
 import shutil
-import subprocess
 import sys
+from subprocess import DEVNULL
 
-from library import runs
+from library import runs, supervised
 from library.runs import REPOSITORY, LeftOut, contents
+from library.supervised import SCRIPT_SECONDS
 from library.tour import take
 
 sys.path.insert(0, REPOSITORY + "/tools")
@@ -60,13 +61,13 @@ def look_for_library(library, tally, way, root):
     tally.check(f"{way}: aig.h", contents(f"{root}/include/aig.h") == contents(f"{REPOSITORY}/include/aig.h"))
     asked = [f"-I{root}/include", f"-L{root}/lib", "-laig"]
     if shutil.which("pkg-config"):
-        version, asked = (subprocess.run(["pkg-config", *words, f"{root}/lib/pkgconfig/aig.pc"], capture_output=True,
+        version, asked = (supervised.run(["pkg-config", *words, f"{root}/lib/pkgconfig/aig.pc"], capture_output=True,
                                          text=True, check=False).stdout.split()
                           for words in (("--modversion",), ("--cflags", "--libs")))
         tally.compare(f"{way}: the version of aig.pc", version, [make_wheel.VERSION])
-    subprocess.run(["cc", f"{REPOSITORY}/examples/verdict.c", *asked, "-o", f"{way}_verdict"], check=True)
+    supervised.run(["cc", f"{REPOSITORY}/examples/verdict.c", *asked, "-o", f"{way}_verdict"], check=True)
     files = [f"{REPOSITORY}/examples/wraps.{kind}" for kind in ("aag", "wit")]
-    done = subprocess.run([f"./{way}_verdict", *files], env={**os.environ, "LD_LIBRARY_PATH": f"{root}/lib"},
+    done = supervised.run([f"./{way}_verdict", *files], env={**os.environ, "LD_LIBRARY_PATH": f"{root}/lib"},
                           capture_output=True, text=True, check=False)
     tally.compare(f"{way}: a program in C", (done.returncode, done.stdout), (0, "confirmed\n"))
 
@@ -82,7 +83,7 @@ def look(program, tally, way, root, functions="zsh/site-functions"):
         found = contents(page) if os.path.exists(page) else gzip.decompress(contents(f"{page}.gz"))
         tally.check(f"{way}: the page {name}", found == text, page)
     bash = f"{share}/bash-completion/completions/aig"
-    asked = subprocess.run(["bash", "-c", 'source "$1" && complete -p aig', "bash", bash], capture_output=True,
+    asked = supervised.run(["bash", "-c", 'source "$1" && complete -p aig', "bash", bash], capture_output=True,
                            text=True, check=False)
     tally.check(f"{way}: bash takes the completion", asked.returncode == 0 and asked.stdout.endswith(" aig\n"), asked)
     zsh = contents(f"{share}/{functions}/_aig")
@@ -114,10 +115,10 @@ def archive(program, tally, _):
     name = release(program, "one")[0]
     top = name.removesuffix(".tar.gz")
     tally.compare("archive: its name", top, f"aig-{pack.version_of(program.path)}-x86_64-linux")
-    subprocess.run(["tar", "-xzf", f"one/{name}"], check=True)
+    supervised.run(["tar", "-xzf", f"one/{name}"], check=True)
     look(program, tally, "archive", top)
     tally.compare("archive: PROVENANCE", contents(f"{top}/share/doc/aig/PROVENANCE").decode(), PROVENANCE)
-    sums = subprocess.run(["sha256sum", "-c", "SHA256SUMS"], cwd="one", capture_output=True, text=True, check=False)
+    sums = supervised.run(["sha256sum", "-c", "SHA256SUMS"], cwd="one", capture_output=True, text=True, check=False)
     tally.check("archive: SHA256SUMS", sums.returncode == 0 and f"{name}: OK" in sums.stdout, sums)
     for file in release(program, "two"):
         tally.check("archive: a second one is the same", contents(f"one/{file}") == contents(f"two/{file}"), file)
@@ -130,28 +131,33 @@ def package(program, tally, _):
     need("make", "bash", "objdump", "dpkg-deb")
     name = release(program, "made")[1]
     version, libc = pack.version_of(program.path), pack.libc_of(program.path)
-    fields = subprocess.run(["dpkg-deb", "-f", f"made/{name}", "Package", "Version", "Architecture", "Depends"],
+    fields = supervised.run(["dpkg-deb", "-f", f"made/{name}", "Package", "Version", "Architecture", "Depends"],
                             capture_output=True, text=True, check=True).stdout
     wanted = f"Package: aig\nVersion: {version}\nArchitecture: amd64\nDepends: libc6 (>= {libc})\n"
     tally.compare("package: its fields", fields, wanted)
-    subprocess.run(["dpkg-deb", "-x", f"made/{name}", "root"], check=True)
+    supervised.run(["dpkg-deb", "-x", f"made/{name}", "root"], check=True)
     look(program, tally, "package", "root/usr", "zsh/vendor-completions")
     tally.compare("package: PROVENANCE", contents("root/usr/share/doc/aig/PROVENANCE").decode(), PROVENANCE)
 
 
 def in_environment(program, name, given, tally):
     """Installs the Python package into an environment of its own, without a network, and runs its tests there."""
-    subprocess.run([sys.executable, "-m", "venv", name], check=True)
+    supervised.run([sys.executable, "-m", "venv", name], check=True, timeout=SCRIPT_SECONDS)
     settings = {**os.environ, "AIG_PROGRAM": program.path}
-    pip = subprocess.run([f"{name}/bin/pip", "install", "-q", "--no-index", "--disable-pip-version-check", given],
-                         env=settings, capture_output=True, text=True, check=False)
+    pip = supervised.run([f"{name}/bin/pip", "install", "-q", "--no-index", "--disable-pip-version-check", given],
+                         env=settings, capture_output=True, text=True, check=False, timeout=SCRIPT_SECONDS)
     tally.compare(f"{name}: pip", (pip.returncode, pip.stderr), (0, ""))
     tally.check(f"{name}: the program", contents(f"{name}/bin/aig") == contents(program.path))
+    command = supervised.run([f"{name}/bin/aig-verdicts", "--version"], stdin=DEVNULL, capture_output=True,
+                             timeout=runs.SECONDS, check=False)
+    version = f"aig {pack.version_of(program.path)}".encode()
+    tally.check(f"{name}: aig-verdicts", command.returncode == 0 and command.stdout.startswith(version), command)
     words = [f"{name}/bin/python", f"{REPOSITORY}/python/tests/run_package.py", "--installed"]
     settings = {setting: text for setting, text in os.environ.items() if setting != "AIG_PROGRAM"}
     for part in ("names", "verdicts", "bench"):
         words += ["--part", part]
-    ran = subprocess.run([*words, program.path], env=settings, capture_output=True, text=True, check=False)
+    ran = supervised.run([*words, program.path], env=settings, capture_output=True, text=True, check=False,
+                         timeout=SCRIPT_SECONDS)
     tally.check(f"{name}: its tests", ran.returncode == 0 and ran.stdout.count(" 0 failed") == 3, ran)
 
 

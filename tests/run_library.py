@@ -14,14 +14,16 @@ import shutil
 import subprocess
 import sys
 
-from library import runs
+from library import runs, supervised
 from library.runs import EXAMPLES, REPOSITORY, TESTS, LeftOut, contents
 
 sys.path.insert(0, REPOSITORY + "/tools")
 import gate  # noqa: E402
+import pack  # noqa: E402
 from sources.exports import Crate  # noqa: E402
 
 HEADER = f"{REPOSITORY}/include/aig.h"
+PKG_CONFIG = f"{REPOSITORY}/tools/aig.pc"
 DONE, REFUSED, NO_ROOM = 0, 1, 2
 WARNINGS = ("-Wall", "-Wextra", "-Werror", "-pedantic")
 # the types in C of a parameter of an export
@@ -44,7 +46,7 @@ def need(*commands):
 
 
 def ran(*words):
-    return subprocess.run(words, stdin=subprocess.DEVNULL, stdout=subprocess.PIPE, stderr=subprocess.STDOUT, text=True,
+    return supervised.run(words, stdin=subprocess.DEVNULL, stdout=subprocess.PIPE, stderr=subprocess.STDOUT, text=True,
                           errors="replace", timeout=runs.SECONDS, check=False)
 
 
@@ -175,7 +177,19 @@ def as_program(program, tally, _):
         else:
             tally.compare(call, (status, b"aig: " + text + b"\n"), (REFUSED, wanted.err))
             tally.compare(f"{call}: no room for the message", called(library, name, given, 1), (REFUSED, b""))
-    tally.compare("each export", {name for _, name, _ in CALLS}, set(exports()))
+    tally.compare("each export", {name for _, name, _ in CALLS} | {"aig_version"}, set(exports()))
+
+
+def version(program, tally, _):
+    """Program, library, header and the file of pkg-config have one version."""
+    library = ctypes.CDLL(f"{folder_of(program)}/libaig.so")
+    wanted = pack.version_of(program.path).encode()
+    for room in (len(wanted), 64):
+        tally.compare(f"the version, in a room of {room}", called(library, "aig_version", [], room), (DONE, wanted))
+    for room in (0, len(wanted) - 1):
+        tally.compare(f"the version, in a room of {room}", called(library, "aig_version", [], room), (NO_ROOM, 77))
+    for file, form in ((HEADER, rb'(?m)^#define AIG_VERSION "(.*)"$'), (PKG_CONFIG, rb"(?m)^Version: (.*)$")):
+        tally.compare(f"the version in {file}", re.findall(form, contents(file)), [wanted])
 
 
 # the words of a command, the call of its name, and its arguments: files by their names
@@ -237,7 +251,8 @@ CALLS = [
      ["ring.aag", "ring.cert.aag", "empty", 0]),
 ]
 
-PARTS = {"header": header, "calls": calls, "memory": memory, "examples": examples, "as_program": as_program}
+PARTS = {"header": header, "version": version, "calls": calls, "memory": memory, "examples": examples,
+         "as_program": as_program}
 
 if __name__ == "__main__":
     runs.main(__doc__, PARTS)

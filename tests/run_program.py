@@ -11,6 +11,7 @@ from program.certificates import certificates
 from program.check import check
 from program.cnf import cnf
 from program.completions import completions
+from program.definitions import definitions
 from program.descriptors import descriptors
 from program.diagnostics import diagnostics
 from program.explain import explain
@@ -19,6 +20,8 @@ from program.helps import helps
 from program.info import info
 from program.kept import kept
 from program.large_proofs import large_proofs
+from program.large_saves import large_saves
+from program.large_session import large_session
 from program.names import names
 from program.needs import needs
 from program.owners import owners
@@ -29,6 +32,7 @@ from program.properties import properties
 from program.reduce import reduce
 from program.refute import refute
 from program.replays import replays
+from program.same_files import same_files
 from program.select import select
 from program.shell import shell
 from program.sim import sim
@@ -44,11 +48,12 @@ from program.words import words
 PARTS = {"bench": bench, "kept": kept, "owners": owners, "descriptors": descriptors, "words": words, "sim": sim,
          "wave": wave, "check": check, "replays": replays, "toaig": toaig, "unroll": unroll, "cnf": cnf,
          "info": info, "select": select, "witness": witness, "refute": refute, "proofs": proofs,
-         "large_proofs": large_proofs, "certificates": certificates, "properties": properties,
+         "large_proofs": large_proofs, "definitions": definitions, "certificates": certificates, "properties": properties,
          "names": names, "ample": ample, "reduce": reduce, "why": why, "help": helps,
          "pages": pages, "completions": completions, "diagnostics": diagnostics, "explain": explain,
          "explain_option": explain_option, "needs": needs, "talks": talks, "progress": progress, "terminals": terminals,
-         "shell": shell}
+         "shell": shell, "large_session": large_session,
+         "large_saves": large_saves, "same_files": same_files}
 
 if __name__ == "__main__":
     runs.main(__doc__, PARTS)

@@ -6,11 +6,14 @@ Debian's packages `yosys`, `berkeley-abc`, `cadical`, `picosat`, `minisat`, `cry
 `xauth`, `python3-click` and `z3`, and a run takes some minutes."""
 
 from library import runs
+from tools.aig_verdicts import aig_verdicts
 from tools.certificates import certificates
 from tools.conversions import conversions
+from tools.designs import designs
 from tools.flow import flow
 from tools.maps import maps
 from tools.own_variables import own_variables
+from tools.pages import pages
 from tools.proofs import proofs
 from tools.solvers import solvers
 from tools.traces import traces
@@ -21,7 +24,8 @@ from tools.witnesses import witnesses
 
 PARTS = {"conversions": conversions, "unrolled": unrolled, "maps": maps, "witnesses": witnesses, "waves": waves,
          "flow": flow, "proofs": proofs, "solvers": solvers, "own_variables": own_variables,
-         "certificates": certificates, "verdicts": verdicts, "traces": traces}
+         "certificates": certificates, "verdicts": verdicts, "aig_verdicts": aig_verdicts, "designs": designs,
+         "pages": pages, "traces": traces}
 
 if __name__ == "__main__":
     runs.main(__doc__, PARTS)

@@ -1,8 +1,8 @@
 #!/usr/bin/env python3
 """Tries the wrong bodies that no contract refuses, which only tests see: the edits in tests/wrong_bodies/. All are in one
 program, built without proofs, and the variable AIG_WRONG chooses one of them when it runs. Each runs the parts of the
-scripts that tests/wrong_bodies.txt names beside it, and is seen if a check of each of them fails. Without AIG_WRONG the
-same parts have to pass.
+scripts that tests/wrong_bodies.txt names beside it, and is seen if a check of each of them fails. A part that was
+stopped, or that ended otherwise, has seen nothing. Without AIG_WRONG the same parts have to pass.
 
 An edit has lines of prose, then `file:` with the path of a source, and pairs of `old:` and `new:` as planted bugs have
 them (docs/TESTING.md): a piece of one line, in the body of a function, that is in the file exactly once.
@@ -20,24 +20,31 @@ import subprocess
 import sys
 import tempfile
 
+from library import supervised
+
 sys.path.insert(0, os.path.dirname(os.path.dirname(os.path.abspath(__file__))) + "/tools")
 import planted  # noqa: E402
 
 ROOT = planted.ROOT
 EDITS, SEEN = ROOT / "tests/wrong_bodies", ROOT / "tests/wrong_bodies.txt"
 VARIABLE = "AIG_WRONG"
-# A run that goes on for ever fails its part after so many seconds.
-SECONDS = "10"
+# A run that goes on for ever fails its check after so many seconds, and a part is ended after so many.
+SECONDS, PART_SECONDS = 10, 600
+BUILD_SECONDS = 3600
 # Those that are tried for a bug that is not in the list, the quick ones first.
 PARTS = (*(f"run_program.py {part}" for part in (
     "refute", "proofs", "large_proofs", "certificates", "ample", "bench", "sim", "wave", "check", "replays", "toaig", "unroll",
     "cnf", "info", "select", "witness", "properties", "names", "reduce", "why", "kept", "owners", "descriptors", "words", "help",
-    "diagnostics", "explain", "explain_option", "needs", "talks")),
-    *(f"run_faults.py {part}" for part in ("kept", "writes", "calls", "allocations")),
-    *(f"run_random.py {part}" for part in ("hostile", "scripts", "waves", "formulas", "witnesses", "certificates")),
+    "diagnostics", "explain", "explain_option", "needs", "talks", "same_files", "definitions", "shell", "large_session",
+    "large_saves")),
+    *(f"run_faults.py {part}" for part in ("kept", "writes", "calls", "allocations", "limits")),
+    *(f"run_random.py {part}" for part in (
+        "hostile", "scripts", "waves", "formulas", "witnesses", "certificates", "sessions")),
     *(f"run_large.py {part}" for part in ("files", "block_edges")))
 
 Wrong = collections.namedtuple("Wrong", "name prose file changes")
+# Whether a check of a part failed: True, None where all passed, and False where the part did not come to its end.
+Seen = collections.namedtuple("Seen", "is_seen why")
 
 
 def read(path):
@@ -140,23 +147,32 @@ def built(program, edits):
         shutil.copy(ROOT / "HANDLES", room)
         shutil.copytree(ROOT / "crates", room / "crates", ignore=shutil.ignore_patterns("out", "target"))
         taken = patched(room, edits)
-        subprocess.run([ROOT / "tools/build_unproved.sh", room, "aig", program, room / "choice.c"], check=True)
+        supervised.run([ROOT / "tools/build_unproved.sh", room, "aig", program, room / "choice.c"], check=True,
+                       timeout=BUILD_SECONDS)
     return taken
 
 
 def failures(program, part, name):
-    """What a part prints of checks that fail where the wrong body of this name is chosen; None where it passes."""
+    """What a part shows of the wrong body of this name, or of the right bodies where there is no name."""
     script, part = part.split()
-    environment = {**os.environ, "AIG_TEST_SECONDS": SECONDS}
+    environment = {**os.environ, "AIG_TEST_SECONDS": str(SECONDS)}
     environment.pop(VARIABLE, None)
     if name:
         environment[VARIABLE] = name
-    ran = subprocess.run([ROOT / "tests" / script, "--part", part, program], env=environment, stdin=subprocess.DEVNULL,
-                         stdout=subprocess.PIPE, stderr=subprocess.STDOUT, errors="replace", text=True, check=False)
-    if ran.returncode == 0:
-        return None
-    lines = re.findall(r"(?m)^FAILED: (.*)", ran.stdout) or ran.stdout.strip().splitlines()[-1:] or [""]
-    return lines[0][:100]
+    with tempfile.TemporaryFile() as output:
+        try:
+            status = supervised.run([ROOT / "tests" / script, "--part", part, program], timeout=PART_SECONDS,
+                                    env=environment, stdin=subprocess.DEVNULL, stdout=output,
+                                    stderr=subprocess.STDOUT).returncode
+        except subprocess.TimeoutExpired:
+            return Seen(False, f"it does not end within {PART_SECONDS} seconds")
+        output.seek(0)
+        said = output.read().decode(errors="replace")
+    if status == 0:
+        return Seen(None, "all checks pass")
+    lines = re.findall(r"(?m)^FAILED: (.*)", said)
+    last = (said.strip().splitlines() or [""])[-1]
+    return Seen(True, lines[0][:100]) if lines else Seen(False, f"no check fails, status {status}: {last[:100]}")
 
 
 def listed():
@@ -170,14 +186,14 @@ def listed():
 
 
 def tried(program, name, parts):
-    """What each of these parts says of a wrong body; those of PARTS up to the first that sees it, where there are none."""
+    """What each of these parts shows of a wrong body; of no parts, what the first of PARTS shows that sees it."""
     if parts:
         return [(part, failures(program, part, name)) for part in parts]
     for part in PARTS:
-        why = failures(program, part, name)
-        if why is not None:
-            return [(part, why)]
-    return []
+        seen = failures(program, part, name)
+        if seen.is_seen:
+            return [(part, seen)]
+    return [("no part", Seen(None, "of all"))]
 
 
 HEAD = """# Wrong bodies that no contract refuses, and a part of the tests that sees each. tests/wrong_bodies.py tries them; it
@@ -206,16 +222,17 @@ def main():
         chosen = [edit.name for edit in edits if not words.only or any(word in edit.name for word in words.only)]
         with concurrent.futures.ThreadPoolExecutor(words.jobs) as pool:
             right = sorted({part for name in chosen for part in parts[name]})
-            for part, why in zip(right, pool.map(lambda part: failures(program, part, None), right)):
-                if why is not None:
-                    print(f"{part}: FAILED: without a wrong body: {why}", flush=True)
+            for part, seen in zip(right, pool.map(lambda part: failures(program, part, None), right)):
+                if seen.is_seen is not None:
+                    print(f"{part}: FAILED: without a wrong body: {seen.why}", flush=True)
                     failed += 1
-            for name, seen in zip(chosen, pool.map(lambda name: tried(program, name, parts[name]), chosen)):
-                for part, why in seen or [("no part", None)]:
-                    print(f"{name}: {part}: " + ("FAILED: not seen" if why is None else f"seen: {why}"), flush=True)
-                is_seen = bool(seen) and all(why is not None for _, why in seen)
+            for name, found in zip(chosen, pool.map(lambda name: tried(program, name, parts[name]), chosen)):
+                for part, seen in found:
+                    how = "seen" if seen.is_seen else "FAILED: not seen"
+                    print(f"{name}: {part}: {how}: {seen.why}", flush=True)
+                is_seen = all(seen.is_seen for _, seen in found)
                 passed, failed = passed + is_seen, failed + (not is_seen)
-                parts[name] = [part for part, why in seen if why is not None]
+                parts[name] = [part for part, seen in found if seen.is_seen]
     if words.write:
         known = {edit.name for edit in edits}
         SEEN.write_text(HEAD + "".join(f"{name}: {part}\n" for name in sorted(known) for part in parts[name]))

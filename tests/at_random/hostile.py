@@ -7,14 +7,12 @@ that they ask for. (Status 2 and 3 are not to come: the arguments are right, and
 What a circuit is converted to is written back as it stands, converts both ways, and has the circuit's traces. Not that
 a broken file gets the right answer."""
 
-import os
 import re
 import resource
-import signal
 import subprocess
 
 from at_random.cases import Wrong, each
-from library import broken
+from library import broken, supervised
 from library.runs import DESIGNS, EXAMPLES, contents, contents_of, write
 
 LINE = re.compile(
@@ -63,16 +61,12 @@ class Runs:
     def measured(self, words):
         """The status of a run and what it used; its output and what it said are files."""
         with open("out", "wb") as out, open("err", "wb") as err:
-            child = subprocess.Popen([self.program, *words], stdin=subprocess.DEVNULL, stdout=out, stderr=err)
-            signal.alarm(SECONDS)
             try:
-                _, state, usage = os.wait4(child.pid, 0)
-            except TimeoutError:
-                child.kill()
+                with supervised.Popen([self.program, *words], SECONDS, stdin=subprocess.DEVNULL, stdout=out,
+                                      stderr=err) as child:
+                    usage = child.usage()
+            except subprocess.TimeoutExpired:
                 raise Wrong(f"{words}: it takes over {SECONDS} seconds") from None
-            finally:
-                signal.alarm(0)
-        child.returncode = os.waitstatus_to_exitcode(state)
         return child.returncode, usage
 
     def converts(self, work, data, rows):
@@ -210,13 +204,8 @@ def case(runs, sources, designs, rng):
     runs.strengthens(work + len(certificate) + 5 * (most + broken.counts_of(certificate)[0]))
 
 
-def late(*_):
-    raise TimeoutError
-
-
 def hostile(program, tally, chosen):
     sources, designs = contents_of(EXAMPLES, (".aag", ".aig")), contents_of(DESIGNS, (".v",))
-    signal.signal(signal.SIGALRM, late)
     resource.setrlimit(resource.RLIMIT_CORE, (0, 0))
     runs = Runs(program)
     each("hostile", tally, chosen, lambda rng: case(runs, sources, designs, rng))

@@ -6,13 +6,15 @@ import re
 
 from at_random.cases import Wrong, each
 from library.broken import circuit, stimulus
+from library.causes import Names
 from library.reference import Parts, Workbench, literal, rows_of, trace, values
 from library.runs import Ended, write
 
 SECTIONS = {"i": "inputs", "l": "latches", "o": "outputs", "b": "bad"}
-REFUSED = "no: [^\n]*\n"
-# How many frames are shown where none are named.
-SHOWN = 64
+# Stands for the answer to a line that is refused.
+REFUSED = "no: "
+# How many frames are shown where none are named, how many columns a line has, and of which the names of a table.
+SHOWN, COLUMNS, NAME = 64, 80, 30
 
 
 def named(design, rng):
@@ -28,11 +30,12 @@ def named(design, rng):
 
 
 def table(first, rows):
-    """Rows of texts, a column for each frame, in lines of 80 columns."""
+    """Rows of texts, a column for each frame, in lines of 80 columns. A name that is cut ends in two dots."""
     count = len(rows[0][1])
-    name = min(30, max(5, *(len(row[0]) for row in rows)))
+    rows = [(name if len(name) <= NAME else f"{name[:NAME - 2]}..", texts) for name, texts in rows]
+    name = max(5, *(len(row[0]) for row in rows))
     cell = max(len(str(first + count - 1)), *(len(text) for _, texts in rows for text in texts))
-    most = max(1, (80 - name) // (cell + 1))
+    most = max(1, (COLUMNS - name) // (cell + 1))
     blocks = []
     for begin in range(0, count, most):
         part = range(begin, min(begin + most, count))
@@ -42,26 +45,47 @@ def table(first, rows):
     return "\n".join(blocks)
 
 
+def folded(words):
+    """Words in lines of 80 columns at most, or of one word."""
+    text, column = "", 0
+    for word in words:
+        is_over = column + 1 + len(word) > COLUMNS
+        text += ("\n" if is_over else " ") * (text != "") + word
+        column = len(word) + (0 if is_over or column == 0 else column + 1)
+    return f"{text}\n"
+
+
+def are_answers(said, answers):
+    """Whether a text is these answers one after the other."""
+    at = 0
+    for answer in answers:
+        if not said.startswith(answer, at):
+            return False
+        at = said.find("\n", at) + 1 if answer == REFUSED else at + len(answer)
+    return at == len(said)
+
+
 class Session:
-    """A session beside which the program's is compared: each line gives a pattern of its answer."""
+    """A session beside which the program's is compared: each line gives its answer."""
 
     def __init__(self, design, rows):
         self.parts = Parts(design)
         self.resets = [latch[2] for latch in self.parts.latches]
         self.bench = Workbench(self.parts, rows)
-        self.has_names = re.search("^[ilob]0 ", design, re.MULTILINE) is not None
+        self.names_of = Names(design, self.parts)
 
     def literal_of(self, word):
         """The literal that a word means; none where it means none."""
-        flip, name = word.startswith("!"), word.lstrip("!")
-        if name.isdigit():
-            l = int(name)
-            found = l if l <= 2 * self.parts.maximum + 1 and self.parts.is_defined(l) else None
-        else:
-            section = getattr(self.parts, SECTIONS[name[0]])
-            entry = section[int(name[1:])] if int(name[1:]) < len(section) else None
-            found = entry[0] if isinstance(entry, list) else entry
-        return None if found is None else found ^ flip
+        found = self.names_of.literals(word, self.parts)
+        return found[0] if found else None
+
+    def side(self, l):
+        """A side: an input or a latch by its name, any other by its number."""
+        for letter in "il":
+            section = self.names_of.sections[letter]
+            if l & ~1 in section:
+                return "!" * (l & 1) + self.names_of.first((letter, section.index(l & ~1)))
+        return str(l)
 
     def frames_of(self, word):
         first, _, last = word.partition("-")
@@ -79,7 +103,7 @@ class Session:
         known = values(self.parts, self.bench.rows)
         note = f"frames 0 to {least - 1} are left out; @A-B names frames\n" if least and words[-1][0] != "@" else ""
         rows = [(name, [literal(known[t], l) for t in frames]) for name, l in zip(names, literals)]
-        return re.escape(note + table(frames[0], rows))
+        return note + table(frames[0], rows)
 
     def set(self, frames, name, value):
         frames, l = self.frames_of(frames), self.literal_of(name)
@@ -111,7 +135,19 @@ class Session:
         literals = [self.literal_of(word) for word in words]
         if None in literals or (len(words) == 3 and self.bench.rewire(*literals)):
             return REFUSED
-        return f"{re.escape(words[0])} = [^\n]*{' and ' if len(words) == 3 else ''}[^\n]*\n"
+        return f"{self.defined(words[0], literals[0])}\n"
+
+    def defined(self, word, l):
+        """What a literal is, by the word that names it."""
+        even = l & ~1
+        head = [f"{word} = {l}"] * (word != str(l) or l == even) + [f"{l} = !{even}"] * (l & 1)
+        if even in self.parts.gates:
+            a, b = map(self.side, self.parts.gates[even])
+            return ", ".join([*(head if word != str(even) else []), f"{even} = {a} and {b}"])
+        for latch, reset in zip(self.parts.latches, self.resets):
+            if latch[0] == even:
+                return f"{', '.join(head)}: latch, next {self.side(latch[1])}, reset {reset if reset in (0, 1) else 'x'}"
+        return f"{', '.join(head)}: {'input' if even else 'constant'}"
 
     def new(self, *words):
         literals = [self.literal_of(word) for word in words]
@@ -120,33 +156,78 @@ class Session:
         return f"{2 * self.parts.maximum}\n"
 
     def out(self, name, word):
-        place, l = int(name[1:]), self.literal_of(word)
-        return REFUSED if l is None or self.bench.set_output(place, l) else ""
+        (letter, place), *others = self.names_of.known.get(name, [("none", 0)])
+        l = self.literal_of(word)
+        return REFUSED if letter != "o" or others or l is None or self.bench.set_output(place, l) else ""
+
+    def reached(self, name=None):
+        """The first frame at which the run reaches a property, and of those that it reaches then the first."""
+        if self.other_start():
+            return None
+        asked = [self.names_of.known[name][0][1]] if name else range(len(self.parts.bad))
+        for t, row in enumerate(values(self.parts, self.bench.rows)):
+            if any(literal(row, l) != "1" for l in self.parts.constraints):
+                return None
+            for place in asked:
+                if literal(row, self.parts.bad[place]) == "1":
+                    return t, place
+        return None
+
+    def witness(self, file, name=None):
+        found = self.reached(name)
+        return f"b{found[1]} at {found[0]}: {file}\n" if found else REFUSED
+
+    def witness_text(self, name=None):
+        """The text of that witness."""
+        frame, place = self.reached(name)
+        start = "".join(a for a, _ in self.starts())
+        return "".join(f"{line}\n" for line in ["1", f"b{place}", start, *map("".join, self.bench.rows[:frame + 1]), "."])
 
     def starts(self):
-        """Whether all latches start as their resets say, and whether those with a reset of 0 or 1 do."""
-        pairs = [(latch[2] if latch[2] in (0, 1) else "x", reset if reset in (0, 1) else "x")
-                 for latch, reset in zip(self.parts.latches, self.resets)]
-        return all(a == b for a, b in pairs), all(a == b for a, b in pairs if b != "x")
+        """How each latch starts, and how its reset says, as letters."""
+        return [tuple(str(each) if each in (0, 1) else "x" for each in (latch[2], reset))
+                for latch, reset in zip(self.parts.latches, self.resets)]
+
+    def other_start(self):
+        """The first latch that starts as its reset does not allow, and how; none where there is none."""
+        return next(((place, a) for place, (a, b) in enumerate(self.starts()) if b not in ("x", a)), None)
+
+    def called(self, letter, place):
+        """An entry by letter and position, and then by its name where that is another one."""
+        plain, name = f"{letter}{place}", self.names_of.first((letter, place))
+        return plain if plain == name else f"{plain} {name}"
 
     def check(self):
         known = values(self.parts, self.bench.rows)
         broken = next(((t, place, literal(row, l)) for t, row in enumerate(known)
                        for place, l in enumerate(self.parts.constraints) if literal(row, l) != "1"), None)
-        is_start = self.starts()[1]
+        other = self.other_start()
         said = "" if self.parts.bad else "the circuit has no bad state property\n"
         for place, l in enumerate(self.parts.bad):
             column = [literal(row, l) for row in known]
-            said += f"b{place} bb{place}: " if self.has_names else f"b{place}: "
+            said += f"{self.called('b', place)}: "
             if "1" in column:
                 t = column.index("1")
-                is_run = is_start and (not broken or t < broken[0])
+                is_run = not other and (not broken or t < broken[0])
                 said += f"reached at {t}\n" if is_run else f"1 at {t}, not a run\n"
             else:
                 said += f"not reached, x at {column.index('x')}\n" if "x" in column else "not reached\n"
         if broken:
-            said += f"c{broken[1]} is {broken[2]} at {broken[0]}\n"
-        return re.escape(said) + ("" if is_start else "l+[0-9]+ starts at [01x], not at its reset\n")
+            said += f"{self.names_of.first(('c', broken[1]))} is {broken[2]} at {broken[0]}\n"
+        if other:
+            said += f"{self.names_of.first(('l', other[0]))} starts at {other[1]}, not at its reset\n"
+        return said
+
+    def names(self, part=""):
+        """The signals, and the further words of those that are one entry, each once."""
+        listed = {}
+        for signal in self.names_of.signals:
+            entry = signal.letter, signal.positions[0]
+            further = self.names_of.words.get(entry, [])[1:] if len(signal.positions) == 1 else []
+            listed.update(dict.fromkeys([signal.name, *further]))
+        found = [name for name in listed if part in name]
+        nothing = REFUSED if part else "the circuit has no names\n"
+        return folded(found) if found else nothing
 
     def answer(self, line):
         command, *words = line.split()
@@ -173,9 +254,10 @@ def lines_of(rng, parts, frames):
             "start": lambda: f"{name('lllli')} {rng.choice('01x')}",
             "add": lambda: rng.choice(("", "2", "0", "40")), "drop": lambda: rng.choice(("", "1", "3", "99")),
             "gate": lambda: rng.choice((word(), f"{word()} {word()} {word()}")), "new": lambda: f"{word()} {word()}",
-            "out": lambda: f"{name('o')} {word()}", "check": lambda: ""}
+            "out": lambda: f"{name('o')} {word()}", "check": lambda: "",
+            "names": lambda: rng.choice(("", "i", "l", "b1", "oo", "nix"))}
     for _ in range(rng.randrange(30)):
-        command = rng.choice(("show", "show", "set", "set", "start", "add", "drop", "gate", "new", "out", "check"))
+        command = rng.choice(("show", "show", "set", "set", "start", "add", "drop", "gate", "new", "out", "check", "names"))
         yield f"{command} {made[command]()}"
 
 
@@ -186,14 +268,14 @@ def case(program, rng, counts):
     write("rows", rows)
     session = Session(design, rows_of(rows))
     lines = list(lines_of(rng, Parts(design), rows.count("\n")))
-    wanted = "".join(map(session.answer, lines))
-    is_whole = session.starts()[0]
-    wanted += "" if is_whole else "saved.stim has no start of latches; witness FILE has\n"
+    wanted = [session.answer(line) for line in lines]
+    is_whole = all(a == b for a, b in session.starts())
+    wanted += [] if is_whole else ["saved.stim has no start of latches; witness FILE has\n"]
     text = "\n".join([*lines, "save saved.aag saved.stim", "quit", "quit"]) + "\n"
     write("lines", text)
     ended = program.run("shell", "circuit", "rows", input=text.encode())
     said = re.sub("unsaved: run; quit again to leave\n\\Z", "", ended.out.decode())
-    if ended.status or ended.err or not re.fullmatch(wanted, said):
+    if ended.status or ended.err or not are_answers(said, wanted):
         raise Wrong(f"status {ended.status}, {ended.err[:200]!r}, other answers than wanted")
     for latch, reset in zip(session.parts.latches, session.resets):
         latch[2] = reset

@@ -54,6 +54,10 @@ static void circuits(void)
 {
     uint8_t room[2048], small[8] = "as it is";
     size_t length = 77;
+    WANT(aig_version(small, sizeof AIG_VERSION - 2, &length) == AIG_NO_ROOM);
+    WANT(length == 77 && !memcmp(small, "as it is", 8));
+    WANT(aig_version(ROOM) == AIG_DONE && says(room, length, AIG_VERSION));
+    length = 77;
     WANT(aig_toaig(OF(wraps), true, small, sizeof small, &length) == AIG_NO_ROOM);
     WANT(length == 77 && !memcmp(small, "as it is", 8));
     WANT(aig_toaig(TEXT(""), true, small, 4, &length) == AIG_REFUSED && length == 0 && !memcmp(small, "as it is", 8));

@@ -1,13 +1,15 @@
 """Allocations that are refused, one in each run. The run writes a prefix of what the whole run writes, says that it is
 out of memory, and ends with status 3; or it does without, and ends as the whole run does. A script may also answer `no
 11` to a line that takes memory, and go on. Then scripts with no memory at all after their beginning: edits take none,
-except a fifth gate that reads a variable and a gate that is appended."""
+except a fifth and a ninth gate that read a variable, and a gate that is appended."""
 
 import re
 
 from faults.refusing import Refusing
 from library.circuits import TEXTS, write_all
+from library.definitions import deletions, one_bit
 from library.runs import EXAMPLES, Ended, write
+from program.proofs import text_of
 
 MEMORY = re.compile(rb"aig: ((circuit|stimulus|witness|unroll|cnf|bench|script|select|proof|step proof|model|certificate|strengthen): )?memory\n")
 TWO_GATES = [f"{EXAMPLES}/two_gates.{ending}" for ending in ("aag", "stim", "script")]
@@ -33,7 +35,7 @@ RUNS = (
     ("names", ["info", "--names", "sections"]),
     ("witness", ["witness", f"{EXAMPLES}/wraps.aag", f"{EXAMPLES}/wraps.stim"]),
     ("witness of a model", ["witness", "--model", "model", "--frames", "2", "guarded"]),
-    ("refute", ["refute", "--frames", "1", "never", "proof"]),
+    ("refute", ["refute", "--frames", "1", "never", "own"]),
     ("refute by a proof that deletes", ["refute", "--frames", "3", f"{EXAMPLES}/wraps.aag", f"{EXAMPLES}/wraps.drat"]),
     ("refute with a step", ["refute", "--frames", "1", "--step", "step", "never", "proof"]),
     ("reduce", ["reduce", f"{EXAMPLES}/wraps.aag", f"{EXAMPLES}/wraps.wit"]),
@@ -52,6 +54,9 @@ RUNS = (
     ("select that renumbers", ["select", "--to", "aig", "--from", "outputs", f"{EXAMPLES}/two_gates.aag"]),
 )
 
+# A refutation of it with names that differ in one bit, and a clause of 31 literals that is deleted.
+OWN = [*one_bit([97]), *deletions(200)[35:40], (False, [2])]
+
 # No run reaches the bad state; propagation alone shows it of no frame.
 NEVER = "aag 9 2 0 0 7 1\n2\n4\n18\n6 5 3\n8 4 3\n10 5 2\n12 4 2\n14 9 7\n16 13 11\n18 16 14\n"
 
@@ -62,14 +67,37 @@ NAMED = ("aag 7 2 2 1 2 2 1\n2\n4\n6 10 1\n8 4 8\n9\n10\n9\n3\n10 12 6\n12 4 2\n
 CLAIMS = "aag 5 2 2 1 1 0 1\n2\n4\n6 10 1\n8 3 0\n5\n7\n10 4 2\ni0 = 13\ni1 free\nl0 started\nl1 = 8\no0 claim\nc0 held\n"
 
 # Four gates read an input without memory, so that the fifth takes some: where that is refused, the edits after it see
-# the gate as it was, with the levels and the fan-outs of the circuit as it was.
-FAN_OUT = "aag 8 2 0 1 6\n2\n4\n16\n6 4 4\n8 4 4\n10 4 4\n12 4 4\n14 4 4\n16 14 6\n"
-FIFTH_READER = "".join(f"w {gate} 2 2\n" for gate in (6, 8, 10, 12, 14))
-FIFTH_READER += "s 0 0 x\nt\nw 12 4 5\nw 14 2 2\ns 0 0 1\nt\nw 6 14 14\nw 14 6 6\nv 0 16\n"
-TAKEN = "ok\n" * 6 + " x0 x \n.\n"
-NOT_TAKEN = "ok\n" * 4 + "no 11\nok\n x0 0 \n.\n"
+# the gate as it was, with the levels and the fan-outs of the circuit as it was. So it is with the ninth gate in a
+# circuit that has memory for five to eight.
+FIFTH = "aag 8 2 0 1 6\n2\n4\n16\n6 4 4\n8 4 4\n10 4 4\n12 0 0\n14 0 0\n16 14 6\n"
+NINTH = "aag 12 2 0 1 10\n2\n4\n24\n" + "".join(f"{gate} 4 4\n" for gate in range(6, 24, 2)) + "24 22 6\n"
 BEHIND = "ok\n" * 3 + " 10 1 \n.\nok\nno 5\n1\n"
-UNROLLED = "aag 8 2 0 1 6\n2\n4\n16\n6 2 2\n8 2 2\n10 5 4\n12 2 2\n14 12 12\n16 14 12\n.\n"
+
+
+def reading(last):
+    """Lines by which the gates from 6 to this one read the first input, and lines behind them."""
+    lines = "".join(f"w {gate} 2 2\n" for gate in range(6, last + 2, 2))
+    return lines + f"s 0 0 x\nt\nw {last - 2} 4 5\nw {last} 2 2\ns 0 0 1\nt\nw 6 {last} {last}\nw {last} 6 6\nv 0 {last + 2}\n"
+
+
+def taken(last):
+    return "ok\n" * (last // 2 - 1) + " x0 x \n.\n"
+
+
+def not_taken(last):
+    return "ok\n" * (last // 2 - 3) + "no 11\nok\n x0 0 \n.\n"
+
+
+def unrolled(last):
+    """The circuit unrolled after these lines."""
+    gates = "".join(f"{gate} 2 2\n" for gate in range(6, last - 4, 2))
+    return (f"aag {last // 2 + 1} 2 0 1 {last // 2 - 1}\n2\n4\n{last + 2}\n{gates}{last - 4} 5 4\n{last - 2} 2 2\n"
+            f"{last} {last - 2} {last - 2}\n{last + 2} {last} {last - 2}\n.\n")
+
+
+def replies_of(last):
+    return (taken(last) + BEHIND + unrolled(last), not_taken(last) + BEHIND + unrolled(last), taken(last) + BEHIND + "no 11\n")
+
 
 # Gates that are appended. Whether the second one takes memory too is not said.
 APPENDED = "g 9 2\nv 0 10\no 0 10\ng 4 10\nv 0 12\nt\nu\nv 0 8\n"
@@ -82,8 +110,8 @@ SCRIPTS = (
      ("ok\n1\nok\n0\naag 8 4 0 2 4\n2\n4\n6\n8\n12\n16\n10 4 2\n12 4 2\n14 8 6\n16 8 6\n.\n1\n",
       "ok\n1\nno 11\nno 6\naag 4 2 0 1 2\n2\n4\n8\n6 4 2\n8 4 2\n.\n1\n",
       "ok\n1\nok\n0\nno 11\n1\n"), ()),
-    ("bench that rewires a fifth gate to a variable", FAN_OUT, "10\n", FIFTH_READER + "u\n",
-     (TAKEN + BEHIND + UNROLLED, NOT_TAKEN + BEHIND + UNROLLED, TAKEN + BEHIND + "no 11\n"), ()),
+    ("bench that rewires a fifth gate to a variable", FIFTH, "10\n", reading(14) + "u\n", replies_of(14), ()),
+    ("bench that rewires a ninth gate to a variable", NINTH, "10\n", reading(22) + "u\n", replies_of(22), ()),
     ("bench that appends gates", TEXTS["two_gates"], "11\n", APPENDED,
      (BOTH + "aag 6 2 0 1 4\n2\n4\n10\n6 4 2\n8 6 2\n10 9 2\n12 10 4\n.\n1\n",
       "no 11\nno 3\nno 3\nno 3\nno 3\n 11 1 \n.\naag 4 2 0 1 2\n2\n4\n8\n6 4 2\n8 6 2\n.\n1\n",
@@ -93,7 +121,8 @@ SCRIPTS = (
 
 # Scripts without memory: what they do, circuit, stimulus, lines and replies.
 WITHOUT_MEMORY = (
-    ("a fifth gate that reads a variable", FAN_OUT, "10\n", FIFTH_READER, NOT_TAKEN + BEHIND),
+    ("a fifth gate that reads a variable", FIFTH, "10\n", reading(14), not_taken(14) + BEHIND),
+    ("a ninth gate that reads a variable", NINTH, "10\n", reading(22), not_taken(22) + BEHIND),
     ("edits", TEXTS["two_gates"], "11\n",
      "w 6 8 2\nv 0 6\nw 8 2 4\nw 6 8 2\nv 0 6\nr 8 1\ns 0 1 x\nt\n+ 11\nu\n-\n-\nv 0 6\n",
      "no 5\n1\nok\nok\n1\nno 2\nok\n 1x x \n.\nno 11\nno 11\nok\nno 9\nno 6\n"),
@@ -108,7 +137,8 @@ def allocations(program, tally, _):
     never_kept = NEVER.replace("7 1\n", "7 0 1\n")
     for name, text in (("never", NEVER), ("never_kept", never_kept), ("proof", "2 3 0\n2 0\n"), ("step", "4 0\n"),
                        ("model", "-2 3 4 5 0\n"), ("named", NAMED), ("claims", CLAIMS), ("start", "-2 8 -9 10 0\n"),
-                       ("no_claim", "aag 0 0 0 0 0\n"), ("never_proof", "-12 2 0\n-12 0\n4 0\n")):
+                       ("no_claim", "aag 0 0 0 0 0\n"), ("never_proof", "-12 2 0\n-12 0\n4 0\n"),
+                       ("own", text_of(OWN))):
         write(name, text)
     for name, words in RUNS:
         each(beneath, tally, name, words)

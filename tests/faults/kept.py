@@ -10,6 +10,7 @@ import signal
 import subprocess
 
 from faults.refusing import Refusing
+from library import supervised
 from library.circuits import write_all
 from library.runs import Ended, contents, input_or_output, write
 
@@ -240,7 +241,7 @@ def waiting(beneath, case):
     """A run that has replied to the first line of its script, and waits for more."""
     case.prepare()
     words = [beneath.program.path, *case.words[:-1], "/dev/stdin"]
-    with subprocess.Popen(words, stdin=subprocess.PIPE, stdout=subprocess.PIPE, stderr=subprocess.PIPE) as run:
+    with supervised.Popen(words, stdin=subprocess.PIPE, stdout=subprocess.PIPE, stderr=subprocess.PIPE) as run:
         run.stdin.write(b"w 6 3 4\n")
         run.stdin.flush()
         yield run, run.stdout.readline()
@@ -295,7 +296,7 @@ def stops(beneath, tally, case):
 def stopped(beneath, case, number, look):
     """How a run ended that was stopped before the call of this number, to look at the files."""
     environment = beneath.environment(CALL="any", REFUSE=number, STOP=1)
-    with subprocess.Popen([beneath.program.path, *case.words], env=environment, umask=0, stdin=subprocess.DEVNULL,
+    with supervised.Popen([beneath.program.path, *case.words], env=environment, umask=0, stdin=subprocess.DEVNULL,
                           stdout=subprocess.PIPE, stderr=subprocess.PIPE) as run:
         if not os.WIFSTOPPED(os.waitpid(run.pid, os.WUNTRACED)[1]):
             return Ended(None, b"", b"")

@@ -4,6 +4,7 @@ import os
 import subprocess
 import tempfile
 
+from library import supervised
 from library.runs import TESTS, LeftOut, contents, write
 
 # The libraries, and the calls that each stands before.
@@ -31,7 +32,7 @@ class Refusing:
             is_built = compiles("-O0", "-o", f"{room}/one", f"{TESTS}/faults/calls_one.c")
             for call in CALLS[name]:
                 environment = self.environment(CALL=call, REFUSE=1, AFTER=1)
-                if not is_built or subprocess.run([f"{room}/one"], cwd=room, env=environment, check=False,
+                if not is_built or supervised.run([f"{room}/one"], cwd=room, env=environment, check=False,
                                                   stdout=subprocess.DEVNULL).returncode != 0:
                     raise LeftOut(f"no library can stand before {call} here")
 
@@ -55,6 +56,6 @@ class Refusing:
 def compiles(*words):
     """Whether there is a C compiler that compiles this."""
     try:
-        return subprocess.run(["cc", *words], capture_output=True, check=False).returncode == 0
+        return supervised.run(["cc", *words], capture_output=True, check=False).returncode == 0
     except FileNotFoundError:
         return False

@@ -16,6 +16,7 @@ import os
 import pty
 import subprocess
 
+from library import supervised
 from library.plain_reader import Fault, Reader, delta, in_order, spelled, test_parts
 from library.runs import Ended, refused, write
 
@@ -269,7 +270,7 @@ def on_a_terminal(program, data):
     on after it, the test says what is wrong."""
     master, terminal = pty.openpty()
     words = [program.path, "toaig", "--to", "aag", "/dev/stdin"]
-    with subprocess.Popen(words, stdin=terminal, stdout=subprocess.PIPE, stderr=subprocess.PIPE) as child:
+    with supervised.Popen(words, stdin=terminal, stdout=subprocess.PIPE, stderr=subprocess.PIPE) as child:
         os.write(master, data + b"\4\4")
         try:
             out, err = child.communicate(timeout=SECONDS)

@@ -1,9 +1,9 @@
 """Small files that claim millions of entries and are refused: they take no more memory than an empty circuit, but for
 a page or two. The resident size of a run is to follow what is read, and not what a header claims."""
 
-import os
 import subprocess
 
+from library import supervised
 from library.runs import write
 
 MANY = 4194303
@@ -28,9 +28,8 @@ def size_of(program, text):
     """The exit status and the greatest resident size in KB."""
     write("circuit", text)
     words = [program.path, "toaig", "--to", "aag", "circuit"]
-    with subprocess.Popen(words, stdout=subprocess.DEVNULL, stderr=subprocess.DEVNULL) as child:
-        _, state, usage = os.wait4(child.pid, 0)
-        child.returncode = os.waitstatus_to_exitcode(state)
+    with supervised.Popen(words, stdout=subprocess.DEVNULL, stderr=subprocess.DEVNULL) as child:
+        usage = child.usage()
     return child.returncode, usage.ru_maxrss
 
 

@@ -8,6 +8,7 @@ import shutil
 import subprocess
 import sys
 
+from library import supervised
 from library.runs import contents, write
 
 MANY = 4194303
@@ -73,10 +74,9 @@ class Run:
     """A run of the program: how it ended, and what it took. It writes to the file `out`."""
 
     def __init__(self, program, words):
-        with open("out", "wb") as out, open("err", "wb") as err:
-            child = subprocess.Popen([program.path, *words], stdin=subprocess.DEVNULL, stdout=out, stderr=err)
-            _, state, usage = os.wait4(child.pid, 0)
-            child.returncode = os.waitstatus_to_exitcode(state)
+        with open("out", "wb") as out, open("err", "wb") as err, supervised.Popen(
+                [program.path, *words], stdin=subprocess.DEVNULL, stdout=out, stderr=err) as child:
+            usage = child.usage()
         self.status, self.said = child.returncode, contents("err")
         self.took = {"seconds": usage.ru_utime + usage.ru_stime, "memory": usage.ru_maxrss / 1024}
 

@@ -7,8 +7,8 @@ are processor times; the programs take turns, and the least of each counts."""
 
 import itertools
 import os
-import subprocess
 
+from library import supervised
 from library.runs import Ended, refused, write
 from library.times import processor_time
 
@@ -78,10 +78,10 @@ def seconds_of(tally, runs):
 
 
 def hostile_proofs(program, tally, _):
-    subprocess.run(["c++", "-O2", "-std=c++17", "-o", "tuned", TUNED], check=True)
+    supervised.run(["c++", "-O2", "-std=c++17", "-o", "tuned", TUNED], check=True)
 
     def tuned(*words):
-        ended = subprocess.run(["./tuned", "refute", *words], capture_output=True, check=False)
+        ended = supervised.run(["./tuned", "refute", *words], capture_output=True, check=False)
         return Ended(ended.returncode, ended.stdout, ended.stderr)
 
     inputs = "".join(f"{2 * at + 2}\n" for at in range(INPUTS))

@@ -4,6 +4,7 @@ import os
 import re
 import subprocess
 
+from library import supervised
 from library.helptext import commands, examples, grouped
 from library.roff import Markdown, code_block, filled, lines, literal, prose, sections
 from library.runs import REPOSITORY, contents
@@ -12,10 +13,9 @@ DATE = "2026-11-28"
 SEE_ALSO = ("abc", "gtkwave", "yosys")
 FILES = {
     "share/doc/aig/examples":
-        "Circuits with stimuli, scripts of bench, witnesses, certificates and proofs; and verdicts.sh, flow.sh and other "
-        "scripts that go from Verilog to checked verdicts. README.md says what each file is. The folder is below "
-        "/usr/local, /usr, or another folder that the program was installed into.",
-    "share/doc/aig/docs": "The documentation. FLOW.md explains the scripts.",
+        "Circuits with stimuli, scripts of bench, witnesses, certificates and proofs; and designs in Verilog. README.md says "
+        "what each file is. The folder is below /usr/local, /usr, or another folder that the program was installed into.",
+    "share/doc/aig/docs": "The documentation. FLOW.md goes from Verilog to checked verdicts with aig-verdicts.",
     "FILE.new": "What bench and unroll write before they rename it to FILE.",
 }
 
@@ -23,7 +23,7 @@ FILES = {
 def asker(program):
     """A function that runs the program under the name `aig`, and returns what it prints on standard error."""
     def ask(*words):
-        return subprocess.run(["aig", *words], executable=os.path.abspath(program), stdin=subprocess.DEVNULL,
+        return supervised.run(["aig", *words], executable=os.path.abspath(program), stdin=subprocess.DEVNULL,
                               capture_output=True, check=False).stderr.decode()
     return ask
 

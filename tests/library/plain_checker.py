@@ -9,7 +9,9 @@ class Checker:
     was found to be true stays so when its clauses are deleted."""
 
     def __init__(self, clauses):
-        self.clauses, self.at, self.readers = {}, collections.defaultdict(list), collections.defaultdict(set)
+        self.clauses, self.at = {}, collections.defaultdict(list)
+        # The clauses of each literal: all, and those from which something may follow.
+        self.of, self.readers = collections.defaultdict(set), collections.defaultdict(set)
         self.true, self.trail, self.next, self.number, self.refuted = set(), [], 0, 0, False
         for clause in clauses:
             self.add(clause)
@@ -19,6 +21,8 @@ class Checker:
         self.number += 1
         self.clauses[self.number] = literals
         self.at[literals].append(self.number)
+        for literal in literals:
+            self.of[literal].add(self.number)
         if any(-literal in literals for literal in literals):
             return  # nothing follows from it
         for literal in literals:
@@ -56,6 +60,7 @@ class Checker:
         if numbers:
             number = numbers.pop()
             for literal in self.clauses.pop(number):
+                self.of[literal].discard(number)
                 self.readers[literal].discard(number)
 
     def follows(self, clause):
@@ -80,8 +85,7 @@ class Checker:
         if not clause or clause[0] in self.true or -clause[0] in self.true:
             return False
         negation = -clause[0]
-        return all(self.follows([*clause, *(other - {negation})])
-                   for other in self.clauses.values() if negation in other)
+        return all(self.follows([*clause, *(self.clauses[number] - {negation})]) for number in self.of[negation])
 
 
 def outcome_from(checker, steps, first=1):

@@ -54,7 +54,8 @@ def text_steps(data):
             clause.append(int(word))
             is_in_step = True
         else:
-            raise NoStep(place)
+            # A minus that ends the file is a literal that is cut off.
+            raise NoStep(len(data) if data[place:] == b"-" else place)
     if is_in_step:
         raise NoStep(len(data))
 

@@ -4,7 +4,9 @@ import os
 import re
 import subprocess
 
+from library import supervised
 from library.runs import REPOSITORY, contents, write
+from library.supervised import SCRIPT_SECONDS
 
 
 def script(start):
@@ -18,8 +20,8 @@ def shell(program, text):
     write("aig", f'#!/bin/sh\nexec {program.path} "$@"\n')
     os.chmod("aig", 0o755)
     settings = {**os.environ, "PATH": f"{os.getcwd()}:{os.environ['PATH']}"}
-    done = subprocess.run(["sh", "-c", text], env=settings, stdin=subprocess.DEVNULL, stdout=subprocess.PIPE,
-                          stderr=subprocess.STDOUT, check=False)
+    done = supervised.run(["sh", "-c", text], env=settings, stdin=subprocess.DEVNULL, stdout=subprocess.PIPE,
+                          stderr=subprocess.STDOUT, check=False, timeout=SCRIPT_SECONDS)
     return done.stdout.decode(errors="replace")
 
 

@@ -6,12 +6,14 @@ import argparse
 import contextlib
 import inspect
 import os
-import signal
 import subprocess
 import sys
 import tempfile
 import threading
 from typing import Callable, Collection, Iterator, List, Mapping, NamedTuple, NoReturn, Optional, Tuple, Union
+
+from library import supervised
+from library.supervised import SECONDS
 
 TESTS = os.path.dirname(os.path.dirname(os.path.abspath(__file__)))
 REPOSITORY = os.path.dirname(TESTS)
@@ -20,12 +22,13 @@ EXPECTED = TESTS + "/expected"
 DESIGNS = TESTS + "/designs"
 PROVED_PROGRAM = REPOSITORY + "/crates/aig/out/aig"
 
-# How long a run may take, if nothing else is said. The run of a part that is over it is stopped, and fails its check.
-SECONDS = int(os.environ.get("AIG_TEST_SECONDS", "120"))
-# How many runs of a part may be over it before the part is stopped.
+# How many runs of a part may be over their time before the part is stopped. Each of them fails its check.
 MOST_UNENDED = 3
 # How long a part may take, whatever it waits for.
-PART_SECONDS = 15 * SECONDS
+PART_SECONDS = 10 * SECONDS
+# The exit status of a script of which a part was stopped, and no check failed.
+STOPPED = 3
+
 
 class Ended(NamedTuple):
     """How a run ended: its exit status, and the bytes on standard output and standard error. A run that was stopped has no
@@ -67,11 +70,10 @@ class Program:
         if "input" not in settings:
             settings.setdefault("stdin", subprocess.DEVNULL)
         settings.setdefault("stdout", subprocess.PIPE)
-        settings.setdefault("timeout", SECONDS)
         try:
-            done = subprocess.run([self.path, *words], stderr=subprocess.PIPE, check=False, **settings)
-        except subprocess.TimeoutExpired:
-            return self.stopped(words, settings["timeout"])
+            done = supervised.run([self.path, *words], stderr=subprocess.PIPE, check=False, **settings)
+        except subprocess.TimeoutExpired as reason:
+            return self.stopped(words, reason.timeout)
         return Ended(done.returncode, done.stdout, done.stderr)
 
     def stopped(self, words: Tuple[str, ...], seconds: float) -> Ended:
@@ -129,15 +131,15 @@ def contents_of(folder: str, endings: Union[str, Tuple[str, ...]]) -> List[bytes
 
 
 @contextlib.contextmanager
-def limited(name: str) -> Iterator[None]:
+def limited(name: str, tally: Tally) -> Iterator[None]:
     """Ends the script, with a failure, if a part does not end."""
     def stop() -> NoReturn:
-        print(f"FAILED: {name}: it does not end within {PART_SECONDS} seconds\n{name}: 0 passed, 1 failed", flush=True)
+        print(f"STOPPED: {name}: it does not end within {PART_SECONDS} seconds", flush=True)
+        print(f"{name}: {tally.passed} passed, {tally.failed + 1} failed", flush=True)
         # A program that was started and goes on would go on for ever.
-        for child in [*started_by(os.getpid())]:
-            with contextlib.suppress(ProcessLookupError):
-                os.kill(child, signal.SIGKILL)
-        os._exit(1)
+        for child in [*supervised.started_by(os.getpid())]:
+            supervised.kill(child)
+        os._exit(1 if tally.failed else STOPPED)
 
     timer = threading.Timer(PART_SECONDS, stop)
     timer.daemon = True
@@ -146,18 +148,6 @@ def limited(name: str) -> Iterator[None]:
         yield
     finally:
         timer.cancel()
-
-
-def started_by(process: int) -> Iterator[int]:
-    """The processes that this one started and that go on, and those that they started."""
-    for name in filter(str.isdigit, os.listdir("/proc")):
-        try:
-            parent = int(contents(f"/proc/{name}/stat").rpartition(b")")[2].split()[1])
-        except OSError:
-            continue  # it has ended
-        if parent == process:
-            yield from started_by(int(name))
-            yield int(name)
 
 
 def shown(parts: Mapping[str, Part], outside: Collection[str]) -> str:
@@ -186,21 +176,23 @@ def main(
     program = Program(chosen.program or proved, chosen.program is not None)
     if not os.access(program.path, os.X_OK):
         sys.exit(f"there is no program {program.path}")
-    failed = 0
+    failed = stopped = 0
     for name in chosen.part or [name for name in parts if name not in outside]:
-        tally, told = Tally(), ""
+        tally, told, ends = Tally(), "", 0
         program.unended = 0
-        with tempfile.TemporaryDirectory() as room, limited(name):
+        with tempfile.TemporaryDirectory() as room, limited(name, tally):
             os.chdir(room)
             try:
                 told = parts[name](program, tally, chosen) or ""
             except LeftOut as reason:
                 print(f"{name}: left out: {reason}", flush=True)
                 continue
-            except Unended as reason:
-                tally.check(f"{name}: stopped", False, reason)
+            except (Unended, subprocess.TimeoutExpired) as reason:
+                print(f"STOPPED: {name}: {reason}", flush=True)
+                ends = 1
             finally:
                 os.chdir("/")
-        print(f"{name}: {told}{tally.passed} passed, {tally.failed} failed", flush=True)
-        failed += tally.failed + (tally.passed == 0)
-    sys.exit(1 if failed else 0)
+        print(f"{name}: {told}{tally.passed} passed, {tally.failed + ends} failed", flush=True)
+        failed += tally.failed + (tally.passed + ends == 0)
+        stopped += ends
+    sys.exit(1 if failed else STOPPED if stopped else 0)

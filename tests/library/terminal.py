@@ -8,11 +8,14 @@ import threading
 import time
 import tty
 
+from library.runs import Unended
+from library.supervised import SECONDS
+
 # The line, as docs/BEHAVIOUR.md shows it, from the first column on and up to the end of the line; and that it is gone.
 LINE = re.compile(rb"\raig: ([a-z ]+) (\d+)(?: of (\d+))? bytes(?:, (\d+) written)?, (\d+) s\x1b\[K")
 GONE = b"\r\x1b[K"
 # How long a run may take until it shows the line.
-PATIENCE = 60
+PATIENCE = SECONDS / 2
 
 
 class Terminal:
@@ -22,7 +25,7 @@ class Terminal:
         self.user, self.end = pty.openpty()
         tty.setraw(self.end)
         self.name, self.seen = os.ttyname(self.end), b""
-        self.watcher = threading.Thread(target=self.watch)
+        self.watcher = threading.Thread(target=self.watch, daemon=True)
         self.watcher.start()
         return self
 
@@ -41,7 +44,9 @@ class Terminal:
         if self.end is not None:
             os.close(self.end)
             self.end = None
-            self.watcher.join()
+            self.watcher.join(SECONDS)
+            if self.watcher.is_alive():
+                raise Unended(f"a program has the terminal still, after {SECONDS} seconds")
             os.close(self.user)
         return self.seen
 

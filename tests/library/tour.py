@@ -5,7 +5,9 @@ import re
 import shutil
 import subprocess
 
+from library import supervised
 from library.runs import REPOSITORY, contents
+from library.supervised import SCRIPT_SECONDS
 
 
 def steps(document="README.md"):
@@ -36,6 +38,7 @@ def room(program, examples, folder):
 def typed(folder, command):
     """What a command prints that is typed in a folder."""
     path = f"{os.path.abspath('path')}:{os.environ['PATH']}"
-    done = subprocess.run(["sh", "-c", command], cwd=folder, env={**os.environ, "PATH": path}, text=True,
-                          stdin=subprocess.DEVNULL, stdout=subprocess.PIPE, stderr=subprocess.STDOUT, check=False)
+    done = supervised.run(["sh", "-c", command], cwd=folder, env={**os.environ, "PATH": path}, text=True,
+                          stdin=subprocess.DEVNULL, stdout=subprocess.PIPE, stderr=subprocess.STDOUT, check=False,
+                          timeout=SCRIPT_SECONDS)
     return done.stdout

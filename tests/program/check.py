@@ -4,7 +4,7 @@ import re
 
 from library.circuits import write_all
 from library.recipes import shell
-from library.runs import EXAMPLES, REPOSITORY, contents, write
+from library.runs import EXAMPLES, REPOSITORY, Ended, contents, write
 from program.rows import Rows
 
 INPUT = "aag 1 1 0 0 0 1/2/2/"
@@ -72,6 +72,18 @@ FAILURES = (
     ("witness", ("bad_input nowhere", "bad_input .", "cycle nowhere", ". nowhere", "cycle .")),
 )
 
+# Two inputs, and three properties: each input, and the first again. Two of them have names.
+NAMED = "aag 2 2 0 0 0 3\n2\n4\n2\n4\n2\nb0 left\nb1 right\n"
+NAMED_TWICE = NAMED + "b2 left\n"
+
+# A run in which the first input is 1 and the second one 0, as a witness of a property.
+HELD = "1\nb{}\n\n10\n.\n"
+
+# The property that the witness names, the one that is asked for, and the position of that in a refusal.
+FOR_THE_PROPERTY = ((0, "0"), (0, "b0"), (0, "left"), (2, "2"), (2, "b2"), (1, "1"), (1, "b1"), (1, "right"))
+FOR_ANOTHER = ((0, "1", 1), (0, "b1", 1), (0, "right", 1), (0, "2", 2), (2, "0", 0), (2, "left", 0), (1, "0", 0),
+               (1, "b2", 2), (0, "3", 3), (0, "b7", 7), (0, "4294967295", 4294967295))
+
 # What a model checker writes: the witness stands between other lines.
 FOUND = "c a model checker\n1\nb0b1\n00\n1\n1\n1\n1\n.\nc done\n1\nb1\n"
 
@@ -88,6 +100,8 @@ def check(program, tally, _):
         rows.refuses(f"{TOGGLED} {witness}", "check circuit witness", f"witness: {text}", **texts)
     examples(rows)
     limits(rows)
+    properties(rows)
+    many_properties(rows)
     recipes(rows)
     for part, runs in FAILURES:
         for files in runs:
@@ -115,6 +129,63 @@ def limits(rows):
     rows.refuses("more frames than a witness may have", words, "witness: limit", witness=frames(0, 65537) + ".\n")
     rows.refuses("a property wins over the frames", words, "witness: property", witness=frames(1, 65537) + ".\n")
     rows.refuses("a text wins over a property", words, "witness: text", witness=frames(1, 65537))
+
+
+def properties(rows):
+    """`--property P`: of a witness of P the same as without it, and any other witness is refused."""
+    files = {"named": NAMED}
+    for of, asked in FOR_THE_PROPERTY:
+        wanted = ("not bad\n", 1) if of == 1 else ("confirmed\n", 0)
+        for words, run in (("", ""), ("--trace ", " 10  \n")):
+            rows.gives(f"a witness of b{of} for {asked} {words}", f"check {words}--property {asked} named witness",
+                       run + wanted[0], wanted[1], witness=HELD.format(of), **files)
+    for of, asked, position in FOR_ANOTHER:
+        for words in ("", "--trace "):
+            rows.refuses(f"a witness of b{of} for {asked} {words}", f"check {words}--property {asked} named witness",
+                         f"witness: of b{of}, not b{position}", witness=HELD.format(of), **files)
+    rows.refuses("a name that no property has", "check --property b named nowhere", "property: name", **files)
+    rows.refuses("a number that is none", "check --property 4294967296 named witness", "property: name", **files)
+    rows.refuses("a name that two have", "check --property left twice witness", "property: twice 0 2",
+                 twice=NAMED_TWICE)
+    rows.gives("one of two with a name, by its number", "check --property 2 twice witness", "confirmed\n",
+               witness=HELD.format(2))
+    for text, witness in (("text", "1\nb0b1\n\n10\n.\n"), ("text", "1\nb1b0\n\n10\n.\n"), ("text", HELD.format("00")),
+                          ("property", HELD.format(3)), ("property", HELD.format(4294967297))):
+        for asked in ("0", "1", "3"):
+            rows.refuses(f"no witness of the circuit, {witness[2:6]!r}, for {asked}",
+                         f"check --property {asked} named witness", f"witness: {text}", witness=witness)
+    rows.refuses("a circuit wins over the property", "check --property 1 cycle witness", "circuit: cycle 2",
+                 witness=HELD.format(0))
+    rows.refuses("the frames win over the property", "check --property 1 bad_input witness", "witness: limit",
+                 witness=frames(0, 65537) + ".\n")
+    rows.refuses("the property wins over the run", "check --property 1 named witness", "witness: of b0, not b1",
+                 witness="1\nb0\n\n0x\n.\n")
+    explained(rows)
+
+
+def explained(rows):
+    """The refusal names both properties, and the explanation what each is called and how to check the witness."""
+    ended = rows.run("check", "--explain", "--property", "right", "named", write("witness", HELD.format(0)))
+    rows.tally.compare("check: a witness of another property is explained", ended, Ended(1, b"", (
+        b"aig: witness: of b0, not b1\n"
+        b"  file: witness\n"
+        b"  line 2 names the bad state property b0 left\n"
+        b"  --property names b1 right\n"
+        b"  aig check --property b0 checks this witness\n")))
+
+
+def many_properties(rows):
+    """Property 12 of 13, each an input of its own: whatever the witness's property is, no other is confirmed."""
+    circuit = "aag 13 13 0 0 0 13\n" + 2 * "".join(f"{2 + 2 * at}\n" for at in range(13))
+    for of in range(13):
+        witness = f"1\nb{of}\n\n" + 13 * "1" + "\n.\n"
+        for asked in ("12", "b12"):
+            name, words = f"a witness of b{of} of 13 for {asked}", f"check --property {asked} many witness"
+            if of == 12:
+                rows.gives(name, words, "confirmed\n", witness=witness, many=circuit)
+            else:
+                rows.refuses(name, words, f"witness: of b{of}, not b12", witness=witness, many=circuit)
+        rows.gives(f"a witness of b{of} of 13 for any", "check many witness", "confirmed\n", witness=witness)
 
 
 def recipes(rows):

@@ -9,6 +9,7 @@ import signal
 import subprocess
 import time
 
+from library import supervised
 from library.completion import long_name, value_of
 from library.helptext import commands, long_options
 from library.manual import asker
@@ -174,7 +175,7 @@ def replies(words, breaks):
     script = """source "$1"; COMP_WORDBREAKS=$2; shift 2
 COMP_WORDS=(aig "$@"); COMP_CWORD=$#; COMP_LINE="${COMP_WORDS[*]}"; COMP_POINT=${#COMP_LINE}
 _aig aig "${COMP_WORDS[-1]}" "${COMP_WORDS[-2]}"; ((${#COMPREPLY[@]})) && printf '%s\\n' "${COMPREPLY[@]}" """
-    done = subprocess.run(["bash", "--norc", "-c", script, "bash", f"{FOLDER}/aig.bash", breaks, *words],
+    done = supervised.run(["bash", "--norc", "-c", script, "bash", f"{FOLDER}/aig.bash", breaks, *words],
                           stdin=subprocess.DEVNULL, capture_output=True, text=True, check=False)
     return sorted(set(done.stdout.splitlines())) if not done.stderr else done.stderr
 

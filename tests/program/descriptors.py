@@ -7,6 +7,7 @@ import resource
 import shutil
 import subprocess
 
+from library import supervised
 from library.runs import Ended, contents, input_or_output, write
 
 DESIGN, NEW_DESIGN = b"aag 1 1 0 1 0\n2\n2\n", b"aag 1 1 0 1 0\n2\n3\n"
@@ -107,12 +108,12 @@ def without_devices(program, tally):
     try:
         # Another program shows whether the root can be changed.
         for name, path in (("aig", program.path), ("true", shutil.which("true"))):
-            libraries = subprocess.run(["ldd", path], capture_output=True, text=True, check=False).stdout
+            libraries = supervised.run(["ldd", path], capture_output=True, text=True, check=False).stdout
             for file in re.findall(r"/\S+", libraries):
                 os.makedirs(f".{os.path.dirname(file)}", exist_ok=True)
                 shutil.copy(file, f".{file}")
             shutil.copy(path, name)
-        is_run = subprocess.run([*root, "/true"], capture_output=True, check=False).returncode == 0
+        is_run = supervised.run([*root, "/true"], capture_output=True, check=False).returncode == 0
     except FileNotFoundError:
         is_run = False
     if not is_run:
@@ -121,7 +122,7 @@ def without_devices(program, tally):
 
     def run(*words, **settings):
         settings.setdefault("stdout", subprocess.PIPE)
-        done = subprocess.run([*root, "/aig", *words], stdin=subprocess.DEVNULL, stderr=subprocess.PIPE, check=False,
+        done = supervised.run([*root, "/aig", *words], stdin=subprocess.DEVNULL, stderr=subprocess.PIPE, check=False,
                               **settings)
         return Ended(done.returncode, done.stdout, done.stderr)
 
@@ -142,7 +143,7 @@ def without_devices(program, tally):
         prepare(NONE)
         # The shell closes them, because `chroot` would take them for its own.
         closing = " ".join(f"{stream}>&-" for stream in streams)
-        ended = subprocess.run(["sh", "-c", f'exec "$@" {closing}', "sh", *root, "/aig", *words], capture_output=True,
+        ended = supervised.run(["sh", "-c", f'exec "$@" {closing}', "sh", *root, "/aig", *words], capture_output=True,
                                check=False)
         name = f"descriptors: without /dev, {', '.join(map(str, streams))} closed"
         tally.compare(name, (ended.returncode, left()), (status, (files, [])))

@@ -7,6 +7,7 @@ import re
 import resource
 import subprocess
 
+from library import supervised
 from library.circuits import write_all
 from library.roff import cells, sections
 from library.runs import EXAMPLES, REPOSITORY, contents, write
@@ -45,6 +46,7 @@ CASES = (
     ("comments or several", ["check", WRAPS, "several.wit"], "several witnesses"),
     ("for another circuit", ["check", COUNTER, "examples/wraps.wit"], "aig info CIRCUIT"),
     ("has no such property", ["check", WRAPS, "other.wit"], "b7"),
+    ("of another property than", ["check", "--property", "1", WRAPS, "examples/wraps.wit"], "aig check --property b0"),
     ("is too large", ["check", "bad_input", "many.wit"], "at most 65,536 frames"),
     ("has no such property", ["select", "--to", "aag", "--property", "0", "two_gates"], "aig info --names CIRCUIT"),
     ("is too large", ["unroll", "--frames", "65537", "--to", "aag", "two_gates"], "K is 65537"),
@@ -177,7 +179,7 @@ def write_files():
 def closed_pipe(program):
     """What `aig sim` says where the reader of its pipe ends after one line."""
     write("long.stim", "01\n" * 100000)
-    with subprocess.Popen([program.path, "sim", "two_gates", "long.stim"], stdin=subprocess.DEVNULL,
+    with supervised.Popen([program.path, "sim", "two_gates", "long.stim"], stdin=subprocess.DEVNULL,
                           stdout=subprocess.PIPE, stderr=subprocess.PIPE) as run:
         run.stdout.readline()
         run.stdout.close()

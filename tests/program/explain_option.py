@@ -8,6 +8,7 @@ import shutil
 import subprocess
 
 from faults.refusing import Refusing
+from library import supervised
 from library.circuits import TEXTS, write_all
 from library.roff import sections
 from library.runs import EXAMPLES, REPOSITORY, Ended, LeftOut, contents, write
@@ -260,7 +261,7 @@ def not_again(program, tally):
 def fifo(program):
     """A run that reads a FIFO, to which another program writes once."""
     os.mkfifo("fifo")
-    with subprocess.Popen(["/bin/sh", "-c", "printf 'aag 1\\n' > fifo"]) as writer:
+    with supervised.Popen(["/bin/sh", "-c", "printf 'aag 1\\n' > fifo"]) as writer:
         ended = program.run("--explain", "info", "fifo", timeout=SECONDS)
         writer.wait(timeout=SECONDS)
     return ended
@@ -286,7 +287,7 @@ def words(program, tally):
         is_right = (ended.status, ended.out) == (2, b"") and re.fullmatch(rb"[ -~\n]+", ended.err) is not None
         tally.check(f"explain: the message on {asked}", is_right and shown in ended.err.decode(), ended)
         tally.compare(f"explain: {asked}, typed escaped", ended, program.run(*typed))
-    said = subprocess.run(["\x1b[31maig\n"], executable=program.path, stdin=subprocess.DEVNULL, capture_output=True,
+    said = supervised.run(["\x1b[31maig\n"], executable=program.path, stdin=subprocess.DEVNULL, capture_output=True,
                           check=False).stderr
     is_right = re.fullmatch(rb"[ -~\n]+", said) is not None and rb"\x1b[31maig\x0a" in said
     tally.check("explain: the program's own name", is_right, said)
@@ -369,7 +370,7 @@ def owner(program, tally, bench):
     shutil.copy(program.path, "aig")
     os.chmod(".", 0o777)
     os.chmod("old", 0o666)
-    done = subprocess.run(["./aig", "--explain", *bench, "--circuit-out", "old"], user=61000, group=61000,
+    done = supervised.run(["./aig", "--explain", *bench, "--circuit-out", "old"], user=61000, group=61000,
                           stdin=subprocess.DEVNULL, capture_output=True, check=False)
     tally.check("explain: another owner", b"  file: old\n  it has another owner" in done.stderr, done)
 

@@ -4,6 +4,7 @@ import os
 import re
 import subprocess
 
+from library import supervised
 from library.helptext import commands, examples, grouped, listed
 from library.manual import asker
 from library.runs import EXAMPLES, REPOSITORY, contents, write
@@ -70,7 +71,7 @@ def run_examples(ask, program, tally):
         shown = examples(one)
         tally.check(f"help: {name}: an example", shown != [], one.after)
         for command in shown:
-            ended = subprocess.run(["/bin/sh", "-c", command], env={"PATH": os.path.abspath("bin")},
+            ended = supervised.run(["/bin/sh", "-c", command], env={"PATH": os.path.abspath("bin")},
                                    stdin=subprocess.DEVNULL, capture_output=True, check=False)
             tally.compare(f"help: {command}", (ended.returncode, ended.stderr), (0, b""))
 

@@ -11,6 +11,7 @@ import struct
 import subprocess
 import threading
 
+from library import supervised
 from library.circuits import write_all
 from library.runs import SECONDS, Ended, contents, input_or_output, refused, write
 
@@ -215,7 +216,7 @@ def modes(keeping):
         for file, content in (("design", CIRCUIT), ("rows", ROWS), *before):
             write(file, content)
         words = [keeping.program.path, "bench", *BOTH, "design", "rows", "/dev/stdin"]
-        with subprocess.Popen(words, stdin=subprocess.PIPE, stdout=subprocess.PIPE, umask=0) as run:
+        with supervised.Popen(words, stdin=subprocess.PIPE, stdout=subprocess.PIPE, umask=0) as run:
             run.stdin.write(b"v 0 8\n")
             run.stdin.flush()
             reply(run)
@@ -229,10 +230,10 @@ def devices(keeping):
     """Pipes and devices are written directly; what has the replies is left alone."""
     os.mkfifo("pipe")
     got = []
-    reader = threading.Thread(target=lambda: got.append(contents("pipe")))
+    reader = threading.Thread(target=lambda: got.append(contents("pipe")), daemon=True)
     reader.start()
     keeping.row("a pipe", ("--circuit-out", "pipe", "--stimulus-out", "new_rows"), DONE, {"new_rows": NEW_ROWS})
-    reader.join()
+    reader.join(SECONDS)
     keeping.tally.compare("kept: what the pipe got", got, [NEW_CIRCUIT])
     os.remove("pipe")
     keeping.row("a device", ("--circuit-out", "/dev/null"), DONE, {})
@@ -247,7 +248,7 @@ def devices(keeping):
         write(file, content)
     words = [keeping.program.path, "bench", "--circuit-out", "said", "design", "rows", "script"]
     with open("said", "wb") as file:
-        status = subprocess.run(words, stdout=subprocess.DEVNULL, stderr=file, check=False).returncode
+        status = supervised.run(words, stdout=subprocess.DEVNULL, stderr=file, check=False).returncode
     keeping.tally.compare("kept: standard error's own file", status, NOT_BEGUN.status)
     keeping.leaves("standard error's own file", {"said": NOT_BEGUN.err})
 
@@ -267,7 +268,7 @@ def disks(keeping):
     user = [] if os.geteuid() == 0 else ["--map-root-user"]
     # Another program, which writes no file, shows whether they can be mounted.
     try:
-        other, ended = (subprocess.run(["unshare", "--mount", *user, "sh", "-c", DISKS, path], capture_output=True,
+        other, ended = (supervised.run(["unshare", "--mount", *user, "sh", "-c", DISKS, path], capture_output=True,
                                        check=False) for path in ("true", keeping.program.path))
     except FileNotFoundError:
         other = None
@@ -286,7 +287,7 @@ def before_the_script(keeping):
         for file, content in (("design", CIRCUIT), ("rows", ROWS)):
             write(file, content)
         words = [keeping.program.path, "bench", *words, "design", "rows", "/dev/stdin"]
-        with subprocess.Popen(words, stdin=subprocess.PIPE, stdout=subprocess.PIPE, stderr=subprocess.PIPE) as run:
+        with supervised.Popen(words, stdin=subprocess.PIPE, stdout=subprocess.PIPE, stderr=subprocess.PIPE) as run:
             try:
                 status = run.wait(timeout=20)
             except subprocess.TimeoutExpired:
@@ -298,7 +299,7 @@ def before_the_script(keeping):
     # A pipe is opened when its text is there: before that, nobody has to read it.
     os.mkfifo("pipe")
     words = [keeping.program.path, "bench", "--circuit-out", "pipe", "design", "rows", "/dev/stdin"]
-    with subprocess.Popen(words, stdin=subprocess.PIPE, stdout=subprocess.PIPE) as run:
+    with supervised.Popen(words, stdin=subprocess.PIPE, stdout=subprocess.PIPE) as run:
         run.stdin.write(b"v 0 8\n")
         run.stdin.flush()
         first = reply(run)

@@ -1,5 +1,7 @@
 """Rows on properties by their names: each text that names a property asks for the one at its position, in every command
-that takes one. Texts that name none, or two, are refused."""
+that takes one. Texts that name none, or several, are refused."""
+
+import itertools
 
 from library.circuits import write_all
 from library.runs import write
@@ -19,6 +21,9 @@ OUTPUTS = (("safe", 3), ("out", 0), ("o5", 5), ("2", 2))
 # Texts that name no bad state property.
 UNNAMED = ("out", "saf", "safe ", "two", "", "+1", "01", "b01", "b", "b+1", "o0", "B1", "4294967296", "b4294967296",
            "00", "\u00e9")
+
+# Four properties, to which symbols in any order give one name.
+FOUR = "aag 4 4 0 0 0 4\n2\n4\n6\n8\n2\n4\n6\n8\n"
 
 # Commands, with PROPERTY where the property is named; some print a result and some a refusal.
 COMMANDS = (
@@ -56,7 +61,27 @@ def names(program, tally, _):
         rows.ends(f"{command}: {text!r}", words_of(command, text), rows.run(*words_of(command, str(position))))
     command = "select --to aag --property safe --property 5 --property b2 circuit"
     rows.ends(command, command, rows.run(*"select --to aag --property 0 --property 5 --property 2 circuit".split()))
+    for count in (2, 3):
+        for order in itertools.permutations(range(4), count):
+            symbols = "".join(f"b{at} p\n" for at in order)
+            first, second = sorted(order)[:2]
+            rows.refuses(f"the least two of {order}", "cnf --frames 1 --property p four", f"property: twice {first} {second}",
+                         four=FOUR + symbols)
+    minus(rows)
     command = "cnf --frames 2 PROPERTY /dev/stdin"
     tally.compare("names: a name in a circuit that comes through a pipe",
                   program.run(*words_of(command, "safe"), input=CIRCUIT.encode()),
                   program.run(*words_of(command, "0"), input=CIRCUIT.encode()))
+
+
+def minus(rows):
+    """A name that begins with a minus comes after `=`. It is never a number."""
+    write("minus", FOUR + "b2 -0\nb3 -1\n")
+    for text, position in (("-0", 2), ("-1", 3)):
+        rows.ends(f"--property={text}", f"cnf --frames 1 --property={text} minus",
+                  rows.run(*f"cnf --frames 1 --property {position} minus".split()))
+        ended = rows.run("cnf", "--frames", "1", "--property", text, "minus")
+        rows.tally.compare(f"names: --property {text}", (ended.status, ended.out, ended.err.split(b"\n")[0]),
+                           (2, b"", f"error: unexpected argument '{text}' found".encode()))
+        rows.refuses(f"--property={text}, which no property has", f"cnf --frames 1 --property={text} circuit",
+                     "property: name")

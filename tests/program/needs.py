@@ -8,10 +8,11 @@ import signal
 import subprocess
 
 from faults.refusing import Refusing
+from library import supervised
 from library.circuits import write_all
 from library.runs import EXAMPLES, REPOSITORY, Ended, LeftOut, contents, input_or_output, write
 
-STACK = 256 * 1024
+STACK = 320 * 1024
 GLIBC = (2, 34)
 
 RUNS = (
@@ -58,7 +59,7 @@ def needs(program, tally, _):
         write("two_gates.stim", "11\n")
         tally.compare(f"needs: {words} does not end", endless(program, words), ("no end", True))
     for line in ("c", "d 2 4 0"):
-        with subprocess.Popen(["yes", line], stdout=subprocess.PIPE) as lines:
+        with supervised.Popen(["yes", line], stdout=subprocess.PIPE) as lines:
             words = ["refute", "--frames", "1", "bad_input", "/dev/stdin"]
             tally.compare(f"needs: a proof of {line!r} does not end", endless(program, words, lines.stdout),
                           ("no end", True))
@@ -69,7 +70,7 @@ def needs(program, tally, _):
         return f"interrupted calls left out, {reason}: "
     if program.is_named or not shutil.which("objdump"):
         return "the C library left out, it is that of another build or objdump is not here: "
-    symbols = subprocess.run(["objdump", "-T", program.path], capture_output=True, text=True, check=True).stdout
+    symbols = supervised.run(["objdump", "-T", program.path], capture_output=True, text=True, check=True).stdout
     wanted = {tuple(map(int, number.split("."))) for number in re.findall(r"GLIBC_([0-9.]+)", symbols)}
     tally.check("needs: the C library", max(wanted, default=()) == GLIBC, wanted)
     return ""
@@ -89,7 +90,7 @@ def names(program, tally):
 
 def endless(program, words, source=subprocess.DEVNULL):
     """Whether a run goes on for a while, and whether it takes little memory then."""
-    with subprocess.Popen([program.path, *words], stdin=source, stdout=subprocess.DEVNULL,
+    with supervised.Popen([program.path, *words], stdin=source, stdout=subprocess.DEVNULL,
                           stderr=subprocess.DEVNULL) as run:
         try:
             return run.wait(timeout=1.5), False

@@ -4,8 +4,8 @@ page on the examples names each of them."""
 
 import os
 import shutil
-import subprocess
 
+from library import supervised
 from library.completion import shells
 from library.manual import asker, pages as manual_pages
 from library.runs import EXAMPLES, REPOSITORY, contents
@@ -23,7 +23,7 @@ def pages(program, tally, _):
         else:
             left_out = "their looks left out, groff is not here: "
         if shutil.which("mandoc"):
-            said = subprocess.run(["mandoc", "-T", "lint", file], capture_output=True, text=True, check=False)
+            said = supervised.run(["mandoc", "-T", "lint", file], capture_output=True, text=True, check=False)
             tally.compare(f"pages: man/{name}: what mandoc says", said.stdout, "")
     for name, text in shells(ask).items():
         file = f"{REPOSITORY}/completions/{name}"
@@ -36,7 +36,7 @@ def pages(program, tally, _):
 
 def is_shown(tally, name, file):
     """A terminal of 80 columns shows each line of a manual page whole, and groff has nothing to say of its source."""
-    shown = subprocess.run(["groff", "-man", "-Tutf8", "-P-cbou", "-ww", "-rLL=80n", file], capture_output=True,
+    shown = supervised.run(["groff", "-man", "-Tutf8", "-P-cbou", "-ww", "-rLL=80n", file], capture_output=True,
                            text=True, check=False)
     tally.compare(f"pages: man/{name}: warnings", shown.stderr, "")
     rows = shown.stdout.splitlines()

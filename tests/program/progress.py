@@ -7,6 +7,7 @@ import subprocess
 import termios
 import time
 
+from library import supervised
 from library.circuits import TEXTS, write_all
 from library.runs import EXAMPLES, Ended, contents, write
 from library.terminal import Terminal, feed, is_right, shown_lines
@@ -69,7 +70,7 @@ def quick(program, tally):
 
 def on_terminal(program, words, terminal, **settings):
     """The status and the output of a run whose standard error is a terminal."""
-    done = subprocess.run([program.path, *words.split(" ")], stdin=subprocess.DEVNULL, stdout=subprocess.PIPE,
+    done = supervised.run([program.path, *words.split(" ")], stdin=subprocess.DEVNULL, stdout=subprocess.PIPE,
                           stderr=terminal.end, check=False, **settings)
     return done.returncode, done.stdout
 
@@ -88,7 +89,7 @@ class Fed:
     def run(self, is_done, **settings):
         """The status, the output and standard error of the run. It is fed until all is shown."""
         settings = {"stdin": subprocess.DEVNULL, "stdout": subprocess.PIPE, "stderr": subprocess.PIPE, **settings}
-        with subprocess.Popen([self.program.path, *self.command(self.name)], **settings) as run:
+        with supervised.Popen([self.program.path, *self.command(self.name)], **settings) as run:
             write(self.name + "_file", feed(self.name, *self.texts, is_done))
             out, err = run.communicate()
         return Ended(run.returncode, out, err)
@@ -191,7 +192,7 @@ def typed(program, tally):
         modes = termios.tcgetattr(keyboard.end)
         modes[3] |= termios.ICANON
         termios.tcsetattr(keyboard.end, termios.TCSANOW, modes)
-        with subprocess.Popen([program.path, "bench", "two_gates", "rows", keyboard.name], stdin=subprocess.DEVNULL,
+        with supervised.Popen([program.path, "bench", "two_gates", "rows", keyboard.name], stdin=subprocess.DEVNULL,
                               stdout=subprocess.PIPE, stderr=terminal.end) as run:
             for text in (b"v 0 8\n", b"t\n", b"v 0 6\n", b"\x04"):
                 time.sleep(1.2)
@@ -204,7 +205,7 @@ def typed(program, tally):
 
 def drained(program, words, terminal):
     """The status and the output of a run that waits for the reader of its output until it has shown its line."""
-    with subprocess.Popen([program.path, *words.split(" ")], stdin=subprocess.DEVNULL, stdout=subprocess.PIPE,
+    with supervised.Popen([program.path, *words.split(" ")], stdin=subprocess.DEVNULL, stdout=subprocess.PIPE,
                           stderr=terminal.end) as run:
         out, until = [], after(60)
         while len(shown_lines(terminal.seen)) < 2 and not until():

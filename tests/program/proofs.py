@@ -9,6 +9,7 @@ import subprocess
 import termios
 import time
 
+from library import supervised
 from library.runs import SECONDS, Ended, refused, write
 from program.refute import NEVER, NEVER_KEPT, PROOFS, REFUSALS
 from program.rows import Rows, data
@@ -248,7 +249,7 @@ def in_pieces(program, words, proof, size):
     is_named = "fifo" in words
     source, sink = opened_fifo() if is_named else os.pipe()
     latest = time.monotonic() + SECONDS
-    with subprocess.Popen([program.path, *words], stdin=subprocess.DEVNULL if is_named else source,
+    with supervised.Popen([program.path, *words], stdin=subprocess.DEVNULL if is_named else source,
                           stdout=subprocess.PIPE, stderr=subprocess.PIPE) as child:
         def goes_on():
             return child.poll() is None and time.monotonic() < latest

@@ -1,6 +1,10 @@
 """Rows on the property that is asked for: 2 of three, and 12 of 13. In each circuit every other property has another
 answer, so a program that takes another one says something else."""
 
+import itertools
+
+import itertools
+
 from library.circuits import write_all
 from library.runs import Ended, refused, write
 from program.proofs import Conjunctions
@@ -155,10 +159,11 @@ def selected(kept, count, section, to):
 
 
 def selections(rows, kept, count):
+    """Each property by its position, by its name, and by either in turn."""
     for section, options in (("b", ""), ("o", "--from outputs --as outputs ")):
         write("circuit", selected(range(count), count, section, "aag"))
-        for to in ("aag", "aig"):
-            words = options + " ".join(f"--property {at}" for at in kept)
+        for to, spelled in itertools.product(("aag", "aig"), (("",), ("n",), ("", "n"))):
+            words = options + " ".join(f"--property {spelled[place % len(spelled)]}{at}" for place, at in enumerate(kept))
             rows["select"].gives(f"{len(kept)} of {count}, to {to}: {words}", f"select {words} --to {to} circuit",
                                  selected(kept, count, section, to))
 
@@ -171,4 +176,5 @@ def properties(program, tally, _):
         refutations(rows, asked, count)
         of_inputs(rows, asked, count)
         selections(rows, (asked, ), count)
-    selections(rows, ELEVEN, 13)
+    for kept in (ELEVEN[:9], ELEVEN[:10], ELEVEN, range(12, -1, -1)):
+        selections(rows, kept, 13)

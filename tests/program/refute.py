@@ -60,7 +60,10 @@ REFUSALS = (
     ("a step without its end, and a newline", "2 \n", "text at 3"),
     ("a deletion without its clause", "d", "text at 1"),
     ("a deletion without its clause, and a blank", "d ", "text at 2"),
-    ("a minus at the end", "2 -", "text at 2"),
+    ("a minus at the end", "2 -", "text at 3"),
+    ("a minus at the end of a later step", "2 3 0\n-", "text at 7"),
+    ("a minus at the end of a deletion", "2 3 0\nd -", "text at 9"),
+    ("a minus at the end, and a newline", "2 -\n", "text at 2"),
     ("a letter", "2 x 0\n", "text at 2"),
     ("a letter in a number", "2x 0\n", "text at 0"),
     ("a leading zero", "02 0\n", "text at 0"),
@@ -120,6 +123,15 @@ FAULTS = (
     ("a refused circuit", "--frames 2 cycle", "circuit: cycle 2"),
 )
 
+# Numbers of a step that does not follow, and the proofs it is in: what is proved, arguments, and the part of the message.
+NUMBERS = (2, 3, 10, 256, 65537)
+GOALS = (
+    ("a run of some frames", "--frames 1 never proof", "proof"),
+    ("a run before the induction step", "--frames 1 --step right kept_too proof", "proof"),
+    ("the induction step", "--frames 1 --step proof kept_too right", "step proof"),
+    ("a run that keeps the constraints", "--alive --frames 1 kept_to proof", "proof"),
+    ("a certificate", "--certificate no_claim never proof", "proof"),
+)
 
 # A latch that keeps its value, which starts at 0 and is bad. In the step of one frame it is variable 2, and the formula is
 # refuted by propagation alone.
@@ -147,8 +159,24 @@ def refute(program, tally, _):
     rows.refuses("a state that is reached", "refute --frames 3 --property 1 constants proof", "proof: no refutation", proof="")
     steps(rows)
     alive(rows)
+    numbers(rows)
     broken(rows)
     frat(rows)
+
+
+def numbers(rows):
+    """The number of a step that does not follow, in a proof of each formula. All before it is right and changes nothing."""
+    write("kept_too", NEVER_KEPT)
+    write("kept_to", NEVER_KEPT_TO)
+    write("no_claim", "aag 0 0 0 0 0\n")
+    write("right", "2 0\n")
+    before = ("2 -2 0\n", "d 2 -2 0\n"), (b"a\x04\x05\0", b"d\x04\x05\0")
+    for number in NUMBERS:
+        for (clause, deletion), end in zip(before, ("0\n", b"a\0")):
+            proof = (clause + deletion) * ((number - 1) // 2) + clause * (1 - number % 2) + end
+            form = "text" if end == "0\n" else "binary"
+            for goal, words, part in GOALS:
+                rows.refuses(f"step {number} of {goal}, {form}", f"refute {words}", f"{part}: step {number}", proof=proof)
 
 
 def frat(rows):

@@ -7,7 +7,8 @@ import signal
 import subprocess
 import time
 
-from library.runs import DESIGNS, EXAMPLES, Ended, contents, input_or_output, refused
+from library import supervised
+from library.runs import DESIGNS, EXAMPLES, Ended, contents, input_or_output, refused, write
 from library.terminal import Terminal
 from library.tour import steps
 
@@ -57,6 +58,16 @@ ANSWERS = (
      "no: usage: wave FILE\nno: no command nix; help lists the commands\nno: no command \\x1b[A; help lists the commands\n"),
     ("names", "names cou\nnames nix\n", "count\nno: no name contains nix\n"),
 )
+
+# Words that would change a terminal, in lines whose answers repeat them, and the answers that a terminal gets.
+ESCAPES = ("\x1b[31mf", "\x1b]0;f\x07", "\x7ff", "\x9bf", "\x08f")
+REPEATED = (("witness {}", "b0 at 10: {}\n"), ("wave n/{}", "no: n/{} is not written: No such file or directory\n"),
+            ("save a n/{}", "no: n/{} is not written: No such file or directory\n"),
+            ("start count f", ""), ("save a {}", "{} has no start of latches; witness FILE has\n"),
+            ("show {}", "no: no name {}\n"), ("names {}", "no: no name contains {}\n"), ("gate {} 4 5", "no: no name {}\n"),
+            ("set 0 push {}", "no: {} is no value of 1 bit\n"), ("set {} push 1", "no: {} is no frame\n"),
+            ("{}", "no: no command {}; help lists the commands\n"), ("why full {}", "no: {} is no frame\n"),
+            ("add {}", "no: {} is no number of frames\n"))
 
 
 def commands_of(session):
@@ -117,13 +128,16 @@ class Sessions:
             b"unsaved: circuit and run; quit again to leave\n", b""))
         self.tally.compare("shell: no run", self.run("show full\nadd\nshow rst\nwhy\n", "queue.aig"), Ended(
             0, b"no: no frames; add makes one\nframe 0\nrst   x\nno: no property is reached; check says why\nunsaved: run\n", b""))
+        write("nothing.aag", "aag 0 0 0 0 0\n")
+        self.tally.compare("shell: names of no entries", self.run("names\nnames x\n", "nothing.aag"), Ended(
+            0, b"the circuit has no names\nno: no name contains x\n", b""))
         for words, wanted in (
                 (("nix.aig",), input_or_output("circuit")), (("queue.aig", "queue.wit"), refused("stimulus: length of line 1")),
                 (("--witness", "queue.aig", "cache.wit"), refused("witness: text"))):
             self.tally.compare(f"shell: {' '.join(words)}", self.run("show full\n", *words), wanted)
         self.tally.compare("shell: a witness that is missing", self.run("", "--witness", "queue.aig").status, 2)
         with open("/dev/full", "wb") as full:
-            done = subprocess.run([self.program.path, "shell", "queue.aig"], input=b"check\n", stdout=full,
+            done = supervised.run([self.program.path, "shell", "queue.aig"], input=b"check\n", stdout=full,
                                   stderr=subprocess.PIPE, check=False)
         self.tally.compare("shell: answers that are not written", (done.returncode, done.stderr),
                            (3, b"aig: shell: input or output\n"))
@@ -134,15 +148,27 @@ class Sessions:
 
     def terminal(self):
         """At a terminal there are a first line and prompts, and ^C ends the program."""
-        with Terminal() as terminal:
-            run = subprocess.Popen([self.program.path, "shell", "--witness", "queue.aig", "queue.wit"], stdin=terminal.end,
-                                   stdout=subprocess.PIPE, stderr=subprocess.PIPE)
+        words = [self.program.path, "shell", "--witness", "queue.aig", "queue.wit"]
+        with Terminal() as terminal, supervised.Popen(words, stdin=terminal.end, stdout=subprocess.PIPE,
+                                                      stderr=subprocess.PIPE) as run:
             os.write(terminal.user, b"show full @3\nset 9 push 0\n")
             time.sleep(1)
             run.send_signal(signal.SIGINT)
-            out, _ = run.communicate(timeout=60)
+            out, _ = run.communicate()
         self.tally.compare("shell: a terminal", (out.decode(), run.returncode), (
             f"{FIRST}{PROMPT}frame 3\nfull  0\n{PROMPT}{PROMPT}", -signal.SIGINT))
+
+    def escapes(self):
+        """A terminal gets no byte of a line as it is that would change it."""
+        for word in ESCAPES:
+            shown = "".join(chr(byte) if 32 <= byte < 127 else f"\\x{byte:02x}" for byte in word.encode())
+            lines = "".join(line.replace("{}", word) + "\n" for line, _ in REPEATED)
+            with Terminal() as terminal:
+                ended = self.program.run("shell", "--witness", "queue.aig", "queue.wit", input=lines.encode(),
+                                         stdout=terminal.end)
+                seen = terminal.close()
+            wanted = "".join(answer.replace("{}", shown) for _, answer in REPEATED) + "unsaved: run\n"
+            self.tally.compare(f"shell: a terminal gets {shown}", (ended.status, ended.err, seen.decode()), (0, b"", wanted))
 
 
 def shell(program, tally, _):
@@ -157,3 +183,4 @@ def shell(program, tally, _):
     sessions.ends()
     sessions.helps()
     sessions.terminal()
+    sessions.escapes()

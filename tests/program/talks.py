@@ -5,6 +5,7 @@ import os
 import select
 import subprocess
 
+from library import supervised
 from library.circuits import TEXTS, write_all
 from library.runs import write
 
@@ -19,7 +20,7 @@ class Talk:
     """A run of the program that reads its last file from a pipe, and writes to a pipe."""
 
     def __init__(self, program, *words):
-        self.run = subprocess.Popen([program.path, *words, "/dev/stdin"], stdin=subprocess.PIPE, stdout=subprocess.PIPE,
+        self.run = supervised.Popen([program.path, *words, "/dev/stdin"], stdin=subprocess.PIPE, stdout=subprocess.PIPE,
                                     stderr=subprocess.PIPE)
 
     def fail(self, text):

@@ -5,6 +5,7 @@ import pty
 import re
 import subprocess
 
+from library import supervised
 from library.runs import Ended, contents, write
 from library.terminal import Terminal
 
@@ -35,7 +36,7 @@ def terminals(program, tally, _):
     for words in RUNS:
         plain = program.run(*words.split(" "))
         with Terminal() as terminal:
-            done = subprocess.run([program.path, *words.split(" ")], stdin=subprocess.DEVNULL, stdout=terminal.end,
+            done = supervised.run([program.path, *words.split(" ")], stdin=subprocess.DEVNULL, stdout=terminal.end,
                                   stderr=subprocess.PIPE, check=False)
             ended = Ended(done.returncode, terminal.close(), done.stderr)
             tally.compare(f"terminals: {words}", ended, Ended(plain.status, escaped(plain.out), plain.err))
@@ -56,7 +57,7 @@ def closed(program, tally):
     """A terminal that hangs up is a failed write."""
     write("many", "1\n" * 100000)
     user, end = pty.openpty()
-    with subprocess.Popen([program.path, "sim", "named", "many"], stdin=subprocess.DEVNULL, stdout=end,
+    with supervised.Popen([program.path, "sim", "named", "many"], stdin=subprocess.DEVNULL, stdout=end,
                           stderr=subprocess.PIPE) as run:
         os.close(end)
         os.read(user, 1)

@@ -2,6 +2,7 @@
 
 import subprocess
 
+from library import supervised
 from library.circuits import write_all
 from library.runs import EXPECTED, Ended, contents
 from program.rows import Rows
@@ -89,7 +90,7 @@ NEGATIVE = b"error: invalid value '-1' for '--frames <K>': -1 is not in 0..=4294
 
 def tells(rows, asked, text):
     """These arguments ask for a text, which goes to standard error alone. It names the program, called `aig`."""
-    done = subprocess.run(["aig", *asked], executable=rows.program.path, stdin=subprocess.DEVNULL, capture_output=True,
+    done = supervised.run(["aig", *asked], executable=rows.program.path, stdin=subprocess.DEVNULL, capture_output=True,
                           check=False)
     ended = Ended(done.returncode, done.stdout, done.stderr)
     rows.tally.compare(f"words: {' '.join(asked)}", ended, Ended(2, b"", text))

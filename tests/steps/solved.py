@@ -5,6 +5,7 @@ import random
 import shutil
 import subprocess
 
+from library import supervised
 from library.families import Added, at_most_one, dimacs, pigeons, without
 from library.runs import LeftOut, contents, write
 from program.proofs import text_of
@@ -18,7 +19,7 @@ LEFT_OUT = 100
 def cadical(variables, clauses, *words):
     """The status of cadical, which writes `tail.drat`."""
     write("f.cnf", dimacs(variables, clauses))
-    return subprocess.run(["cadical", "-q", *words, "f.cnf", "tail.drat"], stdin=subprocess.DEVNULL,
+    return supervised.run(["cadical", "-q", *words, "f.cnf", "tail.drat"], stdin=subprocess.DEVNULL,
                           stdout=subprocess.DEVNULL, check=False).returncode
 
 

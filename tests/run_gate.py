@@ -1,0 +1,236 @@
+#!/usr/bin/env python3
+"""The gate's own scripts: which planted bugs it tries again, and what it notes of its checks. Beside them, when a part of
+the tests has seen a wrong body. This proves nothing."""
+
+import contextlib
+import io
+import os
+import pathlib
+import re
+import sys
+import time
+
+import wrong_bodies
+from library import runs, supervised
+from library.runs import REPOSITORY, write
+
+sys.path.insert(0, REPOSITORY + "/tools")
+import costs  # noqa: E402
+import gate  # noqa: E402
+import planted  # noqa: E402
+
+# The files of a proved library, with what is changed in each, and whether crates above can cite that.
+LIBRARY = {
+    "interface/lang/src/lib.rt": ("pub fn one ( ) -> u32 ;", "pub fn two ( ) -> u32 ;", True),
+    "lang/src/lib.rt": ("pub fn one() -> u32 { 1 }", "pub fn one() -> u32 { 2 - 1 }", False),
+    "lang/antt/specs/One.antt": ("one = 1", "one = 2", True),
+    "lang/antt/proofs/OneLemmas.antt": ("same = refl", "same = sym refl", True),
+    "lang/antt/proofs/one/Answers.antt": ("answer = refl", "answer = sym refl", False),
+    "lang/antt/proofs/one/Invariants.antt": ("holds = refl", "holds = sym refl", False),
+    "toolchain/mir.json": ("[1]", "[2]", False),
+}
+# The modules that the toolchain made, with their places in a file, in the same way.
+MADE = {"facade": True, "facade/one": True, "specs": True, "specs/contracts/one": True, "proofs/one/Code/Mir": False}
+
+
+def made_json(changed=None, at=9):
+    """The list of modules, where one has another sum."""
+    return "".join(f'["{name}",{at},72,"{"f" if name == changed else "0"}{number}",false]\n'
+                   for number, name in enumerate(MADE))
+
+
+def library(changed=None, module=None, at=9):
+    """A folder like a proved library, where a file or a module is changed."""
+    folder = pathlib.Path(os.path.abspath(f"library{len(os.listdir())}"))
+    for name, (text, other, _) in LIBRARY.items():
+        (folder / name).parent.mkdir(parents=True, exist_ok=True)
+        (folder / name).write_text(other if name == changed else text)
+    (folder / "toolchain/made.json").write_text(made_json(module, at))
+    return folder
+
+
+def cited(_, tally, __):
+    """The sum of a library is that of what crates above can cite."""
+    plain = planted.cited_sum(library())
+    tally.compare("cited: in another folder", planted.cited_sum(library(at=10)), plain)
+    for name, (_, _, is_cited) in LIBRARY.items():
+        tally.compare(f"cited: {name}", planted.cited_sum(library(name)) != plain, is_cited)
+    for name, is_cited in MADE.items():
+        tally.compare(f"cited: the module {name}", planted.cited_sum(library(module=name)) != plain, is_cited)
+    for name in ("interface", "toolchain/made.json"):
+        other = library()
+        (other / name).rename(other / "moved")
+        if name != "interface":
+            (other / name).write_text('{"modules": []}\n')
+        try:
+            planted.cited_sum(other)
+            tally.check(f"cited: without {name}", False, "it has a sum")
+        except ValueError:
+            tally.check(f"cited: without {name}", True)
+
+
+def crate(name, folder, below):
+    """A crate as planted.py has them, with these libraries below it."""
+    for part in ("src", "planted"):
+        (folder / part).mkdir(parents=True, exist_ok=True)
+        (folder / part / "one").write_text(part)
+    return planted.Crate(name, folder, ("src", ), {*below}, below, [], None)
+
+
+def sums(_, tally, __):
+    """The sum of a crate changes with its own files and bugs, its lines in crates.txt, the toolchain and the script."""
+    folder = pathlib.Path(os.path.abspath("crate"))
+    one = crate("aig_parts", folder, {"aig_bytes": library()})
+    plain = planted.sum_for(one)
+    tally.compare("sums: the same", planted.sum_for(crate("aig_parts", folder, {"aig_bytes": library()})), plain)
+    changes = {
+        "a body below": (False, crate("aig_parts", folder, {"aig_bytes": library("lang/src/lib.rt")})),
+        "a definition below": (True, crate("aig_parts", folder, {"aig_bytes": library("lang/antt/specs/One.antt")})),
+        "another library below": (True, crate("aig_parts", folder, {"aig_bytes": library(), "aig_base": library()})),
+        "other lines of crates.txt": (True, crate("aig_values", folder, {"aig_bytes": library()})),
+    }
+    for name, (is_other, changed) in changes.items():
+        tally.compare(f"sums: {name}", planted.sum_for(changed) != plain, is_other)
+    for part in ("src", "planted"):
+        changed = crate("aig_parts", folder, {"aig_bytes": library()})
+        (folder / part / "one").write_text("other")
+        tally.check(f"sums: {part}/", planted.sum_for(changed) != plain)
+    crate("aig_parts", folder, {})
+    with replaced(planted, "__file__", __file__), of_kit("kit"):
+        tally.check("sums: another script", planted.sum_for(one) != plain)
+    with of_kit("kit"):
+        tally.compare("sums: the same script", planted.sum_for(one), plain)
+    with of_kit("another kit"):
+        tally.check("sums: another rt version", planted.sum_for(one) != plain)
+
+
+@contextlib.contextmanager
+def of_kit(version):
+    """The sums where `rt version` prints this."""
+    planted.sum_of_judge.cache_clear()
+    with replaced(gate, "asked", lambda *_: version):
+        yield
+    planted.sum_of_judge.cache_clear()
+
+
+@contextlib.contextmanager
+def replaced(module, name, value):
+    """A module that has something else under this name."""
+    usual = getattr(module, name)
+    setattr(module, name, value)
+    try:
+        yield
+    finally:
+        setattr(module, name, usual)
+
+
+def again(_, tally, __):
+    """A tenth of the bugs that were refused before is tried again, and one that is proved then is a failure."""
+    edits = [planted.Edit(f"planted/{number}.edit", "clause", [], []) for number in range(300)]
+    one, commits = crate("aig_parts", pathlib.Path("crate"), {}), [f"{number:040x}" for number in range(100)]
+    chosen = [{it.name for it in planted.tried_again(commit, one, edits)} for commit in commits]
+    tally.compare("again: the same commit", {it.name for it in planted.tried_again(commits[0], one, edits[::-1])},
+                  chosen[0])
+    tally.compare("again: a tenth", {len(each) for each in chosen}, {30})
+    tally.compare("again: of few bugs", [len(planted.tried_again("0", one, edits[:count])) for count in (0, 1, 10, 11)],
+                  [0, 1, 1, 2])
+    tally.compare("again: each bug by some commit", len(set().union(*chosen)), len(edits))
+    tally.check("again: others by another commit", chosen[0] != chosen[1])
+    edits = [edit._replace(functions=[number]) for number, edit in enumerate(edits)]
+    for kind, says_so in ((planted.FALSE, False), (None, True)):
+        found, said = told(one, edits, commits[0], kind)
+        tally.compare(f"again: what is tried, {kind}", found, [kind] * len(chosen[0]))
+        tally.compare(f"again: it fails, {kind}", "FAILED: refused.txt" in said, says_so)
+    with replaced(planted, "REFUSED", pathlib.Path("missing")):
+        tally.compare("again: without a record", planted.recorded(), {})
+
+
+def told(one, edits, commit, kind):
+    """How the bugs of a recorded crate are refused that a commit chooses, and what is printed."""
+    def one_check(crate, room, known, texts, taken):
+        return [kind for _ in taken]
+
+    def in_one(folder, chosen):
+        return [({}, chosen)]
+
+    said = io.StringIO()
+    with replaced(planted, "tried", one_check), replaced(planted, "rounds", in_one), contextlib.redirect_stdout(said):
+        _, found = planted.told(one, [], edits, {one.name: planted.sum_for(one)}, commit)
+    return found, said.getvalue()
+
+
+# Scripts that end in each way that a part of the tests ends in, and whether a check of theirs failed.
+ENDS = {
+    "passes": ("echo one: 2 passed, 0 failed", None),
+    "fails": ("echo FAILED: one: 1, wanted 2; exit 1", True),
+    "stopped": ("echo STOPPED: one: it does not end; echo one: 0 passed, 1 failed; exit 3", False),
+    "crashes": ("echo Traceback; exit 1", False),
+    "goes_on": ("echo FAILED: one; sleep 60", False),
+}
+
+
+def wrong(program, tally, _):
+    """A part has seen a wrong body only if a check of it fails and it comes to its end."""
+    os.mkdir("tests")
+    for name, (script, _) in ENDS.items():
+        write(f"tests/{name}", f"#!/bin/sh\n{script}\n")
+        os.chmod(f"tests/{name}", 0o755)
+    with replaced(wrong_bodies, "ROOT", pathlib.Path(os.getcwd())), replaced(wrong_bodies, "PART_SECONDS", 3):
+        for name, (_, is_seen) in ENDS.items():
+            found = wrong_bodies.failures(program.path, f"{name} one", "any")
+            tally.check(f"wrong: a part that {name}", found.is_seen is is_seen, found)
+
+
+def scripts(_, tally, __):
+    """Each file that names its interpreter can be run by its name, as `tests/all.py` and pages do."""
+    folders = ("tests", "tools", "benchmarks", "python", ".ci")
+    for path in sorted(each for name in folders for each in pathlib.Path(REPOSITORY, name).rglob("*")):
+        if path.is_file() and path.suffix in (".py", ".sh", "") and "verdicts" not in path.parent.suffix:
+            with open(path, "rb") as file:
+                is_script = file.read(2) == b"#!"
+            if is_script:
+                tally.check(f"scripts: {path.name} can be run", os.access(path, os.X_OK))
+
+
+# A program under the name of a check of aig_none, which works for some seconds.
+CHECK = ["rattle", "-c", "import time\nlist(range(10 ** 6))\nwhile time.process_time() < 2: pass\ntime.sleep(60)",
+         "--crate-name", "aig_none"]
+
+
+def report(_, tally, __):
+    """What the gate notes of the checks of each crate, and its warnings; without /proc it notes nothing."""
+    seen = costs.Watch(os.getpid())
+    with supervised.Popen(CHECK, executable=sys.executable) as check:
+        until = time.monotonic() + runs.SECONDS
+        while sum(cost.processor for cost in seen.costs().values()) < 1 and time.monotonic() < until:
+            seen.look()
+            time.sleep(0.2)
+        check.kill()
+    found = seen.costs()
+    tally.compare("report: the checks", [*found], [(costs.BUGS, "aig_none")])
+    cost = found[costs.BUGS, "aig_none"]
+    tally.check("report: a check", 1 <= cost.processor < 10 and cost.wall > 0 and 1e6 < cost.memory < 1e9, cost)
+    dear = {(costs.PROOFS, "aig_high"): costs.Cost(700, 900, 2e9), (costs.PROOFS, "aig_wide"): costs.Cost(20, 30, 5e9),
+            (costs.PROOFS, "aig_low"): costs.Cost(20, 30, 2e9), (costs.BUGS, "aig_high"): costs.Cost(700, 900, 2e9)}
+    others = ["seconds 12\n", "proofs 3 passed\n"]
+    tally.compare("report: its lines", costs.costs_of([*costs.lines_of(dear), *others]), dear)
+    warned = re.findall(r"(?m)^warning: the proofs of (\w+) ", costs.table(dear))
+    tally.compare("report: its warnings", warned, ["aig_high", "aig_wide"])
+    tally.compare("report: no file", gate.costs_in("missing"), {})
+
+
+def with_kit(part):
+    """The part, which needs no toolchain."""
+    def run(*words):
+        with of_kit("kit"):
+            return part(*words)
+
+    run.__doc__ = part.__doc__
+    return run
+
+
+PARTS = {"cited": cited, "sums": with_kit(sums), "again": with_kit(again), "wrong": wrong, "scripts": scripts,
+         "report": report}
+
+if __name__ == "__main__":
+    runs.main(__doc__, PARTS)
