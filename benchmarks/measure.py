@@ -43,11 +43,13 @@ import plot as drawing
 BENCHMARKS = os.path.dirname(os.path.abspath(__file__))
 REPOSITORY = os.path.dirname(BENCHMARKS)
 sys.path.insert(0, REPOSITORY + "/tests")
-from library import broken  # noqa: E402
+from library import broken, supervised  # noqa: E402
 from library.runs import DESIGNS, EXAMPLES, contents, contents_of, write  # noqa: E402
 
 SOURCES = (1000, 1000, 100)  # inputs, latches, outputs
 MILLION = 1_000_000
+# How long a measured run or a build may take, in seconds.
+LONGEST = 3600
 
 
 # ---- programs
@@ -68,7 +70,7 @@ class Programs:
     def tuned(self):
         """The C++ program. It is linked as `aig` is, without libraries that are found when it starts."""
         source, program = BENCHMARKS + "/tuned/main.cpp", os.path.abspath("tuned")
-        subprocess.run(["c++", "-O2", "-static", "-std=c++17", "-o", program, source], check=True)
+        supervised.run(["c++", "-O2", "-static", "-std=c++17", "-o", program, source], check=True)
         return program
 
     def aig(self):
@@ -98,7 +100,7 @@ class Programs:
         return unproved(name, copy)
 
     def kind(self):
-        said = subprocess.run([self.get("aig"), "--version"], capture_output=True, text=True, check=False).stderr
+        said = supervised.run([self.get("aig"), "--version"], capture_output=True, text=True, check=False).stderr
         kind = "built without proofs, an estimate of the proved program" if "not proved" in said else "proved"
         return f"{self.get('aig')}, {kind}"
 
@@ -106,7 +108,7 @@ class Programs:
 def unproved(name, repository):
     program = os.path.abspath(name)
     if not os.path.exists(program):
-        subprocess.run([REPOSITORY + "/tools/build_unproved.sh", repository, name, program], check=True)
+        supervised.run([REPOSITORY + "/tools/build_unproved.sh", repository, name, program], check=True, timeout=LONGEST)
     return program
 
 
@@ -141,9 +143,9 @@ class Run:
 
     def __init__(self, words, output=os.devnull, expected=0):
         words = list(map(str, words))
-        with open(output, "wb") as out, subprocess.Popen(words, stdout=out, stderr=subprocess.DEVNULL) as process:
-            _, status, usage = os.wait4(process.pid, 0)
-            process.returncode = os.waitstatus_to_exitcode(status)
+        with open(output, "wb") as out, supervised.Popen(words, LONGEST, stdout=out,
+                                                         stderr=subprocess.DEVNULL) as process:
+            usage = process.usage()
         if process.returncode != expected:
             sys.exit(f"{words} ended with status {process.returncode}")
         self.seconds = usage.ru_utime + usage.ru_stime
@@ -179,7 +181,7 @@ def printed(times, words):
     """The least of the numbers that a program prints by name."""
     found = {}
     for _ in range(times):
-        text = subprocess.run(words, stdout=subprocess.PIPE, check=True, text=True).stdout
+        text = supervised.run(words, stdout=subprocess.PIPE, check=True, text=True, timeout=LONGEST).stdout
         for name, number in (line.split() for line in text.splitlines()):
             found[name] = min(float(number), found.get(name, float("inf")))
     return found
@@ -430,7 +432,7 @@ EDITS = {"bits": 1.05, "late": 1.05, "rewires": 1.0, "resets": 1.05, "frames": 1
 def touched(programs, circuit, rows, script):
     """How many cells of gates the edits of a script touch."""
     words = [programs.get("tuned"), "touched", circuit, rows, script]
-    done = subprocess.run(words, stdout=subprocess.DEVNULL, stderr=subprocess.PIPE, check=True)
+    done = supervised.run(words, stdout=subprocess.DEVNULL, stderr=subprocess.PIPE, check=True)
     return int(done.stderr)
 
 
@@ -629,7 +631,8 @@ def resident(words):
     """The greatest resident size of a run. A small process starts it, since that of what starts it counts too."""
     starts = ("import resource, subprocess, sys; subprocess.run(sys.argv[1:], stdout=subprocess.DEVNULL, check=True); "
               "print(resource.getrusage(resource.RUSAGE_CHILDREN).ru_maxrss)")
-    done = subprocess.run([sys.executable, "-c", starts, *words], stdout=subprocess.PIPE, check=True, text=True)
+    done = supervised.run([sys.executable, "-c", starts, *words], stdout=subprocess.PIPE, check=True, text=True,
+                          timeout=LONGEST)
     return 1024 * int(done.stdout)
 
 
@@ -661,7 +664,7 @@ UNSATISFIABLE = 20  # cadical's status
 
 
 def circuit_of(name, design):
-    """The circuit that Yosys makes of a design, as `examples/flow.sh` has it."""
+    """The circuit that Yosys makes of a design."""
     file = f"{name}.flow.aig"
     if not os.path.exists(file):
         Run(["yosys", "-q", "-p", f"read_verilog -sv -formal {design}; prep -flatten -top {name}; memory_map; opt -full; "
@@ -814,7 +817,7 @@ class Pair:
     @staticmethod
     def answer(program, words):
         """A run's status, and what it writes and says."""
-        ran = subprocess.run([program, *words], stdin=subprocess.DEVNULL, capture_output=True, check=False)
+        ran = supervised.run([program, *words], stdin=subprocess.DEVNULL, capture_output=True, check=False)
         return ran.returncode, ran.stdout, ran.stderr
 
     def compare(self, note, words, other_words=None):
@@ -900,7 +903,7 @@ def machine(programs, chosen):
         model = next(line.split(":")[1].strip() for line in file if line.startswith("model name"))
     with open("/proc/loadavg", encoding="ascii") as file:
         busy = file.read().split()[0]
-    said = subprocess.run(["c++", "--version"], stdout=subprocess.PIPE, check=True, text=True).stdout
+    said = supervised.run(["c++", "--version"], stdout=subprocess.PIPE, check=True, text=True).stdout
     compiler = said.splitlines()[0]
     print(f"{model}, {os.cpu_count()} cores, load {busy} at the start. The least of {chosen.times} runs.")
     print(f"Program measured: {programs.kind()}. C++ by {compiler}.", flush=True)

@@ -18,6 +18,8 @@ import gate
 CRATE = gate.ROOT + "/crates/aig_c"
 NAMES = ("libaig.a", "libaig.so")
 SONAME = "libaig.so.0"
+# how long a command may take: one of them proves a crate
+SECONDS = 7200
 # the library shows these names alone
 SHOWN = "{ global: aig_*; local: *; };\n"
 
@@ -31,7 +33,7 @@ def toolchain():
 def run(*words, folder=None):
     """Runs a command. Where it fails, its output is shown, and the script ends."""
     done = subprocess.run(words, cwd=folder, stdin=subprocess.DEVNULL, stdout=subprocess.PIPE, stderr=subprocess.STDOUT,
-                          errors="replace", text=True, check=False)
+                          errors="replace", text=True, check=False, timeout=SECONDS)
     if done.returncode:
         sys.exit(f"{done.stdout}\n{words[0]} failed")
     return done.stdout

@@ -1,5 +1,6 @@
 #!/usr/bin/env python3
-"""Compares crates.txt with the sources, and the table of crates in docs/ARCHITECTURE.md with crates.txt.
+"""Compares crates.txt with the sources, and the table of crates in docs/ARCHITECTURE.md and the picture of them,
+docs/floors.svg, with crates.txt.
 
 - A crate lists the libraries that a file of its src/, specs/ or proofs/ names, and no others. Comments do not count.
 - The libraries of a crate are above it in crates.txt. A line with `#` begins a floor, and says what the crates of the
@@ -7,9 +8,11 @@
   libraries either, and no file of its src/ names such a module of std.
 - ARCHITECTURE.md has a table with a row for each floor and, below it, one for each crate. Its last column has the
   libraries of the repository on which the crate stands, without those on which these stand.
+- The picture has the floors, the crates, these edges, and the longest chain by its lines of src and proofs, in
+  thousands (tools/draw_floors.py).
 
---write writes the table anew: floors, crates and the last column from crates.txt. It keeps what the page says a crate
-holds. The script reads text and proves nothing."""
+--write writes table and picture anew: floors, crates and the last column from crates.txt. It keeps what the page says a
+crate holds. The script reads text and proves nothing."""
 
 import argparse
 import collections
@@ -17,10 +20,12 @@ import difflib
 import re
 import sys
 
+import draw_floors
 from sources.specs import ROOT
 
 LIST = ROOT / "crates.txt"
 PAGE = ROOT / "docs" / "ARCHITECTURE.md"
+PICTURE = ROOT / "docs" / "floors.svg"
 TABLE = "| crate | holds | stands on |"
 END = "."
 
@@ -115,6 +120,12 @@ def table(all_floors, libraries, held):
     return lines
 
 
+def lines_of(name):
+    """Returns the lines of src and proofs of a crate."""
+    return sum(path.read_text(encoding="utf-8").count("\n") for part in ("src", "proofs")
+               for path in (ROOT / "crates" / name / part).rglob("*") if path.suffix in (".rt", ".antt"))
+
+
 def page_parts():
     """Returns the lines of the page before its table, in it, and after it."""
     lines = PAGE.read_text(encoding="utf-8").split("\n")
@@ -125,7 +136,8 @@ def page_parts():
 
 def main():
     reader = argparse.ArgumentParser(description=__doc__, formatter_class=argparse.RawDescriptionHelpFormatter)
-    reader.add_argument("--write", action="store_true", help="write the table of docs/ARCHITECTURE.md")
+    reader.add_argument("--write", action="store_true",
+                        help="write the table of docs/ARCHITECTURE.md, and docs/floors.svg")
     chosen = reader.parse_args()
     all_floors = floors()
     libraries = {name: of for floor in all_floors for name, of in floor.crates.items()}
@@ -133,8 +145,13 @@ def main():
     rows = [re.match(r"\| `(\w+)` \| (.*?) \|", line) for line in old]
     held = {row[1]: row[2] for row in rows if row}
     new = table(all_floors, libraries, held)
+    below_each = {name: direct(name, libraries) for name in libraries}
+    lines = {name: lines_of(name) for name in libraries}
+    drawn = [draw_floors.Floor(it.title, it.unknown, [*it.crates]) for it in all_floors]
+    picture = draw_floors.draw(drawn, below_each, lines)
     if chosen.write:
         PAGE.write_text("\n".join([*before, *new, *after]), encoding="utf-8")
+        PICTURE.write_text(picture, encoding="utf-8")
         old = new
     wrong = [*wrong_list(all_floors, libraries)]
     wrong += [f"docs/ARCHITECTURE.md does not say what {name} holds" for name in libraries if not held.get(name)]
@@ -144,10 +161,14 @@ def main():
         print(line)
     if old != new:
         print("docs/ARCHITECTURE.md (-) differs from crates.txt (+): tools/edges.py --write writes the table anew")
-    if wrong or old != new:
+    is_drawn = PICTURE.exists() and PICTURE.read_text(encoding="utf-8") == picture
+    if not is_drawn:
+        print("docs/floors.svg differs from crates.txt and the sources: tools/edges.py --write draws it anew")
+    if wrong or old != new or not is_drawn:
         return 1
-    count = sum(len(direct(name, libraries)) for name in libraries)
+    count = sum(len(of) for of in below_each.values())
     print(f"{len(libraries)} crates on {len(all_floors)} floors, {count} edges: crates.txt is as the sources are")
+    print(f"the longest chain has {draw_floors.longest(below_each, lines).lines} lines of src and proofs")
     return 0
 
 

@@ -2,7 +2,10 @@
 """The record of the last gate that passed, build/gate. `.ci/run` writes it; `make install` and `make dist` read it.
 
   begin               removes the record, and prints the state of the repository
-  end BEGAN FILE..    writes the record: the state in the file BEGAN, and the last line of each FILE
+  end BEGAN COSTS FILE..
+                      writes the record: the state in the file BEGAN, the last line of each FILE, how long the gate took,
+                      and what the checks of each crate cost, which COSTS has (tools/costs.py), if it is there
+  report              prints what the checks of each crate cost in that gate, and warns of those that are dear
   program             prints the program to install: the proved one, if the gate passed these sources, else build/aig
   library             prints the folder of the library for C to install, by the same rule, else build/lib"""
 
@@ -10,9 +13,14 @@ import hashlib
 import os
 import subprocess
 import sys
+import time
+
+import costs
 
 ROOT = os.path.dirname(os.path.dirname(os.path.abspath(__file__)))
 RECORD = ROOT + "/build/gate"
+# how long a command may take that tells the state of the repository
+SECONDS = 120
 PROVED = "crates/aig/out/aig"
 UNPROVED = "build/aig"
 # the folders of the library for C
@@ -23,10 +31,10 @@ MADE = {"program": PROVED, "archive": PROVED_LIBRARY + "/libaig.a", "shared": PR
 
 
 def asked(*words):
-    """Returns what a command prints, or nothing where it fails."""
+    """Returns what a command prints, or nothing where it fails or does not end."""
     try:
-        done = subprocess.run(words, cwd=ROOT, capture_output=True, text=True, check=False)
-    except FileNotFoundError:
+        done = subprocess.run(words, cwd=ROOT, capture_output=True, text=True, check=False, timeout=SECONDS)
+    except (FileNotFoundError, subprocess.TimeoutExpired):
         return None
     return None if done.returncode else done.stdout.strip()
 
@@ -82,7 +90,16 @@ def last_line(name):
         return file.read().rstrip("\n").rpartition("\n")[2]
 
 
-def end(began, logs):
+def costs_in(name):
+    """Returns what the checks cost, by the lines of a file, or nothing where there is none."""
+    try:
+        with open(name, encoding="utf-8") as file:
+            return costs.costs_of(file)
+    except (FileNotFoundError, ValueError):
+        return {}
+
+
+def end(began, cost, logs):
     """Writes the record of a gate that passed, unless the sources changed while it ran."""
     before, now = read(began), state()
     if before["sources"] != now["sources"]:
@@ -92,6 +109,8 @@ def end(began, logs):
     record.update((name, total) for name, total in made().items() if total)
     record["toolchain"] = asked("rt", "version")
     record.update((os.path.basename(name), last_line(name)) for name in logs)
+    record["seconds"] = f"{time.time() - os.stat(began).st_mtime:.0f}"
+    record.update(line.rstrip("\n").split(" ", 1) for line in costs.lines_of(costs_in(cost)))
     os.makedirs(os.path.dirname(RECORD), exist_ok=True)
     with open(RECORD, "w", encoding="utf-8") as file:
         file.write(text_of(record))
@@ -128,8 +147,12 @@ def main(words):
         if os.path.exists(RECORD):
             os.remove(RECORD)
         print(text_of(state()), end="")
-    elif words[:1] == ["end"] and len(words) > 1:
-        end(words[1], words[2:])
+    elif words[:1] == ["end"] and len(words) > 2:
+        end(words[1], words[2], words[3:])
+    elif words == ["report"]:
+        record = read(RECORD)
+        said = costs.table(costs_in(RECORD)) + f"{record.get('seconds')} s in all" if record else ""
+        print(said or "no gate has passed here")
     elif words in (["program"], ["library"]):
         proved, unproved = {"program": (PROVED, UNPROVED), "library": (PROVED_LIBRARY, UNPROVED_LIBRARY)}[words[0]]
         print(proved if is_proved(read(RECORD), sources(), made()) else unproved)

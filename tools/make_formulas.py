@@ -32,7 +32,8 @@ def solved(variables, clauses, *options):
     with open("formula", "w", encoding="ascii") as file:
         file.write(f"p cnf {variables} {len(clauses)}\n")
         file.writelines(" ".join(map(str, clause)) + " 0\n" for clause in clauses)
-    done = subprocess.run(["cadical", "-q", *options, "formula", "proof"], stdout=subprocess.DEVNULL, check=False)
+    words = ["cadical", "-q", *options, "formula", "proof"]
+    done = subprocess.run(words, stdout=subprocess.DEVNULL, check=False, timeout=3600)
     with open("proof", "rb") as file:
         return done.returncode, file.read()
 

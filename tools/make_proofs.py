@@ -71,7 +71,8 @@ def solved(name, clauses):
     with open(f"{name}.cnf", "w", encoding="ascii") as file:
         file.write(f"p cnf {most} {len(clauses)}\n" + "".join(" ".join(map(str, clause)) + " 0\n" for clause in clauses))
     for form, options in (("text", ["--no-binary"]), ("binary", [])):
-        subprocess.run(["cadical", "-q", *options, f"{name}.cnf", f"{name}.{form}.drat"], stdout=subprocess.DEVNULL, check=False)
+        words = ["cadical", "-q", *options, f"{name}.cnf", f"{name}.{form}.drat"]
+        subprocess.run(words, stdout=subprocess.DEVNULL, check=False, timeout=3600)
     os.remove(f"{name}.cnf")
 
 

@@ -19,6 +19,9 @@ import gate
 sys.path.insert(0, gate.ROOT + "/python")
 import make_wheel  # noqa: E402
 
+# How long a program may take that packs.
+SECONDS = 600
+
 CONTROL = """\
 Package: aig
 Version: {version}
@@ -47,13 +50,14 @@ Made = collections.namedtuple("Made", "program library")
 
 def version_of(program):
     """Returns the version that a program names, as 0.1.0."""
-    said = subprocess.run([program, "--version"], capture_output=True, text=True, check=False).stderr
+    said = subprocess.run([program, "--version"], capture_output=True, text=True, check=False, timeout=SECONDS).stderr
     return re.match(r"aig (\S+)", said)[1]
 
 
 def libc_of(program):
     """Returns the least version of the C library that a program runs with."""
-    symbols = subprocess.run(["objdump", "-T", program], capture_output=True, text=True, check=True).stdout
+    words = ["objdump", "-T", program]
+    symbols = subprocess.run(words, capture_output=True, text=True, check=True, timeout=SECONDS).stdout
     return ".".join(map(str, max(tuple(map(int, it.split("."))) for it in re.findall(r"GLIBC_([0-9.]+)", symbols))))
 
 
@@ -63,7 +67,8 @@ def install(made, root, prefix, provenance):
     words = ["make", "-sC", gate.ROOT, "install", f"DESTDIR={root}", f"PREFIX={prefix}", f"PROGRAM={made.program}",
              f"LIBRARY={made.library or ''}"]
     settings = {name: text for name, text in os.environ.items() if not name.startswith("MAKE")}
-    made = subprocess.run(words, env=settings, stdin=subprocess.DEVNULL, capture_output=True, text=True, check=False)
+    made = subprocess.run(words, env=settings, stdin=subprocess.DEVNULL, capture_output=True, text=True, check=False,
+                          timeout=SECONDS)
     if made.returncode:
         sys.exit(f"make install failed: {made.stderr}")
     with open(f"{root}{prefix}/share/doc/aig/PROVENANCE", "w", encoding="utf-8") as file:
@@ -83,9 +88,10 @@ def make_archive(made, provenance, seconds, folder):
         install(made, root, f"/{name}", provenance)
         words = ["tar", "--sort=name", "--owner=0", "--group=0", "--numeric-owner", f"--mtime=@{seconds}",
                  "--format=ustar", "-C", root, "-c", name]
-        packed = subprocess.run(words, capture_output=True, check=True).stdout
+        packed = subprocess.run(words, capture_output=True, check=True, timeout=SECONDS).stdout
     with open(f"{folder}/{name}.tar.gz", "wb") as file:
-        file.write(subprocess.run(["gzip", "-9n"], input=packed, capture_output=True, check=True).stdout)
+        words = ["gzip", "-9n"]
+        file.write(subprocess.run(words, input=packed, capture_output=True, check=True, timeout=SECONDS).stdout)
     return f"{name}.tar.gz"
 
 
@@ -109,7 +115,7 @@ def make_package(made, provenance, seconds, folder):
             file.write(CONTROL.format(version=version, size=size, libc=libc_of(made.program)))
         os.chmod(root, 0o755)
         subprocess.run(["dpkg-deb", "--root-owner-group", "--build", root, f"{folder}/{name}"], capture_output=True,
-                       env={**os.environ, "SOURCE_DATE_EPOCH": str(seconds)}, check=True)
+                       env={**os.environ, "SOURCE_DATE_EPOCH": str(seconds)}, check=True, timeout=SECONDS)
     return name
 
 

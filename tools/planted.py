@@ -23,9 +23,11 @@ Each exported call has one: it fails where one has none, but for those that it l
 It tries those of the gate (crates/NAME/planted) and with --more all others too (crates/NAME/planted/more), over what
 `rt ci` or `rt check` left of the libraries below a crate; where there is nothing, they are built first.
 
-A crate whose files, with those of all crates below it, are as they were when all its bugs were refused is not tried
-again: refused.txt beside this script has the sums of these files. With --all every crate is tried. With --record, too,
-and a crate whose bugs are all refused gets its sum in that file.
+refused.txt beside this script has a sum of each crate whose bugs were all refused: of its files, its bugs and its lines
+in crates.txt, of what it can cite of the libraries below, of the toolchain and of this script. A library's bodies and
+proofs cannot be cited. Where the sum is the same, only a tenth of the crate's bugs is tried again. The commit chooses
+them, so each commit tries others. With --all every bug is tried. With --record, too, and a crate whose bugs are all
+refused gets its sum in that file. With --sums the sums of this run go into another file.
 
 With --list it tries nothing. It prints each bug with its clause and its sentence, the functions that it changes, and
 what it stands for beside them: an exported call that these functions serve (`guards`), a kind of mistake, a relation
@@ -34,6 +36,7 @@ or a law."""
 import argparse
 import collections
 import concurrent.futures
+import functools
 import hashlib
 import importlib.machinery
 import importlib.util
@@ -46,12 +49,20 @@ import sys
 import tempfile
 import time
 
+import gate
 from sources.exports import Crate as Exports, crates as libraries, signature
 
 ROOT = pathlib.Path(__file__).resolve().parent.parent
+sys.path.insert(0, str(ROOT / "tests"))
+from library import supervised  # noqa: E402
 
-# The sums of the crates whose planted bugs were all refused.
-REFUSED = ROOT / "tools" / "refused.txt"
+# How long a check may take, and how long the proofs that it waits for may print nothing, in seconds.
+CHECK_SECONDS, SILENT_SECONDS = 3600, 7200
+
+# The sums of the crates whose planted bugs were all refused, and which part of their bugs is tried all the same.
+REFUSED, TRIED_AGAIN = ROOT / "tools" / "refused.txt", 10
+# The files of a library's proofs/ that are of one function's proof: no other crate can cite them.
+UNCITED = ("Answers.antt", "Invariants.antt", "Proof.antt")
 REFUSED_HEAD = "# The crates whose planted bugs were all refused, and the sum of their files then: see planted.py --record\n"
 
 # Why a goal is open, what shows most of the body first.
@@ -79,7 +90,7 @@ WITHOUT = {
 # What the prover says of an answer that names something which is not there.
 NAMES = r"has no field|is not in scope|has no `|was not admitted"
 
-Crate = collections.namedtuple("Crate", "name folder parts below check build")
+Crate = collections.namedtuple("Crate", "name folder parts below libraries check build")
 Edit = collections.namedtuple("Edit", "name clause changes functions")
 Function = collections.namedtuple("Function", "name file first opens last clauses")
 Goal = collections.namedtuple("Goal", "name kind")
@@ -105,8 +116,8 @@ def toolchain(jobs):
 
     def read(crate):
         check = [*guarded, rtlib.RATTLE, "check", *crate.words(["--jobs", "1"], keeps=False)]
-        below = {it.name for it in crate.below()}
-        return Crate(crate.name, pathlib.Path(crate.folder), rtlib.PARTS, below, check, lambda: build(crate))
+        below = {it.name: pathlib.Path(it.rlib) for it in crate.below()}
+        return Crate(crate.name, pathlib.Path(crate.folder), rtlib.PARTS, {*below}, below, check, lambda: build(crate))
 
     return [read(it) for it in rtlib.crates_below(str(ROOT))]
 
@@ -310,6 +321,16 @@ def take_as_proved(crate, room, taken):
         file.write_text("\n".join(lines))
 
 
+def checked(words, room):
+    """Returns what a check in a folder prints. One that does not end is killed, and says nothing of any function."""
+    try:
+        # the toolchain's words put it into a group of their own, which a session's first process cannot join
+        return supervised.run(words, cwd=room, timeout=CHECK_SECONDS, start_new_session=False, stdin=subprocess.DEVNULL,
+                              stdout=subprocess.PIPE, stderr=subprocess.STDOUT, errors="replace").stdout
+    except subprocess.TimeoutExpired:
+        return f"it does not end within {CHECK_SECONDS} seconds"
+
+
 def tried(crate, room, known, texts, edits):
     """Checks a copy of a crate with planted bugs in this folder, prints each bug, and returns how each is refused. The
     functions that no bug changed are taken as proved."""
@@ -322,11 +343,10 @@ def tried(crate, room, known, texts, edits):
     wanted = sorted({it.name for edit in edits for it in edit.functions})
     take_as_proved(crate, room, [it for it in known if it.name not in wanted])
     words = ["--allow-holes", "--incremental", f"{room}/kept", *(it for name in wanted for it in ("--only", name))]
-    ran = subprocess.run([*crate.check, *words], cwd=room, check=False,
-                         stdin=subprocess.DEVNULL, stdout=subprocess.PIPE, stderr=subprocess.STDOUT, errors="replace")
-    verdicts, found = open_goals(crate.name, ran.stdout)
+    said = checked([*crate.check, *words], room)
+    verdicts, found = open_goals(crate.name, said)
     if not verdicts:
-        print(f"{crate.name}: the check failed: {ran.stdout[-2000:]}", flush=True)
+        print(f"{crate.name}: the check failed: {said[-2000:]}", flush=True)
     kinds = []
     for edit in edits:
         kind, why = judged(edit, verdicts, found)
@@ -336,12 +356,29 @@ def tried(crate, room, known, texts, edits):
     return kinds
 
 
-def told(crate, known, edits):
-    """Tries the planted bugs of a crate, and returns how each is refused."""
+def told(crate, known, edits, old, commit):
+    """Tries the planted bugs of a crate, or some where all were refused before. Returns the crate's sum, and how each
+    that was tried is refused."""
+    now, chosen = sum_for(crate), edits
+    is_recorded = old.get(crate.name) == now
+    if is_recorded:
+        chosen = tried_again(commit, crate, edits)
+        print(f"{crate.name}: {len(edits)} planted bugs were refused before; {len(chosen)} are tried again", flush=True)
     with tempfile.TemporaryDirectory(prefix="planted-") as name:
         room = pathlib.Path(name)
-        checks = rounds(crate.folder, edits)
-        return [kind for texts, taken in checks for kind in tried(crate, room, known, texts, taken)]
+        checks = rounds(crate.folder, chosen)
+        kinds = [kind for texts, taken in checks for kind in tried(crate, room, known, texts, taken)]
+    if is_recorded and None in kinds:
+        print(f"{crate.name}: FAILED: {REFUSED.name} says that its planted bugs are refused", flush=True)
+    return now, kinds
+
+
+def tried_again(commit, crate, edits):
+    """Returns those of a crate's bugs, all refused before, that a commit chooses: a tenth, and one at least."""
+    def place(edit):
+        return hashlib.sha256(f"{commit} {crate.name}/{edit.name}".encode()).digest()
+
+    return sorted(edits, key=place)[: -(-len(edits) // TRIED_AGAIN)]
 
 
 def edits_of(folder, rooms, only):
@@ -412,17 +449,44 @@ def sum_of(folder, parts):
     return total.hexdigest()
 
 
-def sums(crates):
-    """Returns for each of these crates, lowest first, the SHA-256 of what its planted bugs are tried on: the bugs, the
-    parts of its folder that a check reads, and those of all crates below it."""
-    read_by_checks = {it.name: sum_of(it.folder, it.parts) for it in crates}
+@functools.lru_cache(maxsize=None)
+def cited_sum(library):
+    """Returns the SHA-256 of what crates above can cite of a proved library: its interface, its contracts, definitions
+    and lemmas. A row of made.json has the name and the sum of a module that the toolchain made."""
+    total = hashlib.sha256()
+    parts = [library / "interface", library / "lang" / "antt" / "specs", library / "lang" / "antt" / "proofs"]
+    for name in (it for part in parts for it in sorted(part.rglob("*"))):
+        if name.is_file() and name.name not in UNCITED:
+            total.update(f"{name.relative_to(library)} {hashlib.sha256(name.read_bytes()).hexdigest()}\n".encode())
+    made = (library / "toolchain" / "made.json").read_text()
+    modules = re.findall(r'(?m)^\["((?:facade|specs)(?:/[^"]*)?)",\d+,\d+,"(\w+)"', made)
+    if {"facade", "specs"} - {name for name, _ in modules} or not (library / "interface").is_dir():
+        raise ValueError(f"{library} is not laid out as it was: what can be cited of it is not known")
+    total.update("".join(f"{name} {made_sum}\n" for name, made_sum in modules).encode())
+    return total.hexdigest()
 
-    def total(crate):
-        below = [read_by_checks[name] for name in sorted(crate.below)]
-        each = [sum_of(crate.folder, ["planted"]), read_by_checks[crate.name], *below]
-        return hashlib.sha256(" ".join(each).encode()).hexdigest()
 
-    return {it.name: total(it) for it in crates}
+@functools.lru_cache(maxsize=None)
+def sum_of_judge():
+    """Returns the SHA-256 of what decides whether a bug is refused: the toolchain, and this script."""
+    scripts = [pathlib.Path(__file__), *sorted((ROOT / "tools" / "sources").glob("*.py"))]
+    each = [gate.asked("rt", "version") or sys.exit("rt does not say its version"), *(it.read_text() for it in scripts)]
+    return hashlib.sha256("\0".join(each).encode()).hexdigest()
+
+
+def listed_for(crate):
+    """Returns the lines of crates.txt about a crate and those below it."""
+    names = {crate.name, *crate.below}
+    lines = [line.partition("#")[0].strip() for line in (ROOT / "crates.txt").read_text().splitlines()]
+    return sorted(line for line in lines if line and line.partition(":")[0].split()[0] in names)
+
+
+def sum_for(crate):
+    """Returns the SHA-256 of what the planted bugs of a crate are tried on: the bugs, the parts of its folder that a
+    check reads, its lines in crates.txt, what it can cite of the proved libraries below, and what judges the bugs."""
+    below = [f"{name} {cited_sum(crate.libraries[name])}" for name in sorted(crate.below)]
+    own = [sum_of(crate.folder, ["planted"]), sum_of(crate.folder, crate.parts), *listed_for(crate)]
+    return hashlib.sha256("\n".join([sum_of_judge(), *own, *below]).encode()).hexdigest()
 
 
 def recorded():
@@ -431,11 +495,12 @@ def recorded():
     return dict(line.split() for line in lines if not line.startswith("#"))
 
 
-def record(refused):
-    """Puts the sums of crates into refused.txt."""
+def record(refused, file=REFUSED):
+    """Puts the sums of crates beside those of refused.txt, in this file."""
     kept = {name: total for name, total in recorded().items() if (ROOT / "crates" / name).is_dir()}
     lines = [f"{name} {total}\n" for name, total in sorted({**kept, **refused}.items())]
-    REFUSED.write_text(REFUSED_HEAD + "".join(lines))
+    file.parent.mkdir(exist_ok=True)
+    file.write_text(REFUSED_HEAD + "".join(lines))
 
 
 def copies(crate):
@@ -451,6 +516,8 @@ def in_turn(work, behind):
     libraries an `rt ci` that runs has proved, or kept from an earlier run, by its output so far."""
     left = sorted(work, key=lambda it: -len(it[-1]))
     while left:
+        if behind and time.time() - behind.stat().st_mtime > SILENT_SECONDS:
+            sys.exit(f"the proofs printed nothing for {SILENT_SECONDS} seconds")
         said = behind.read_text() if behind else ""
         if re.search(r"(?m)^rt: .* NOT PROVED$", said):
             sys.exit("a library is not proved")
@@ -468,12 +535,14 @@ def main():
     parser.add_argument("--jobs", type=int, default=few, help=f"how many processors it takes (else {few})")
     parser.add_argument("--only", action="append", help="the planted bugs whose names hold this; may be given again")
     parser.add_argument("--more", action="store_true", help="those of planted/more/ too")
-    parser.add_argument("--all", action="store_true", help="those of crates that are in refused.txt too")
+    parser.add_argument("--all", action="store_true", help="also those that refused.txt says were refused")
     parser.add_argument("--record", action="store_true", help="tries all, and puts what was refused into refused.txt")
     parser.add_argument("--list", action="store_true", help="prints the planted bugs, and tries none")
     parser.add_argument("--behind", type=pathlib.Path, metavar="FILE",
                         help="the output of an `rt ci` that runs: a crate waits for the libraries below it")
     parser.add_argument("crates", nargs="*", help="the crates whose planted bugs are tried (else all)")
+    parser.add_argument("--sums", type=pathlib.Path, metavar="FILE",
+                        help="writes refused.txt as it should be after this run into FILE")
     words = parser.parse_args()
     os.chdir(ROOT)
     rooms = ("planted", "planted/more") if words.more else ("planted",)
@@ -484,7 +553,8 @@ def main():
         print(f"{name}: FAILED: no planted bug changes it or guards it")
         failed += 1
     crates = toolchain(words.jobs)
-    now, old = sums(crates), {} if words.all or words.record or words.more or words.only else recorded()
+    commit = gate.asked("git", "rev-parse", "HEAD")
+    old = {} if words.all or words.record or words.more or words.only else recorded()
     for crate in crates:
         if words.crates and crate.name not in words.crates:
             continue
@@ -495,24 +565,26 @@ def main():
         for name in copies(crate):
             print(f"{crate.name}/must-fail/{name}: FAILED: it differs from that of planted/")
             failed += 1
-        if old.get(crate.name) == now[crate.name]:
-            print(f"{crate.name}: its {len(edits)} planted bugs were refused over these files before", flush=True)
-            before += len(edits)
-            continue
         if edits and not words.behind:
             crate.build()
         work += [(crate, known, edits)] if edits else []
     with concurrent.futures.ThreadPoolExecutor(words.jobs) as pool:
-        tries = {it[0].name: pool.submit(told, *it) for it in in_turn(work, words.behind)}
-        kinds = collections.Counter()
-        for name, it in tries.items():
-            kinds.update(it.result())
-            # at once, so that a run that is stopped keeps what it found
-            if words.record and not words.only and all(it.result()):
-                record({name: now[name]})
+        tries = {it[0].name: (pool.submit(told, *it, old, commit), len(it[2])) for it in in_turn(work, words.behind)}
+        kinds, refused = collections.Counter(), {}
+        for name, (it, number) in tries.items():
+            now, found = it.result()
+            kinds.update(found)
+            before += number - len(found)
+            if not words.only and all(found):
+                refused[name] = now
+                # at once, so that a run that is stopped keeps what it found
+                if words.record:
+                    record(refused)
+    if words.sums:
+        record(refused, words.sums)
     print("refused: " + ", ".join(f"{kinds[kind]} {kind}" for kind in KINDS[:-1]))
     passed, failed = sum(kinds[kind] for kind in KINDS), failed + kinds[None]
-    print(f"{passed} passed, {failed} failed" + f"; {before} refused before over the same files" * (before > 0))
+    print(f"{passed} passed, {failed} failed" + f"; {before} refused before and not tried again" * (before > 0))
     return 1 if failed else 0
 
 

@@ -60,7 +60,8 @@ def main():
     with tempfile.TemporaryDirectory() as room:
         copy(pathlib.Path(room))
         archive = f"{room}/libaig_c.a"
-        built = subprocess.run([ROOT / "tools" / "build_unproved.sh", room, "aig_c", archive], check=False)
+        words = [ROOT / "tools" / "build_unproved.sh", room, "aig_c", archive]
+        built = subprocess.run(words, check=False, timeout=c_library.SECONDS)
         if built.returncode:
             sys.exit(built.returncode)
         c_library.link(archive, os.path.abspath(sys.argv[1]))
