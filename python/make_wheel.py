@@ -4,8 +4,8 @@
 usage: make_wheel.py FOLDER [PROGRAM]
 
 With a PROGRAM, the wheel has it as a script, so pip puts it on the path; the wheel is for this platform only. Without
-one, the wheel is pure Python, and the package finds the program on the path. `pip install` of this folder calls
-`build_wheel`: there AIG_PROGRAM names the program to pack, if it is set."""
+one, the wheel is pure Python, and the package finds the program on the path. Both have the command `aig-verdicts`.
+`pip install` of this folder calls `build_wheel`: there AIG_PROGRAM names the program to pack, if it is set."""
 
 import base64
 import hashlib
@@ -28,13 +28,17 @@ License: Apache-2.0 OR MIT
 Description-Content-Type: text/markdown
 
 {readme}"""
+ENTRY_POINTS = """\
+[console_scripts]
+aig-verdicts = aig.verdicts.command:main
+"""
 
 
 def tag_of(program):
     """The tag of a wheel with this program: the oldest C library that it runs with."""
     if program is None:
         return "py3-none-any"
-    symbols = subprocess.run(["objdump", "-T", program], capture_output=True, text=True, check=True).stdout
+    symbols = subprocess.run(["objdump", "-T", program], capture_output=True, text=True, check=True, timeout=120).stdout
     oldest = max(tuple(map(int, version.split("."))) for version in re.findall(r"GLIBC_([0-9.]+)", symbols))
     return f"py3-none-manylinux_{oldest[0]}_{oldest[1]}_x86_64"
 
@@ -43,11 +47,13 @@ def files_of(program, tag):
     """The files of the wheel, but for its list of files: their bytes and modes by name."""
     facts = f"aig-{VERSION}.dist-info"
     readme = (HERE / "README.md").read_text(encoding="utf-8")
-    sources = sorted(it for it in (HERE / "src" / "aig").iterdir() if it.suffix == ".py" or it.name == "py.typed")
-    files = {f"aig/{path.name}": (path.read_bytes(), 0o644) for path in sources}
+    source = HERE / "src"
+    paths = sorted(it for it in source.rglob("*") if it.suffix == ".py" or it.name == "py.typed")
+    files = {path.relative_to(source).as_posix(): (path.read_bytes(), 0o644) for path in paths}
     if program is not None:
         files[f"aig-{VERSION}.data/scripts/aig"] = (Path(program).read_bytes(), 0o755)
     wheel = f"Wheel-Version: 1.0\nGenerator: make_wheel\nRoot-Is-Purelib: {str(program is None).lower()}\nTag: {tag}\n"
+    files[f"{facts}/entry_points.txt"] = (ENTRY_POINTS.encode(), 0o644)
     files[f"{facts}/METADATA"] = (METADATA.format(version=VERSION, readme=readme).encode(), 0o644)
     files[f"{facts}/WHEEL"] = (wheel.encode(), 0o644)
     return files

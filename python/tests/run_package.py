@@ -4,71 +4,36 @@
 The parts: the session of python/README.md line by line (`readme`, with cadical); each call of the package, with names
 that are odd or ambiguous, each kind of row, gates after all sections, models as each solver gives them, right and wrong
 proofs and certificates, edits and replies of a bench, 50,000 lines at once and a row that is longer than a pipe
-(`names`, `rows`, `arrays` with numpy, `files`, `verdicts`, `certificates`, `bench`); `aig.prove` and `aig.certify` with
-cadical: a bug, a bound, an induction, a right and a wrong certificate, and solvers that fail (`solvers`); a bench whose
-program is killed, no program, no memory, four threads, and a system without memory files (`failures`, `threads`,
-`folders`)."""
+(`names`, `rows`, `arrays` with numpy, `files`, `verdicts`, `certificates`, `bench`); a circuit with 13 properties, of
+which each answer is about the one that was asked for (`many`, `models`); a program that is killed after it printed a
+verdict (`killed`); `aig.prove` and `aig.certify` with cadical: a bug, a bound, an induction, a right and a wrong
+certificate, and solvers that fail (`solvers`); searches that a bound or another thread ends (`bounds`); verdicts beside
+the texts that they were (`texts`); two circuits side by side (`miters`); what notebooks show (`notebooks`); a bench
+whose program is killed, no program, no memory, four threads, and a system without memory files (`failures`, `threads`,
+`folders`); and, where it is asked for, what mypy says of the package (`types`)."""
 
 import contextlib
 import doctest
-import importlib.util
 import os
+import pickle
 import re
 import shutil
-import subprocess
 import sys
-import threading
+from fractions import Fraction
 from pathlib import Path
 
 PYTHON = Path(__file__).resolve().parent.parent
 sys.path.insert(0, str(PYTHON.parent / "tests"))
-from library import runs  # noqa: E402
-from library.runs import EXAMPLES, LeftOut  # noqa: E402
+from library import runs, supervised  # noqa: E402
+from library.runs import EXAMPLES  # noqa: E402
+from library.supervised import SCRIPT_SECONDS  # noqa: E402
 
 if "--installed" not in sys.argv:
     sys.path.insert(0, str(PYTHON / "src"))
 import aig  # noqa: E402
-
-CONFIRMED = "1\nb0\n00\n1\n1\n1\n1\n.\n"
-# Latch 4 takes input 2 and latch 4, so it stays 0 once it is. The certificate claims that it is 0.
-STAYS = "aag 3 1 1 0 1 1\n2\n4 6\n4\n6 2 4\n"
-CLAIMS_0 = "aag 2 1 1 1 0\n2\n4 4\n4\n"
-PROOF_OF_0 = b"6 0\n0\n"
-CLAIMS_1 = "aag 2 1 1 1 0\n2\n4 4\n5\n"
-
-
-def need(*names):
-    """Leaves the part out where a program or a package of Python is missing."""
-    for name in names:
-        if importlib.util.find_spec(name) is None and not shutil.which(name):
-            raise LeftOut(f"there is no {name}")
-
-
-@contextlib.contextmanager
-def running(program):
-    """The package runs this program."""
-    usual = os.environ.get("AIG_PROGRAM")
-    os.environ["AIG_PROGRAM"] = os.path.abspath(program)
-    try:
-        yield
-    finally:
-        if usual is None:
-            del os.environ["AIG_PROGRAM"]
-        else:
-            os.environ["AIG_PROGRAM"] = usual
-
-
-def example(name):
-    return aig.read(f"{EXAMPLES}/{name}")
-
-
-def raised(call, *words, **settings):
-    """What a call raises."""
-    try:
-        call(*words, **settings)
-    except Exception as error:
-        return error
-    return None
+from package import answers, bench, failures, miters, notebooks, searches  # noqa: E402
+from package.common import CLAIMS_0, CLAIMS_1, CONFIRMED, PROOF_OF_0, STAYS  # noqa: E402
+from package.common import example, need, raised, running  # noqa: E402
 
 
 def readme(_, tally, __):
@@ -89,15 +54,33 @@ def names(_, tally, __):
     counter, wraps = example("counter.aag"), example("wraps.aag")
     tally.compare("a negated name", counter.literal("!enable"), 3)
     tally.compare("a place", counter.find("o4").name, "wrap")
-    for name, call, words in (("no signal", counter.literal, ("nothing",)), ("no property", wraps.cnf, (3, 1)),
-                              ("an empty name", counter.literal, ("",))):
-        tally.check(name, isinstance(raised(call, *words), KeyError))
+    for message, call, words in (("there is no signal 'nothing'", counter.literal, ("nothing",)),
+                                 ("there is no bad 1", wraps.cnf, (3, 1)), ("there is no inputs 9", counter.find, (9,)),
+                                 ("there is no signal ''", counter.literal, ("",))):
+        error = raised(call, *words)
+        tally.check(message, isinstance(error, KeyError) and error.args == (message,), error)
     odd = aig.Circuit("aag 2 2 0 1 0\n2\n4\n2\ni0 !a b\ni1 i0\no0 twice\n")
     tally.compare("odd names", [odd.literal(name) for name in ("!a b", "!!a b", "i0", "!i0", "twice")], [2, 3, 4, 5, 2])
     tally.compare("no names", aig.Circuit("aag 2 2 0 0 0\n2\n4\n").literal("i1"), 4)
     both = aig.Circuit("aag 2 2 0 0 0\n2\n4\ni0 a\ni1 a\n")
-    tally.compare("one name of two literals", str(raised(both.literal, "a")), '"\'a\' names i0 and i1: use one of these"')
+    tally.compare("one name of two literals", str(raised(both.literal, "a")),
+                  '"\'a\' names i0 and i1: use one of these"')
     tally.compare("a name that is not UTF-8", aig.Circuit(b"aag 1 1 0 0 0\n2\ni0 \xff\n").inputs, ["\udcff"])
+
+
+class Number:
+    """A number that is no int, as those of numpy."""
+
+    __hash__ = None
+
+    def __init__(self, value):
+        self.value = value
+
+    def __int__(self):
+        return self.value
+
+    def __eq__(self, other):
+        return self.value == other
 
 
 def rows(_, tally, __):
@@ -105,7 +88,13 @@ def rows(_, tally, __):
     kinds = (["1x", "01"], [[1, None], [False, True]], [{"enable": 1}, {"enable": 0, "clear": 1}], b"1x\n01\n")
     tally.compare("four kinds of rows", {counter.rows(kind) for kind in kinds}, {b"1x\n01\n"})
     tally.compare("no rows", len(counter.simulate([])), 0)
-    tally.check("a value that is none", isinstance(raised(counter.simulate, [[2, 0]]), ValueError))
+    for value in (2, -1, Fraction(1, 2), "2", "01", [1], b"1"):
+        error = raised(counter.simulate, [[value, 0]])
+        tally.check(f"no value: {value!r}", isinstance(error, ValueError) and repr(value) in str(error), error)
+    numbers = [[Number(1), 0], [Number(0), aig.X], ["x", True]]
+    tally.compare("numbers of other types", counter.rows(numbers), b"10\n0x\nx1\n")
+    tally.check("x is read from a file as itself", pickle.loads(pickle.dumps(aig.X)) is aig.X)
+    tally.compare("x shown", (f"{aig.X}", repr(aig.X)), ("x", "X"))
     error = raised(counter.simulate, ["1"])
     tally.compare("a short row", (error.part, error.reason), ("stimulus", "length of line 1"))
     tally.check("its explanation", "\n" in error.explanation and "/proc" not in error.explanation, error.explanation)
@@ -181,6 +170,7 @@ def verdicts(_, tally, __):
     truths = [None] + [number in numbers for number in range(1, formula.variables + 1)]
     tally.compare("models", {formula.witness(it).text for it in (model, model.decode(), numbers, truths)},
                   {CONFIRMED.encode()})
+    tally.compare("the formula, clause by clause", list(formula), formula.clauses)
     tally.compare("inputs of the formula", sorted(formula.inputs), [(0, frame) for frame in range(4)])
     tally.compare("clauses", (len(formula.clauses), formula.size), (74, 74))
 
@@ -189,6 +179,7 @@ def certificates(_, tally, __):
     stays = aig.Circuit(STAYS)
     certified = stays.certified(CLAIMS_0)
     tally.compare("strengthened", len(certified.strengthened().properties), 1)
+    tally.compare("shown", repr(certified), f"<Certified {stays!r}>")
     tally.compare("the formula", certified.cnf().variables, 8)
     tally.compare("a right certificate", certified.refute(PROOF_OF_0), "unreachable")
     wrong = stays.certified(aig.Circuit(CLAIMS_1))
@@ -198,114 +189,20 @@ def certificates(_, tally, __):
     tally.compare("no certificate", raised(stays.certified(b"").cnf).part, "certificate")
 
 
-def solvers(_, tally, __):
-    need("cadical")
-    wraps, stays = example("wraps.aag"), aig.Circuit(STAYS)
-    tally.compare("a bug", aig.prove(wraps, "wraps").rows, ["1"] * 4)
-    tally.compare("no bug within 3", aig.prove(wraps, "wraps", frames=3), "unreachable within 3")
-    tally.compare("no bug", aig.prove(stays), "unreachable")
-    tally.check("no frames", isinstance(raised(aig.prove, wraps, frames=0), ValueError))
-    tally.compare("certified", aig.certify(stays.certified(CLAIMS_0)), "unreachable")
-    witness = aig.certify(stays.certified(CLAIMS_1))
-    tally.compare("a wrong certificate", (witness.property, witness.circuit.check(witness).line), ("b0", "confirmed"))
-    step = stays.cnf(1, step=True)
-    tally.check("the step", aig.solve(step).proof is not None or aig.solve(step).model is not None)
-    tally.check("no solver", isinstance(raised(aig.solve, step, "no-such-solver"), FileNotFoundError))
-    tally.check("a solver that fails", isinstance(raised(aig.solve, step, "false"), RuntimeError))
-
-
-def bench(_, tally, __):
-    counter = example("counter.aag")
-    with counter.bench(["10"] * 4) as edited:
-        tally.compare("values", edited.values(["count[0]", "!count[0]"], range(4)), [[0, 1], [1, 0], [0, 1], [1, 0]])
-        tally.compare("no gate", raised(edited.rewire, 3, 1, 1).number, 1)
-        tally.compare("no frame", raised(edited.value, "enable", 4).number, 6)
-        tally.compare("no frame of many", raised(edited.values, ["enable"], [3, 4]).number, 6)
-        edited.append({"enable": 1, "clear": 1})
-        tally.compare("appended", len(edited.trace()), 5)
-        edited.pop()
-        edited.reset("count[0]", 1)
-        edited.set_output("wrap", 1)
-        circuit, kept = edited.save()
-        tally.compare("saved rows", kept, ["10"] * 4)
-        tally.compare("saved circuit", circuit.simulate(kept)["o4"], "1111")
-        tally.compare("the bench after saving", edited.value("count[0]", 0), 1)
-        gates = [edited.add_gate("enable", "clear") for _ in range(2)]
-        tally.compare("new gates", [gate - 2 * circuit.info()["variables"] for gate in gates], [2, 4])
-        edited.set("clear", 0, "x")
-        tally.check("x", edited.value(gates[0], 0) is aig.X)
-        tally.check("unrolled", edited.unroll().startswith(b"aag "))
-        tally.compare("many lines", len(edited.script(["v 3 6"] * 50_000)), 50_000)
-        tally.compare("an unknown line", edited.script(["q", "v 9 6"]), ["bad", "no 6"])
-        tally.check("a line with a long reply", isinstance(raised(edited.script, ["t"]), ValueError))
-    tally.check("a closed bench", isinstance(raised(edited.value, 2, 0), ValueError))
-    tally.compare("rejected rows", raised(counter.bench, ["1"]).part, "stimulus")
-    toggle = aig.Circuit("aag 1 0 1 1 0\n2 3\n2\n")
-    with toggle.bench([""] * 2) as edited:
-        edited.append({})
-        tally.compare("a circuit without inputs", len(edited.trace()), 3)
-    wide = aig.Circuit("aag 100000 100000 0 0 0\n" + "".join(f"{2 * it}\n" for it in range(1, 100_001)))
-    with wide.bench(["1" * 100_000]) as edited:
-        edited.append("0" * 100_000)
-        tally.compare("a row longer than a pipe", edited.value(200_000, 1), 0)
-
-
-def failures(program, tally, _):
-    counter = example("counter.aag")
-    with counter.bench(["10"]) as killed:
-        killed._process.kill()
-        tally.check("a killed bench", isinstance(raised(killed.value, "enable", 0), RuntimeError))
-    tally.check("no circuit", raised(aig.Circuit, b"").part == "circuit")
-    tally.check("no file", isinstance(raised(aig.read, "nothing.aag"), FileNotFoundError))
-    error = aig.errors.error_of(3, "aig: circuit: memory\n")
-    tally.check("memory", isinstance(error, MemoryError) and isinstance(error, aig.AigError) and error.part == "circuit")
-    tally.check("memory of no part", isinstance(aig.errors.error_of(3, "aig: memory\n"), MemoryError))
-    tally.check("a failed read", isinstance(aig.errors.error_of(3, "aig: proof: input or output\n"), OSError))
-    runs.write("small", f'#!/bin/sh\nulimit -v 10000\nexec "{program.path}" "$@"\n')
-    os.chmod("small", 0o755)
-    with running("small"):
-        tally.check("a small circuit in little memory", raised(aig.Circuit, "aag 0 0 0 0 0\n") is None)
-        latches = "".join(f"{2 * it} 2\n" for it in range(1, 600_001))
-        error = raised(aig.Circuit, f"aag 600000 0 600000 0 0\n{latches}")
-        tally.check("out of memory", isinstance(error, aig.OutOfMemory), error)
-    with running("none"):
-        tally.check("no program", isinstance(raised(aig.Circuit, b""), FileNotFoundError))
-
-
-def threads(_, tally, __):
-    wraps, wrong = example("wraps.aag"), []
-
-    def work():
-        wrong.extend(1 for _ in range(10) if not wraps.check(CONFIRMED))
-
-    started = [threading.Thread(target=work) for _ in range(4)]
-    for thread in started:
-        thread.start()
-    for thread in started:
-        thread.join()
-    tally.compare("verdicts of four threads", wrong, [])
-
-
-def folders(_, tally, __):
-    """The same calls where the system has no memory files."""
-    made = getattr(os, "memfd_create", None)
-    if made is None:
-        raise LeftOut("the system has no memory files: all other parts ran without them")
-    del os.memfd_create
-    try:
-        wraps = example("wraps.aag")
-        tally.check("a verdict", bool(wraps.check(CONFIRMED)))
-        with wraps.bench(["1"] * 4) as edited:
-            tally.compare("a value", edited.value("wraps", 3), 1)
-        tally.compare("a rejected file", raised(aig.Circuit, b"").part, "circuit")
-    finally:
-        os.memfd_create = made
+def types(_, tally, __):
+    need("mypy")
+    words = ["mypy", "--strict", "--python-version", "3.9", "--cache-dir", os.devnull, str(PYTHON / "src" / "aig")]
+    done = supervised.run(words, capture_output=True, timeout=SCRIPT_SECONDS)
+    tally.compare("mypy", (done.returncode, done.stdout.decode().splitlines()[:-1]), (0, []))
 
 
 PARTS = {
     "readme": readme, "names": names, "rows": rows, "arrays": arrays, "files": files, "verdicts": verdicts,
-    "certificates": certificates, "solvers": solvers, "bench": bench, "failures": failures, "threads": threads,
-    "folders": folders,
+    "certificates": certificates, "many": answers.many, "models": answers.models, "killed": answers.killed,
+    "solvers": searches.solvers, "bounds": searches.bounds, "texts": searches.texts, "miters": miters.miters,
+    "notebooks": notebooks.notebooks,
+    "bench": bench.bench, "failures": failures.failures, "threads": failures.threads, "folders": failures.folders,
+    "types": types,
 }
 
 
@@ -323,4 +220,4 @@ def of_package(part):
 
 
 if __name__ == "__main__":
-    runs.main(__doc__, {name: of_package(part) for name, part in PARTS.items()}, options=options)
+    runs.main(__doc__, {name: of_package(part) for name, part in PARTS.items()}, ("types",), options)

@@ -9,14 +9,22 @@ import sysconfig
 import tempfile
 from contextlib import ExitStack, contextmanager
 from pathlib import Path
-from typing import Iterator, List, Mapping, Sequence, Tuple
+from typing import Iterator, List, Mapping, Optional, Sequence, Tuple
 
-from .errors import error_of
+try:
+    import resource
+except ImportError:  # no Unix
+    resource = None  # type: ignore[assignment]
+
+from .errors import OutOfMemory, error_of
+
+# Of a program whose output is bounded, beside what its files and its output take.
+MOST_MEMORY = 1 << 28
 
 
 def program() -> str:
-    """The path of the program: `$AIG_PROGRAM`, else the one that pip installed with this package, else the first `aig` on
-    the path."""
+    """The path of the program: `$AIG_PROGRAM`, else the one that pip installed with this package, else the first `aig`
+    on the path."""
     named = os.environ.get("AIG_PROGRAM")
     if named:
         return named
@@ -57,13 +65,34 @@ def run(
     files: Sequence[bytes],
     named: Mapping[str, bytes] = {},
     good: Sequence[int] = (0,),
+    most: Optional[int] = None,
 ) -> bytes:
-    """What the program prints for these files, and for those that an option names. It raises the error of any other run:
-    one with a message, or with a status that is not `good`. That a verdict's property is named is no message."""
+    """What the program prints for these files, and for those that an option names. It raises the error of any other
+    run: one with a message, with a status that is not `good`, or with more than `most` bytes. That a verdict's property
+    is named is no message."""
     with held(*named.values(), *files) as (paths, descriptors):
         by_option = [word for option, path in zip(named, paths) for word in (option, path)]
         words = [program(), command, "--explain", *options, *by_option, *paths[len(named):]]
-        done = subprocess.run(words, stdin=subprocess.DEVNULL, capture_output=True, pass_fds=descriptors, check=False)
-    if done.returncode not in good or done.stderr.startswith(b"aig: "):
-        raise error_of(done.returncode, done.stderr.decode("utf-8", "replace"))
-    return done.stdout
+        with subprocess.Popen(words, stdin=subprocess.DEVNULL, stdout=subprocess.PIPE, stderr=subprocess.PIPE,
+                              pass_fds=descriptors) as process:
+            try:
+                out = b"" if most is None else _start_of(process, most, sum(map(len, files)))
+                rest, err = process.communicate()
+            except BaseException:
+                process.kill()
+                raise
+    if process.returncode not in good or err.startswith(b"aig: "):
+        raise error_of(process.returncode, err.decode("utf-8", "replace"))
+    return out + rest
+
+
+def _start_of(process: subprocess.Popen[bytes], most: int, read: int) -> bytes:
+    """What a process prints, if that is not too much. Its memory is bounded too, as it may hold all that it prints."""
+    if hasattr(resource, "prlimit"):
+        memory = MOST_MEMORY + 4 * most + 64 * read
+        resource.prlimit(process.pid, resource.RLIMIT_AS, (memory, memory))
+    assert process.stdout is not None
+    out = process.stdout.read(most + 1)
+    if len(out) > most:
+        raise OutOfMemory("program", f"it prints more than {most} bytes")
+    return out

@@ -43,6 +43,8 @@ class Bench:
                 [program(), "bench", "--explain", *options, *paths, "/dev/stdin"], stdin=subprocess.PIPE,
                 stdout=subprocess.PIPE, stderr=self._errors, pass_fds=descriptors, bufsize=1 << 16,
             )
+            assert self._process.stdin is not None and self._process.stdout is not None
+            self._lines, self._replies = self._process.stdin, self._process.stdout
             try:
                 self._ask("")  # Once the reply `bad` to an empty line is here, the program has read both files.
             except BaseException:
@@ -62,13 +64,13 @@ class Bench:
 
     def _send(self, lines: str) -> None:
         try:
-            self._process.stdin.write(lines.encode())
-            self._process.stdin.flush()
+            self._lines.write(lines.encode())
+            self._lines.flush()
         except (BrokenPipeError, ValueError):
             self._fail()
 
     def _reply(self) -> str:
-        line = self._process.stdout.readline()
+        line = self._replies.readline()
         if not line.endswith(b"\n"):
             self._fail()
         return line[:-1].decode()
@@ -93,7 +95,7 @@ class Bench:
     def _text(self, line: str) -> bytes:
         """The reply of several lines, up to the one with a dot."""
         self._send(line + "\n")
-        lines = []
+        lines: List[str] = []
         while True:
             reply = _accepted(self._reply(), line)
             if reply == ".":
@@ -128,7 +130,7 @@ class Bench:
 
     def trace(self) -> Trace:
         """The trace of all frames."""
-        return Trace(self.circuit._entries, self._text("t"))
+        return Trace(self.circuit.signals, self._text("t"))
 
     def unroll(self) -> bytes:
         """The circuit unrolled for all frames, as text."""
@@ -172,8 +174,8 @@ class Bench:
 
     def save(self) -> Tuple[Circuit, List[str]]:
         """The edited circuit and rows. The bench goes on with them."""
-        self._process.stdin.close()
-        self._process.stdout.read()
+        self._lines.close()
+        self._replies.read()
         if self._process.wait() != 0:
             self._fail()
         file, rows = (path.read_bytes() for path in self._kept)
@@ -185,10 +187,10 @@ class Bench:
     def close(self) -> None:
         """Ends the program. What was not saved is lost."""
         try:
-            self._process.stdin.close()
+            self._lines.close()
         except BrokenPipeError:
             pass
-        self._process.stdout.close()
+        self._replies.close()
         self._process.wait()
         self._folder.cleanup()
         self._errors.close()

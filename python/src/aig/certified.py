@@ -13,7 +13,8 @@ if TYPE_CHECKING:
 
 
 class Certified:
-    """A circuit, one of its bad state properties, and a certificate: a circuit that says why no run reaches the property.
+    """A circuit, one of its bad state properties, and a certificate: a circuit that says why no run reaches the
+    property.
 
     Model checkers write such certificates. Nothing in them is believed.
     """
@@ -27,8 +28,8 @@ class Certified:
         return f"<Certified {self.circuit!r}>"
 
     def strengthened(self) -> Circuit:
-        """The circuit strengthened by the certificate. If no run reaches its one property, no run of the circuit reaches
-        the property that the certificate is for."""
+        """The circuit strengthened by the certificate. If no run reaches its one property, no run of the circuit
+        reaches the property that the certificate is for."""
         from .circuit import Circuit
 
         return Circuit(run("strengthen", "--to", "aig", *self._options, files=[self.circuit.file], named=self._named))

@@ -6,17 +6,20 @@ import os
 from pathlib import Path
 from typing import Dict, Iterable, List, Optional, Tuple, Union
 
+from ._parts import parts_of
 from ._program import run
 from .bench import Bench
 from .certified import Certified
 from .entries import SECTIONS, Entries, Entry, Signal
 from .formula import Formula
 from .rows import Row, stimulus
-from .runs import Trace, Verdict, Witness, explanation
+from .runs import Trace, Witness, explanation
+from .verdict import Verdict
 
 
 class Circuit:
-    """A circuit that the program accepted: `Circuit(bytes)`, or `aig.read(path)`. It never changes; a `Bench` edits one.
+    """A circuit that the program accepted: `Circuit(bytes)`, or `aig.read(path)`. It never changes; a `Bench` edits
+    one.
 
     A signal is a name (its symbol, or `i0`, `l2`, `o1`, `b0` by section and position), `!` and a name for its negation,
     or a literal.
@@ -25,11 +28,11 @@ class Circuit:
     def __init__(self, file: Union[bytes, str]):
         self.file = file.encode() if isinstance(file, str) else bytes(file)
         listed = run("info", "--names", files=[self.file])
-        self._entries = Entries(listed.decode("utf-8", "surrogateescape").split("\n")[:-1])
+        self.signals = Entries(listed.decode("utf-8", "surrogateescape").split("\n")[:-1])
         self._facts: Optional[Dict[str, Union[int, str]]] = None
 
     def __repr__(self) -> str:
-        counts = ((len(self._entries.section(letter)), name) for letter, name in SECTIONS.items())
+        counts = ((len(self.signals.section(letter)), name) for letter, name in SECTIONS.items())
         return f"<Circuit of {', '.join(f'{count} {name}' for count, name in counts if count) or 'nothing'}>"
 
     # -- what it has
@@ -37,7 +40,7 @@ class Circuit:
     @property
     def entries(self) -> List[Entry]:
         """All entries, in the order of the file."""
-        return self._entries.all
+        return self.signals.all
 
     @property
     def inputs(self) -> List[str]:
@@ -57,12 +60,12 @@ class Circuit:
         return self._labels("b")
 
     def _labels(self, letter: str) -> List[str]:
-        return [entry.label for entry in self._entries.section(letter)]
+        return [entry.label for entry in self.signals.section(letter)]
 
     @property
     def gates(self) -> List[Tuple[int, int, int]]:
         """The gates: the literal of each, and its two right sides."""
-        return _gates_of(self.to("aag"))
+        return parts_of(self.to("aag")).gates
 
     def info(self) -> Dict[str, Union[int, str]]:
         """The facts that `aig info` prints: variables, gates, levels, fanout, .."""
@@ -73,7 +76,7 @@ class Circuit:
 
     def find(self, name: Signal, sections: str = "ilobcf") -> Entry:
         """The entry of this name, or at this place, among these sections."""
-        return self._entries.find(name, sections)
+        return self.signals.find(name, sections)
 
     def literal(self, signal: Signal) -> int:
         """The literal of a signal."""
@@ -94,7 +97,7 @@ class Circuit:
         """The file in the format `aag` or `aig`."""
         return run("toaig", "--to", format, files=[self.file])
 
-    def save(self, path: Union[str, os.PathLike]) -> None:
+    def save(self, path: Union[str, "os.PathLike[str]"]) -> None:
         """Writes the file: as text if the path ends with `.aag`, else in the binary format."""
         Path(path).write_bytes(self.to("aag" if str(path).endswith(".aag") else "aig"))
 
@@ -112,19 +115,20 @@ class Circuit:
 
     def simulate(self, rows: Iterable[Row]) -> Trace:
         """The run over these rows, from the resets."""
-        return Trace(self._entries, run("sim", files=[self.file, self.rows(rows)]))
+        return Trace(self.signals, run("sim", files=[self.file, self.rows(rows)]))
 
     def wave(self, rows: Iterable[Row]) -> bytes:
         """The run over these rows as a value change dump, for a waveform viewer."""
         return run("wave", files=[self.file, self.rows(rows)])
 
     def why(self, of: str, rows: Iterable[Row], frame: Optional[int] = None, depth: Optional[int] = None) -> List[str]:
-        """Why a signal or a vector has its value in the run over these rows: lines, from a frame back (default: the last)."""
+        """Why a signal or a vector has its value in the run over these rows: lines, from a frame back (default: the
+        last)."""
         return explanation(self.file, self.rows(rows), of, frame, depth)
 
     def rows(self, rows: Iterable[Row]) -> bytes:
         """The stimulus of these rows."""
-        return stimulus(self._entries, rows)
+        return stimulus(self.signals, rows)
 
     def bench(self, rows: Iterable[Row] = ()) -> Bench:
         """A bench with this circuit and these rows, to edit and to ask."""
@@ -132,11 +136,13 @@ class Circuit:
 
     # -- verdicts
 
-    def check(self, witness: Union[Witness, bytes, str]) -> Verdict:
-        """The verdict on a witness."""
+    def check(self, witness: Union[Witness, bytes, str], property: Optional[Signal] = None) -> Verdict:
+        """The verdict on a witness. If a property is named, a witness of another one is rejected."""
         text = witness.text if isinstance(witness, Witness) else witness
         text = text.encode() if isinstance(text, str) else text
-        return Verdict(run("check", files=[self.file, text], good=(0, 1)).decode().strip())
+        options = [] if property is None else [f"--property={self.position(property)}"]
+        line = run("check", *options, files=[self.file, text], good=(0, 1)).decode().strip()
+        return Verdict(line, witness=Witness(self, text) if line == "confirmed" else None)
 
     def witness(self, rows: Iterable[Row], property: Optional[Signal] = None) -> Witness:
         """The witness that the run over these rows reaches a property; the first that it reaches, if none is named."""
@@ -175,18 +181,7 @@ class Circuit:
         return self.find(property, "b").position
 
 
-def read(path: Union[str, os.PathLike]) -> Circuit:
+def read(path: Union[str, "os.PathLike[str]"]) -> Circuit:
     """The circuit of a file, in either format."""
     return Circuit(Path(path).read_bytes())
 
-
-def _gates_of(text: bytes) -> List[Tuple[int, int, int]]:
-    """The gates of a file in the format aag."""
-    lines = text.split(b"\n")
-    counts = [*map(int, lines[0].split()[2:]), 0, 0, 0, 0]
-    inputs, latches, outputs, gates, bad, constraints, justice, fairness = counts[:8]
-    sizes = 1 + inputs + latches + outputs + bad + constraints
-    literals = sum(map(int, lines[sizes : sizes + justice]))
-    begin = sizes + justice + literals + fairness
-    found = (tuple(map(int, line.split())) for line in lines[begin : begin + gates])
-    return [(gate, left, right) for gate, left, right in found]

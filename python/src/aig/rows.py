@@ -2,7 +2,7 @@
 
 from __future__ import annotations
 
-from typing import Iterable, Mapping, Sequence, Union
+from typing import Any, Iterable, Mapping, Sequence, Union
 
 from .entries import Entries
 from .values import letter, numpy
@@ -11,8 +11,8 @@ Row = Union[str, Sequence[object], Mapping[str, object]]
 
 
 def stimulus(entries: Entries, rows: Iterable[Row]) -> bytes:
-    """The stimulus of these rows: texts such as `01x`, sequences of values, dictionaries by name (x for an input that is
-    left out), or an array of numpy. Bytes are a stimulus already."""
+    """The stimulus of these rows: texts such as `01x`, sequences of values, dictionaries by name (x for an input that
+    is left out), or an array of numpy. Bytes are a stimulus already."""
     if isinstance(rows, (bytes, bytearray)):
         return bytes(rows)
     if numpy is not None and isinstance(rows, numpy.ndarray) and rows.ndim == 2 and rows.dtype.kind in "biu":
@@ -31,9 +31,9 @@ def _line(entries: Entries, row: Row) -> str:
     return "".join(letters)
 
 
-def _of_array(rows) -> bytes:
+def _of_array(rows: Any) -> bytes:
     if rows.size and (rows.min() < -1 or rows.max() > 1):
         raise ValueError("a value of an array is 0, 1, or -1 for x")
     codes = numpy.full((rows.shape[0], rows.shape[1] + 1), ord("\n"), dtype=numpy.uint8)
     codes[:, :-1] = numpy.where(rows == -1, ord("x"), rows.astype(numpy.int8) + ord("0"))
-    return codes.tobytes()
+    return bytes(codes.tobytes())

@@ -1,10 +1,9 @@
-"""Runs of a circuit: traces, witnesses and their verdicts."""
+"""Runs of a circuit: traces and witnesses."""
 
 from __future__ import annotations
 
 import re
-from dataclasses import dataclass
-from typing import TYPE_CHECKING, List, Tuple, Union, overload
+from typing import TYPE_CHECKING, Any, List, Optional, Tuple, Union, overload
 
 from ._program import run
 from .entries import Entries
@@ -22,7 +21,7 @@ class Trace:
 
     def __init__(self, entries: Entries, text: bytes):
         self.text = text.decode()
-        self._entries = entries
+        self.entries = entries
         columns = [line.split(" ") for line in self.text.split("\n")[:-1]]
         self.states: List[str] = [line[0] for line in columns]
         self.inputs: List[str] = [line[1] for line in columns]
@@ -40,11 +39,11 @@ class Trace:
     @overload
     def __getitem__(self, key: Tuple[str, int]) -> Value: ...
 
-    def __getitem__(self, key):
+    def __getitem__(self, key: Union[str, Tuple[str, int]]) -> Union[str, Value]:
         if isinstance(key, tuple):
             name, frame = key
             return value_of(self[name][frame])
-        entry = self._entries.find(key, "ilo")
+        entry = self.entries.find(key, "ilo")
         rows = {"i": self.inputs, "l": self.states, "o": self.outputs}[entry.letter]
         return "".join(row[entry.position] for row in rows)
 
@@ -53,14 +52,14 @@ class Trace:
         `NAME[0]` is the least significant bit."""
         for letter in "ilo":
             pattern = re.compile(re.escape(name) + r"\[(0|[1-9][0-9]*)\]")
-            matched = ((pattern.fullmatch(entry.name), entry) for entry in self._entries.section(letter))
+            matched = ((pattern.fullmatch(entry.name), entry) for entry in self.entries.section(letter))
             bits = {int(match[1]): entry.place for match, entry in matched if match}
             if bits and sorted(bits) == list(range(len(bits))):
                 columns = [self[bits[number]] for number in reversed(range(len(bits)))]
                 return [number_of("".join(letters)) for letters in zip(*columns)]
         raise KeyError(f"there is no vector {name!r}")
 
-    def array(self, section: str = "outputs"):
+    def array(self, section: str = "outputs") -> Any:
         """The values of `states`, `inputs` or `outputs` as an array of numpy, a row per frame, with -1 for x."""
         if numpy is None:
             raise ImportError("numpy is not installed")
@@ -68,22 +67,19 @@ class Trace:
         codes = numpy.frombuffer("".join(rows).encode(), dtype=numpy.uint8).reshape(len(rows), -1)
         return numpy.where(codes == ord("x"), -1, codes.astype(numpy.int8) - ord("0")).astype(numpy.int8)
 
+    def svg(self) -> str:
+        """A picture of the run: its inputs, latches and outputs, 24 at most."""
+        from .pictures import svg_of_trace
 
-@dataclass(frozen=True)
-class Verdict:
-    """The verdict on a witness. It is true if the witness is confirmed.
+        return svg_of_trace(self)
 
-    line  what `aig check` prints
-    """
+    def _repr_svg_(self) -> str:
+        return self.svg()
 
-    line: str
+    def _repr_html_(self) -> str:
+        from .pictures import scrolling
 
-    @property
-    def confirmed(self) -> bool:
-        return self.line == "confirmed"
-
-    def __bool__(self) -> bool:
-        return self.confirmed
+        return scrolling(self.svg())
 
 
 def explanation(
@@ -99,6 +95,7 @@ class Witness:
     """A run to a bad state.
 
     property    the property that it reaches, by name or as `b0`
+    position    the position of this property
     start       a letter per latch
     rows        a text per frame, with a letter per input
     text        the witness as the program writes it
@@ -107,13 +104,14 @@ class Witness:
     def __init__(self, circuit: Circuit, text: bytes):
         self.circuit, self.text = circuit, bytes(text)
         lines = self.text.decode().split("\n")
-        self.property = circuit.properties[int(lines[1][1:])]
+        self.position = int(lines[1][1:])
+        self.property = circuit.properties[self.position]
         self.start, self.rows = lines[2], lines[3:-2]
 
     def __repr__(self) -> str:
         return f"<Witness of {self.property} at frame {len(self.rows) - 1}>"
 
-    def _repr_pretty_(self, printer, cycle) -> None:
+    def _repr_pretty_(self, printer: Any, cycle: bool) -> None:
         printer.text(f"{self!r}\n{self.text.decode()}")
 
     def reduced(self) -> Witness:
@@ -121,10 +119,25 @@ class Witness:
         return Witness(self.circuit, run("reduce", files=[self.circuit.file, self.text]))
 
     def why(self, of: Optional[str] = None, frame: Optional[int] = None, depth: Optional[int] = None) -> List[str]:
-        """Why a signal or a vector (default: the property) has its value at a frame (default: the last): lines, from that
-        frame back."""
+        """Why a signal or a vector (default: the property) has its value at a frame (default: the last): lines, from
+        that frame back."""
         return explanation(self.circuit.file, self.text, of, frame, depth, "--witness")
 
     def wave(self) -> bytes:
         """Its run as a value change dump, for a waveform viewer."""
         return run("wave", "--witness", files=[self.circuit.file, self.text])
+
+    def svg(self) -> str:
+        """A picture of its run. Thick lines are the values that suffice for the property (`why`), hatched boxes are
+        x."""
+        from .pictures import svg_of_witness
+
+        return svg_of_witness(self)
+
+    def _repr_svg_(self) -> str:
+        return self.svg()
+
+    def _repr_html_(self) -> str:
+        from .pictures import scrolling
+
+        return scrolling(self.svg())

@@ -2,7 +2,8 @@
 
 from __future__ import annotations
 
-import subprocess
+import os
+import shutil
 import tempfile
 from pathlib import Path
 from typing import NamedTuple, Optional, Sequence, Union
@@ -12,56 +13,112 @@ from .circuit import Circuit
 from .entries import Signal
 from .formula import Formula
 from .runs import Witness
+from .verdict import Verdict
+from .verdicts.decide import Bounds, Found, Programs, Task, decide
+from .verdicts.tools import Stop, run
 
 Solver = Union[str, Sequence[str]]
 CADICAL = ("cadical", "-q")
+# What stands for no bound, in seconds.
+NO_BOUND = 10.0**7
 
 
 class Solved(NamedTuple):
-    """What a solver found: the text of a model, or a proof that there is none."""
+    """What a solver found: the text of a model, or a proof that there is none; neither if a bound ended it."""
 
     model: Optional[str]
     proof: Optional[bytes]
 
 
-def solve(formula: Formula, solver: Solver = CADICAL) -> Solved:
-    """Runs a solver on a formula. Its arguments are the formula's file and the proof's file, as for cadical."""
+def solve(
+    formula: Formula, solver: Solver = CADICAL, *, seconds: Optional[float] = None, conflicts: int = 0,
+    stop: Optional[Stop] = None,
+) -> Solved:
+    """Runs a solver on a formula. Its arguments are the formula's file and the proof's file, as for cadical.
+
+    seconds    after which it is ended
+    conflicts  after which it gives up: cadical's option `-c`
+    stop       ends it when it is called, from a signal or another thread: `solve` then raises `aig.Stopped`
+    """
     words = [solver] if isinstance(solver, str) else list(solver)
-    with tempfile.TemporaryDirectory(prefix="aig-") as folder:
-        question, proof = Path(folder, "cnf"), Path(folder, "proof")
-        question.write_bytes(formula.text)
-        done = subprocess.run([*words, str(question), str(proof)], stdin=subprocess.DEVNULL, capture_output=True,
-                              text=True, check=False)
-        if done.returncode == 10:
-            return Solved(done.stdout, None)
-        if done.returncode == 20:
+    words[0] = _found(words[0])
+    bounded = ["-c", str(conflicts)] if conflicts else []
+    with tempfile.TemporaryDirectory(prefix="aig-") as name:
+        folder = Path(name)
+        proof = folder / "proof"
+        (folder / "cnf").write_bytes(formula.text)
+        ran = run([*words, *bounded, "cnf", "proof"], folder, NO_BOUND if seconds is None else seconds, stop or Stop())
+        if ran.status == 10:
+            return Solved(ran.out.decode("utf-8", "replace"), None)
+        if ran.status == 20:
             return Solved(None, proof.read_bytes())
-    raise RuntimeError(f"{words[0]} ended with status {done.returncode}: {(done.stderr or done.stdout).strip()[:400]}")
+        if ran.status is None or ran.status == 0 and (conflicts or seconds is not None):
+            return Solved(None, None)
+    raise RuntimeError(f"{words[0]} ended with status {ran.status}: {ran.said}")
 
 
 def prove(
-    circuit: Circuit, property: Signal = 0, frames: int = 20, solver: Solver = CADICAL
-) -> Union[Witness, str]:
-    """A witness of a property, if a run of at most so many frames reaches it. Else `unreachable` if induction shows that,
-    or `unreachable within K`. The toolkit checks all three."""
+    circuit: Circuit, property: Signal = 0, frames: int = 20, solver: Solver = CADICAL, *, abc: Optional[str] = None,
+    seconds: Optional[float] = None, conflicts: int = 0, stop: Optional[Stop] = None,
+) -> Verdict:
+    """The verdict on a property: a shortest run of at most so many frames, a proof by induction, an invariant that ABC
+    finds if its program is named, or a proof that no run of so many frames reaches it. The toolkit checks them all.
+
+    The bounds are for one question to a solver or to ABC. If they end the search, the verdict is `undecided`, or of
+    fewer frames. `stop` ends it when it is called, from a signal or another thread: `prove` then raises `aig.Stopped`.
+    """
     if frames < 1:
         raise ValueError("a run has one frame at least")
-    for count in range(1, frames + 1):
-        formula = circuit.cnf(count, property)
-        base = solve(formula, solver)
-        if base.model is not None:
-            return formula.witness(base.model)
-        step = solve(circuit.cnf(count, property, step=True), solver)
-        if step.proof is not None:
-            return circuit.refute(count, base.proof, property, step=step.proof)
-    return circuit.refute(frames, base.proof, property)
+    bounds = Bounds(frames=frames, conflicts=conflicts, seconds=NO_BOUND if seconds is None else seconds)
+    programs = Programs(_as_cadical(solver), abc and _found(abc))
+
+    def found(position: int) -> Found:
+        return decide(Task.of(circuit.file, position, bounds=bounds, programs=programs), stop)
+
+    found_of_it = found(circuit.position(property))
+    verdict = _verdict(circuit, found_of_it)
+    if verdict.line.startswith("unreachable") and circuit.info()["constraints"]:
+        alive = found(-1)
+        if alive.by == "alive":
+            found_of_it.files.update(alive.files)
+            return _verdict(circuit, found_of_it, alive.verdict)
+    return verdict
 
 
-def certify(certified: Certified, solver: Solver = CADICAL) -> Union[Witness, str]:
-    """`unreachable`, if the certificate shows that no run reaches the property. Else a witness of the strengthened
-    circuit, which shows which claim of the certificate is wrong. The toolkit checks both."""
+def certify(
+    certified: Certified, solver: Solver = CADICAL, *, seconds: Optional[float] = None, conflicts: int = 0,
+    stop: Optional[Stop] = None,
+) -> Union[Witness, Verdict]:
+    """The verdict `unreachable`, if the certificate shows that no run reaches the property. Else a witness of the
+    strengthened circuit, which shows which claim of the certificate is wrong. The toolkit checks both. If a bound ends
+    the search, the verdict is `undecided`."""
     formula = certified.cnf()
-    found = solve(formula, solver)
+    found = solve(formula, solver, seconds=seconds, conflicts=conflicts, stop=stop)
     if found.model is not None:
         return formula.witness(found.model)
-    return certified.refute(found.proof)
+    if found.proof is None:
+        return Verdict("undecided", notes=["the solver found no answer within its bounds"])
+    files = {"certificate": certified.certificate, "proof": found.proof}
+    return Verdict(certified.refute(found.proof), by="certificate", files=files)
+
+
+def _verdict(circuit: Circuit, found: Found, vacuous: str = "") -> Verdict:
+    witness = Witness(circuit, found.files["witness"]) if "witness" in found.files else None
+    frames = found.frames or None
+    return Verdict(found.verdict, found.by, frames, witness, vacuous, dict(found.files), list(found.notes))
+
+
+def _found(program: str) -> str:
+    """The path of a program."""
+    path = shutil.which(program)
+    if path is None:
+        raise FileNotFoundError(f"there is no program {program} on the path")
+    return os.path.abspath(path)
+
+
+def _as_cadical(solver: Solver) -> str:
+    """The program of a solver that takes the options of cadical."""
+    words = [solver] if isinstance(solver, str) else list(solver)
+    if words[1:] not in ([], ["-q"]):
+        raise ValueError("name a solver that takes the options of cadical, as a text without options")
+    return _found(words[0])

@@ -2,10 +2,12 @@
 
 from __future__ import annotations
 
-from typing import Union
+from importlib import import_module
+from typing import Any, Dict, Hashable, SupportsInt, Union
 
+numpy: Any
 try:
-    import numpy
+    numpy = import_module("numpy")
 except ImportError:  # the package works without it
     numpy = None
 
@@ -28,19 +30,17 @@ class Unknown:
 
 X = Unknown()
 Value = Union[int, Unknown]
-_LETTERS = {0: "0", 1: "1", "0": "0", "1": "1", "x": "x", None: "x", X: "x"}
+_LETTERS: Dict[Hashable, str] = {0: "0", 1: "1", "0": "0", "1": "1", "x": "x", None: "x", X: "x"}
 
 
 def letter(value: object) -> str:
     """The letter of a value: 0, 1, False, True, X, None or a letter."""
-    try:
-        return _LETTERS[value]
-    except (KeyError, TypeError):
-        pass
-    try:
-        return _LETTERS[int(value)]  # numpy's numbers
-    except (KeyError, TypeError, ValueError):
-        raise ValueError(f"a value is 0, 1 or x, and not {value!r}") from None
+    found = _LETTERS.get(value) if isinstance(value, Hashable) else None
+    if found is None and isinstance(value, SupportsInt) and int(value) == value:
+        found = _LETTERS.get(int(value))  # numpy's numbers
+    if found is None:
+        raise ValueError(f"a value is 0, 1 or x, and not {value!r}")
+    return found
 
 
 def value_of(text: str) -> Value:

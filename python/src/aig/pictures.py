@@ -1,0 +1,51 @@
+"""Pictures for notebooks."""
+
+from __future__ import annotations
+
+from typing import TYPE_CHECKING, List
+
+if TYPE_CHECKING:
+    from .runs import Trace, Witness
+    from .verdict import Verdict
+
+MOST_LANES = 24
+
+
+def svg_of_witness(witness: Witness) -> str:
+    """The run of a witness, with the causes of its property in thick lines."""
+    from .verdicts.runs import Told, story
+    from .verdicts.svg import waveform
+
+    told = story(Told(witness.circuit), witness.text)
+    return waveform(told.lanes, told.run.frames, told.run.frames - 1, f"run to {witness.property}", "reached")
+
+
+def svg_of_trace(trace: Trace) -> str:
+    """The inputs, latches and outputs of a run."""
+    from .verdicts.signals import Names
+    from .verdicts.svg import Lane, waveform
+
+    rows = {"i": trace.inputs, "l": trace.states, "o": trace.outputs}
+    signals = sorted(Names(trace.entries.all).signals.values(), key=lambda it: "ilo".index(it.letter))
+    lanes: List[Lane] = []
+    for name, letter, positions in signals[:MOST_LANES]:
+        lanes.append(Lane(name, ["".join(row[at] for at in reversed(positions)) for row in rows[letter]]))
+    left = len(signals) - len(lanes)
+    return waveform(lanes, len(trace), None, f"run of {len(trace)} frames" + (f", {left} more signals" if left else ""))
+
+
+def scrolling(svg: str) -> str:
+    """A picture as part of a page: it scrolls where it is too wide."""
+    return f'<div style="overflow-x:auto">{svg}</div>'
+
+
+def html_of_verdict(verdict: Verdict) -> str:
+    """A verdict, what it was found by, and its run."""
+    from .verdicts.svg import escape
+
+    ways = {"run": f": run of {verdict.frames}", "induction": f": induction of {verdict.frames}",
+            "certificate": ": certificate"}
+    vacuous = f"<p>Vacuous: {escape(verdict.vacuous)} keeps the constraints.</p>" if verdict.vacuous else ""
+    notes = f"<p>{'; '.join(map(escape, verdict.notes))}</p>" if verdict.notes else ""
+    picture = scrolling(verdict.witness.svg()) if verdict.witness else ""
+    return f"<p><b>{escape(verdict.line)}</b>{ways.get(verdict.by, '')}</p>{vacuous}{notes}{picture}"

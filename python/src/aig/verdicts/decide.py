@@ -1,0 +1,129 @@
+"""From a task to a verdict that `aig` printed. `decide` is a function of its task alone, so any executor may run it, in
+this process or on another machine."""
+
+from __future__ import annotations
+
+import hashlib
+import tempfile
+import zlib
+from dataclasses import dataclass, field, replace
+from pathlib import Path
+from typing import Dict, List, Optional
+
+from ..errors import AigError
+from .row import UNDECIDED
+from .tools import Clock, Stop, ToolFailed
+
+
+@dataclass(frozen=True)
+class Bounds:
+    """How far a search goes. Those in frames and conflicts give the same answers on each machine. Seconds and megabytes
+    only end what would not end.
+
+    frames     runs and inductions of up to so many frames
+    conflicts  of the solver, and of pdr, for one question; 0 is no bound
+    seconds    for one question; all questions of a property get five times as much
+    megabytes  of memory for a solver or ABC, and of a proof on disk; 0 is no bound
+    """
+
+    frames: int = 20
+    conflicts: int = 0
+    seconds: float = 60.0
+    megabytes: int = 0
+    proof_megabytes: int = 1024
+
+    def within(self, other: Bounds) -> bool:
+        """Whether a search with these bounds goes no further than with the others, but for its frames."""
+        limits = [(self.conflicts, other.conflicts), (self.seconds, other.seconds), (self.megabytes, other.megabytes),
+                  (self.proof_megabytes, other.proof_megabytes)]
+        return all(0 < own <= others or others == 0 for own, others in limits)
+
+
+@dataclass(frozen=True)
+class Programs:
+    """The solver and ABC, as names or paths. Without ABC there are no invariants."""
+
+    solver: str = "cadical"
+    abc: Optional[str] = "berkeley-abc"
+
+
+@dataclass(frozen=True)
+class Sent:
+    """A circuit on its way to a worker: its bytes, compressed, or the path of a file that has this sum."""
+
+    sum: str
+    packed: bytes = b""
+    path: str = ""
+
+    @staticmethod
+    def of(circuit: bytes) -> Sent:
+        return Sent(hashlib.sha256(circuit).hexdigest(), zlib.compress(circuit, 1))
+
+    @staticmethod
+    def at(path: Path) -> Sent:
+        return Sent(hashlib.sha256(path.read_bytes()).hexdigest(), path=str(path.resolve()))
+
+    def circuit(self) -> bytes:
+        circuit = Path(self.path).read_bytes() if self.path else zlib.decompress(self.packed)
+        if hashlib.sha256(circuit).hexdigest() != self.sum:
+            raise ToolFailed(f"{self.path or 'the circuit'} has another sum than when it was sent")
+        return circuit
+
+
+@dataclass(frozen=True)
+class Task:
+    """What to decide: a property of a circuit, or -1: whether some run keeps all constraints."""
+
+    circuit: Optional[Sent]
+    position: int
+    bounds: Bounds = Bounds()
+    programs: Programs = Programs()
+
+    @staticmethod
+    def of(circuit: bytes, position: int, bounds: Bounds = Bounds(), programs: Programs = Programs()) -> Task:
+        return Task(Sent.of(circuit), position, bounds, programs)
+
+
+@dataclass
+class Found:
+    """What a search found.
+
+    verdict  the line that `aig` printed, or `undecided`, or `alive`
+    by       what it was found by: a key of WAYS
+    frames   of the run, the induction or the bound
+    files    what shows it, by role
+    notes    what went wrong on the way: a crash, a bound that ended a question
+    """
+
+    position: int
+    verdict: str = UNDECIDED
+    by: str = ""
+    frames: int = 0
+    files: Dict[str, bytes] = field(default_factory=dict)
+    notes: List[str] = field(default_factory=list)
+    seconds: float = 0.0
+
+
+def decide(task: Task, stop: Optional[Stop] = None) -> Found:
+    """Finds the verdict of a task. A crash of a tool, a full disk or a rejected file makes a note, and no exception."""
+    from .search import Search
+
+    clock = Clock()
+    found = Found(task.position)
+    try:
+        if task.circuit is None:
+            raise ToolFailed("the task came without its circuit")
+        circuit = task.circuit.circuit()
+        with tempfile.TemporaryDirectory(prefix="aig-verdicts-") as folder:
+            Search(task, circuit, Path(folder), stop or Stop(), found).search()
+    except (AigError, ToolFailed, OSError, zlib.error, MemoryError) as error:
+        # An answer that was only half found is none.
+        found = replace(found, verdict=UNDECIDED, by="", frames=0, files={})
+        found.notes.append(f"{type(error).__name__}: {(str(error).splitlines() or [''])[0]}")
+    found.seconds = clock()
+    return found
+
+
+def decide_about(circuit: Sent, task: Task) -> Found:
+    """The same, where the circuit came by another way than its tasks."""
+    return decide(replace(task, circuit=circuit))

@@ -1,0 +1,229 @@
+"""From Verilog to a circuit whose properties are known by name, place and kind. Yosys does it; nothing of it is proved."""
+
+from __future__ import annotations
+
+import re
+import tempfile
+from collections import Counter
+from dataclasses import dataclass, field
+from pathlib import Path
+from typing import Any, Dict, Iterable, List, Optional, Sequence, Set, Tuple
+
+from .._program import run as aig
+
+from . import names, yosys
+from .sources import Sources, look_at_words, places
+from .tools import Stop, ToolFailed
+
+
+@dataclass(frozen=True)
+class Assertion:
+    """A bad state property.
+
+    kind  `assert`, `cover`, or `condition`: the `if` of the assertion of the same place
+    name  its label, or its file and line
+    of    for a condition, the position of its assertion
+    """
+
+    position: int
+    kind: str
+    name: str
+    file: str = ""
+    first: int = 0
+    last: int = 0
+    of: Optional[int] = None
+
+
+# How the symbols of each kind begin. That of an assertion has it only where its name begins in such a way.
+_STARTS = {"cover": "cover:", "condition": "if:", "assert": "assert:"}
+
+
+def symbol(kind: str, name: str) -> str:
+    """The symbol of a property in the circuit: it says the kind too, so that the circuit's sum fixes it."""
+    plain = re.sub("[^!-~]", "_", name)
+    if kind == "assert" and not plain.startswith(tuple(_STARTS.values())):
+        return plain
+    return _STARTS[kind] + plain
+
+
+def properties(symbols: Sequence[str]) -> List[Tuple[str, str, Optional[int]]]:
+    """The kind, the name and the owner of each property, by the symbols of the circuit alone. A condition comes right
+    after its assertion."""
+    found: List[Tuple[str, str, Optional[int]]] = []
+    for at, symbol in enumerate(symbols):
+        kind, name = _of_symbol(symbol)
+        is_owned = kind == "condition" and at > 0 and _of_symbol(symbols[at - 1]) == ("assert", name)
+        if kind == "condition" and not is_owned:
+            kind, name = "assert", symbol
+        found.append((kind, name, at - 1 if is_owned else None))
+    return found
+
+
+def _of_symbol(symbol: str) -> Tuple[str, str]:
+    for kind, start in _STARTS.items():
+        if symbol.startswith(start):
+            rest = symbol[len(start):]
+            return (kind, rest) if kind != "assert" or rest.startswith(tuple(_STARTS.values())) else ("assert", symbol)
+    return "assert", symbol
+
+
+@dataclass
+class Design:
+    """A circuit and what its properties are."""
+
+    name: str
+    circuit: bytes
+    assertions: List[Assertion]
+    notes: List[str] = field(default_factory=list)
+    sources: Dict[str, bytes] = field(default_factory=dict)
+    script: str = ""
+    options: Dict[str, object] = field(default_factory=dict)
+
+
+def read_aiger(path: Path) -> Design:
+    circuit = path.read_bytes()
+    rows = [line.split(" ", 3) for line in aig("info", "--names", files=[circuit]).decode("utf-8", "replace").split("\n")[:-1]]
+    found = properties([row[3] for row in rows if row[0] == "b"])
+    assertions = [Assertion(at, kind, name or f"b{at}", of=of) for at, (kind, name, of) in enumerate(found)]
+    if not assertions:
+        raise ToolFailed("the circuit has no bad state property: aig select --from outputs --to aig makes them of outputs")
+    return Design(path.stem, circuit, assertions)
+
+
+def read_verilog(
+    sources: Sequence[Path], top: Optional[str], stop: Stop, defines: Sequence[str] = (), conditions: bool = True,
+    wires: bool = True, yosys: str = "yosys", seconds: float = 600.0, include: Sequence[Path] = (),
+) -> Design:
+    """The circuit of a Verilog design. `include` has the folders of files that sources include."""
+    top = top or None
+    look_at_words(top, defines)
+    read = Sources(sources, include)
+    with tempfile.TemporaryDirectory(prefix="aig-verdicts-") as name:
+        folder = Path(name)
+        (folder / "sources").mkdir()
+        read.write(folder / "sources")
+        made = _Made(folder, read, top, defines, conditions, wires, yosys, seconds, stop)
+    count = int(dict(line.split(" ", 1) for line in aig("info", files=[made.circuit]).decode().splitlines())["bad"])
+    if count != len(made.assertions):
+        raise ToolFailed(f"the circuit has {count} properties, and the design {len(made.assertions)}")
+    options: Dict[str, object] = {"top": top or "", "defines": list(defines), "conditions": conditions, "wires": wires}
+    return Design(made.top, made.circuit, made.assertions, made.notes, read.texts, made.script, options)
+
+
+_PLACE = re.compile(r"^sources/(.*):(\d+)\.\d+-(\d+)\.\d+$")
+
+
+@dataclass(frozen=True)
+class _Check:
+    """An assertion or a cover: its cell, its kind, and the text of the sources that it comes from."""
+
+    cell: str
+    kind: str
+    text: str
+    file: str
+    first: int
+    last: int
+
+    @property
+    def name(self) -> str:
+        """Its label, after the instances that it is in; without one, its file and the line where it ends."""
+        label = self.cell.replace("$flatten\\", "")
+        if re.search(r"\$(assert|cover|check)\$", label):
+            instance = re.sub(r"\$(assert|cover|check)\$.*", "", label).rstrip(".")
+            return (f"{instance}:" if instance else "") + f"{self.file}:{self.last}"
+        return label
+
+    @property
+    def order(self) -> Tuple[str, int, int, str, int]:
+        """Assertions come in the order of the sources, and those of a loop in its order."""
+        number = re.search(r"\$(\d+)$", self.cell)
+        path = re.sub(r"\d+", lambda it: it[0].zfill(9), self.name)
+        return self.file, self.last, self.first, path, int(number[1]) if number else 0
+
+
+def _check(cell: str, value: Dict[str, Any], known: Set[str]) -> _Check:
+    """A cell that `flatten` copied has the places of its instances too; `known` has those of all assertions and covers."""
+    for part in value["attributes"].get("src", "").split("|"):
+        match = _PLACE.match(part)
+        if match and part in known:
+            return _Check(cell, value["type"][1:], part, match[1], int(match[2]), int(match[3]))
+    return _Check(cell, value["type"][1:], "", "", 0, 0)
+
+
+def _unique(labels: Sequence[str]) -> List[str]:
+    """The names, with #0, #1, .. where one comes more than once: `--property` takes each."""
+    counts: Dict[str, int] = {}
+    for label in labels:
+        counts[label] = counts.get(label, 0) + 1
+    seen: Dict[str, int] = {}
+    result = []
+    for label in labels:
+        seen[label] = seen.get(label, -1) + 1
+        result.append(label if counts[label] == 1 else f"{label}#{seen[label]}")
+    return result
+
+
+class _Made:
+    """What Yosys makes of the sources in a folder."""
+
+    def __init__(self, folder: Path, read: Sources, top: Optional[str], defines: Sequence[str], conditions: bool, wires: bool,
+                 program: str, seconds: float, stop: Stop):
+        runs = yosys.Yosys(folder, program, seconds, stop)
+        first = yosys.reading([f"sources/{name}" for name in read.read], top, defines)
+        runs.run(first)
+        modules, flat = runs.modules("modules.json"), runs.modules("flat.json")
+        yosys.look(runs, modules, flat)
+        known = {value["attributes"].get("src", "") for _, value in yosys.cells(modules) if value["type"] in yosys.CHECKS}
+        found = {cell: _check(cell, value, known) for cell, value in yosys.cells(flat) if value["type"] in yosys.CHECKS}
+        if not found:
+            raise ToolFailed("the design has no assertion and no cover")
+        self.top = yosys.top_of(modules)
+        one_clock = yosys.one_clock(flat)
+        second = yosys.making(one_clock, conditions, wires)
+        runs.run(second)
+        self.notes = yosys.notes(runs, modules, flat, one_clock)
+        self.script = "\n".join([*first, *second, ""])
+        order = [line.split("/", 1)[1] for line in runs.text("order").splitlines() if "/" in line]
+        self._rows(found, order, yosys.checks(modules, self.top))
+        self.notes[:0] = read.left_out()
+        self._without_rows(read, found.values(), yosys.live_places(modules))
+        module = flat[self.top]
+        ports = list(module["ports"])
+        hidden = names.hidden_names(runs.text("names"), names.lines_of_x(runs.modules("clocked.json")))
+        positions = {cell: position for position, cell in enumerate(order)}
+        properties = [(positions[cell], symbol(it.kind, it.name)) for cell, it in zip(self._cells, self.assertions)]
+        self.circuit = names.named((folder / "made.aig").read_bytes(), hidden, ports, properties)
+
+    def _rows(self, found: Dict[str, _Check], order: Sequence[str], wanted: int) -> None:
+        """A row for each assertion and cover, and after an assertion one for its condition, if it has any."""
+        in_order = set(order)
+        checks = sorted(found.values(), key=lambda it: it.order)
+        for check in checks:
+            if check.cell not in in_order:
+                raise ToolFailed(f"the {check.kind} {check.name} did not reach the circuit")
+        if len(checks) != wanted:
+            raise ToolFailed(f"the design has {wanted} assertions and covers, and {len(checks)} of them are left")
+        self.assertions: List[Assertion] = []
+        self._cells: List[str] = []
+        for check, label in zip(checks, _unique([it.name for it in checks])):
+            at = len(self.assertions)
+            self._add(check.cell, Assertion(at, check.kind, label, check.file, check.first, check.last))
+            if f"{check.cell}.condition" in in_order:
+                self._add(f"{check.cell}.condition", Assertion(at + 1, "condition", label, check.file, check.first, check.last, at))
+        for cell in in_order - set(self._cells):
+            raise ToolFailed(f"nobody knows what the property {cell} is")
+
+    def _without_rows(self, read: Sources, checks: Iterable[_Check], known: Sequence[str]) -> None:
+        """Notes each assertion of the sources that has no row, but for the known ones. A text that has rows is one word."""
+        words = Counter(read.checks())
+        for last, first, file, _ in sorted({(it.last, it.first, it.file, it.text) for it in checks}):
+            at = next(((file, line) for line in range(first, last + 1) if words[file, line] > 0), None)
+            if at:
+                words[at] -= 1
+        missing = [f"{file}:{line}" for (file, line), count in words.items() if count > 0 and f"{file}:{line}" not in known]
+        if missing:
+            self.notes.insert(0, f"{places(missing)}: no row, for it is in no instance below {self.top}, or under an `if` or `ifdef` that is constant")
+
+    def _add(self, cell: str, assertion: Assertion) -> None:
+        self._cells.append(cell)
+        self.assertions.append(assertion)

@@ -1,0 +1,161 @@
+"""Writes a folder of results, which is a bundle at each moment: files come before the manifest that names them."""
+
+from __future__ import annotations
+
+import errno
+import json
+import os
+import shlex
+import zipfile
+from contextlib import contextmanager, suppress
+from pathlib import Path
+from typing import IO, Any, Dict, Iterable, Iterator, List, Optional
+
+try:
+    import fcntl
+except ImportError:  # no Unix
+    fcntl = None  # type: ignore[assignment]
+
+from .bundle import MOST_BYTES, PLAIN_FILE, PlainFolder, Wrong, sum_of
+from .manifest import MANIFEST, as_json
+from .row import Row
+
+PAGE, SCRIPT, TIMES = "index.html", "recheck.sh", "times.json"
+# Of the same year in each .zip, so that the same files give the same bytes.
+_DATE = (1980, 1, 1, 0, 0, 0)
+
+
+class BusyFolder(OSError):
+    """Two runs may not write one folder."""
+
+
+@contextmanager
+def replaced(path: Path) -> Iterator[IO[bytes]]:
+    """A new file, which takes the place of the old one at the end: at any moment the file has its old bytes or the new
+    ones. No link is followed, as somebody else may have made the folder."""
+    new = path.parent / f".{path.name}.new"
+    try:
+        new.unlink(missing_ok=True)
+        with new.open("xb") as file:
+            yield file
+        os.replace(new, path)
+    finally:
+        with suppress(OSError):
+            new.unlink()
+
+
+def write_whole(path: Path, data: bytes) -> None:
+    with replaced(path) as file:
+        file.write(data)
+
+
+class Folder:
+    """A folder of results. No other run may write it until it is closed, and no file over `most` bytes is read."""
+
+    def __init__(self, path: Path, most: int = MOST_BYTES):
+        self.path, self._most = path, most
+        self.sums: Dict[str, str] = {}
+        path.mkdir(parents=True, exist_ok=True)
+        flags = os.O_RDWR | os.O_CREAT | os.O_CLOEXEC | os.O_NOFOLLOW | os.O_NONBLOCK
+        self._lock: Optional[int] = os.open(path / ".lock", flags, 0o666)
+        if fcntl is not None:
+            try:
+                fcntl.flock(self._lock, fcntl.LOCK_EX | fcntl.LOCK_NB)
+            except OSError as error:
+                self.close()
+                if error.errno not in (errno.EWOULDBLOCK, errno.EACCES):
+                    raise
+                raise BusyFolder(f"{path}: another run works in this folder") from None
+
+    def close(self) -> None:
+        if self._lock is not None:
+            os.close(self._lock)
+            self._lock = None
+
+    def read(self, name: str) -> bytes:
+        return PlainFolder(self.path).read(name, self._most)
+
+    def has(self, name: str, data: bytes) -> bool:
+        """Whether the folder has a file with these bytes."""
+        try:
+            return self.read(name) == data
+        except (OSError, Wrong):
+            return False
+
+    def put(self, name: str, data: bytes) -> None:
+        path = self.path / name
+        if path.parent != self.path and path.parent.is_symlink():
+            path.parent.unlink()
+        path.parent.mkdir(exist_ok=True)
+        write_whole(path, data)
+        self.sums[name] = sum_of(data)
+
+    def remove(self, name: str) -> None:
+        self.sums.pop(name, None)
+        try:
+            (self.path / name).unlink()
+        except FileNotFoundError:
+            pass
+
+    def clean(self) -> None:
+        """Removes the files of results that have no row any more."""
+        for path in self.path.iterdir():
+            if path.name.endswith((".wit", ".drat", ".cert.aag", ".new")) and path.name not in self.sums:
+                path.unlink()
+
+    def write(self, manifest: Dict[str, Any]) -> None:
+        write_whole(self.path / MANIFEST, as_json({**manifest, "sums": dict(sorted(self.sums.items()))}))
+
+    def write_last(self, rows: Iterable[Row], seconds: Dict[int, float]) -> None:
+        """What a run writes at its end: the script, and the times."""
+        write_whole(self.path / SCRIPT, script(rows))
+        times = {str(key): round(value, 1) for key, value in sorted(seconds.items())}
+        write_whole(self.path / TIMES, (json.dumps(times) + "\n").encode())
+
+
+_SCRIPT = """\
+#!/bin/sh
+# Checks each verdict of this folder again. usage: sh recheck.sh   (AIG names another program aig)
+case $0 in */*) CDPATH= cd -- "${0%/*}" || exit 3 ;; esac
+aig=${AIG:-aig}
+wrong=0
+# check LINE WORD ..: aig has to print this line
+check() {
+    line=$1
+    shift
+    if [ "$("$aig" "$@")" = "$line" ]; then
+        printf '%s: %s\\n' "$line" "$*"
+    else
+        printf 'WRONG: aig %s does not print "%s"\\n' "$*" "$line" >&2
+        wrong=1
+    fi
+}
+# of FILE PROPERTY LINES: the witness has to be for this property, and of this length
+of() {
+    if [ "$(sed -n 2p "$1")" != "$2" ] || [ "$(sed -n '$=' "$1")" != "$3" ]; then
+        printf 'WRONG: %s is no witness of %s of this length\\n' "$1" "$2" >&2
+        wrong=1
+    fi
+}
+"""
+
+
+def script(rows: Iterable[Row]) -> bytes:
+    """The checks of `recheck` for a shell, without Python: `sh recheck.sh`."""
+    lines: List[str] = []
+    for row in rows:
+        if row.by == "run":
+            lines.append(f"of {row.files['witness']} {row.label} {row.frames + 4}")
+        lines += [f"check {shlex.quote(line)} {' '.join(map(shlex.quote, words))}" for line, words in row.commands()]
+    return (_SCRIPT + "\n".join([*lines, "exit $wrong"]) + "\n").encode()
+
+
+def pack(folder: Path, to: Path) -> None:
+    """The bundle as a .zip: the same files give the same bytes."""
+    manifest = json.loads((folder / MANIFEST).read_bytes())
+    more = {it for it in (SCRIPT, PAGE) if (folder / it).exists()}
+    with replaced(to) as stream, zipfile.ZipFile(stream, "w", zipfile.ZIP_DEFLATED) as file:
+        for name in sorted({MANIFEST, *manifest["sums"]} | more):
+            entry = zipfile.ZipInfo(f"{folder.resolve().name}/{name}", _DATE)
+            entry.external_attr, entry.compress_type = (PLAIN_FILE | 0o644) << 16, zipfile.ZIP_DEFLATED
+            file.writestr(entry, (folder / name).read_bytes())

@@ -1,0 +1,24 @@
+"""Has Yosys make a circuit. Whatever Yosys does wrong is a ToolFailed, as are files that make no sense."""
+
+from __future__ import annotations
+
+from pathlib import Path
+from typing import Any, Dict, Sequence
+
+from .design import Design, read_verilog
+from .tools import Stop, ToolFailed
+
+
+def made(files: Sequence[Path], stop: Stop, options: Dict[str, Any], include: Sequence[Path] = ()) -> Design:
+    """The circuit of these sources. The options are those of MANIFEST.json: top, defines, conditions, wires."""
+    for file in files:
+        file.open("rb").close()  # a source that is missing is an error of its own
+    try:
+        return read_verilog(files, options["top"], stop, options["defines"], options["conditions"], options["wires"],
+                            include=include)
+    except FileNotFoundError as error:
+        if error.filename is None:
+            raise
+        raise ToolFailed(f"Yosys did not write {Path(str(error.filename)).name}") from None
+    except (LookupError, ValueError, TypeError, AttributeError) as error:
+        raise ToolFailed(f"what Yosys wrote makes no sense: {type(error).__name__}: {error}") from None

@@ -1,0 +1,186 @@
+"""MANIFEST.json: what a folder of results says. It is written from rows, and read with suspicion."""
+
+from __future__ import annotations
+
+import json
+import re
+from typing import Any, Callable, Dict, List, Tuple
+
+from .judge import results
+from .row import ALIVE, CIRCUIT, CONSTRAINTS, KINDS, UNDECIDED, WAYS, Row, name_of
+
+MANIFEST = "MANIFEST.json"
+SCRIPT_OF_YOSYS = "yosys.ys"
+FORMAT = "aig-verdicts 1"
+# A plain name, or one in a folder.
+PLAIN = re.compile(r"[A-Za-z0-9_+-][A-Za-z0-9._+-]*(/[A-Za-z0-9_+-][A-Za-z0-9._+-]*)?")
+MOST_FRAMES = 65536
+MOST_LINES = 1 << 31
+MOST_DIGITS = 15
+
+
+class Wrong(Exception):
+    """The bundle is not what it says."""
+
+
+def expect(condition: bool, what: str) -> None:
+    if not condition:
+        raise Wrong(what)
+
+
+# -- writing
+
+
+def as_json(manifest: Dict[str, Any]) -> bytes:
+    return (json.dumps(manifest, indent=1, sort_keys=True, ensure_ascii=True) + "\n").encode()
+
+
+def rows_as_json(rows: List[Row]) -> List[Dict[str, Any]]:
+    """The rows, without their empty parts. The commands are for readers, and nothing runs them."""
+    words = results(rows)
+    made = []
+    for row in rows:
+        kept = {key: value for key, value in vars(row).items() if value not in ("", None, [], {})}
+        kept = {key: value for key, value in kept.items() if value != 0 or key in ("position", "of")}
+        kept["commands"] = [{"prints": line, "words": ["aig", *command]} for line, command in row.commands()]
+        if row.position in words:
+            kept["result"] = words[row.position]
+        made.append(kept)
+    return made
+
+
+# -- reading
+
+
+def _pairs(pairs: List[Tuple[str, Any]]) -> Dict[str, Any]:
+    made = dict(pairs)
+    expect(len(made) == len(pairs), "MANIFEST.json has a key twice")
+    return made
+
+
+def _whole_number(digits: str) -> int:
+    expect(len(digits) <= MOST_DIGITS, "MANIFEST.json has a huge number")
+    return int(digits)
+
+
+def _number(digits: str) -> float:
+    expect(len(digits) <= MOST_DIGITS and "e" not in digits.lower(), "MANIFEST.json has a huge number")
+    return float(digits)
+
+
+def _no_number(text: str) -> float:
+    raise Wrong(f"MANIFEST.json has the number {text}")
+
+
+def parsed(data: bytes) -> Dict[str, Any]:
+    """The manifest: JSON that has one meaning, and parts of the right types."""
+    try:
+        made = json.loads(data.decode("utf-8"), object_pairs_hook=_pairs, parse_int=_whole_number,
+                          parse_float=_number, parse_constant=_no_number)
+    except ValueError as error:
+        raise Wrong(f"MANIFEST.json is no JSON: {error}") from None
+    except RecursionError:
+        raise Wrong("MANIFEST.json is too deep") from None
+    expect(type(made) is dict and made.get("format") == FORMAT, f"MANIFEST.json is not of {FORMAT!r}")
+    expect(set(made) == set(_PARTS), "MANIFEST.json has other parts")
+    for name, is_right in _PARTS.items():
+        expect(is_right(made[name]), f"{name} of MANIFEST.json")
+    expect(bool(made["options"]) == bool(made["sources"]), "options of MANIFEST.json")
+    manifest: Dict[str, Any] = made
+    return manifest
+
+
+def _texts(value: Any) -> bool:
+    return type(value) is list and all(type(it) is str for it in value)
+
+
+def _table(value: Any, *kinds: type) -> bool:
+    return type(value) is dict and all(type(it) in kinds for it in value.values())
+
+
+def _sources(value: Any) -> bool:
+    """Plain names, each once."""
+    if not _texts(value) or len(set(value)) < len(value):
+        return False
+    return all("/" not in name and PLAIN.fullmatch(name) is not None for name in value)
+
+
+def _options(value: Any) -> bool:
+    """Of a circuit that Yosys made; else empty."""
+    return type(value) is dict and all(type(it) in (str, bool) or _texts(it) for it in value.values())
+
+
+_PARTS: Dict[str, Callable[[Any], bool]] = {
+    "format": lambda value: type(value) is str,
+    "name": lambda value: type(value) is str,
+    "bounds": lambda value: _table(value, int, float),
+    "options": _options,
+    "sources": _sources,
+    "notes": _texts,
+    "versions": lambda value: _table(value, str),
+    "sums": lambda value: _table(value, str) and all(PLAIN.fullmatch(it) for it in value),
+    "rows": lambda value: type(value) is list,
+}
+_TYPES = {
+    "position": int, "kind": str, "name": str, "file": str, "first": int, "last": int, "of": int, "verdict": str,
+    "by": str, "frames": int, "files": dict, "notes": list,
+}
+
+
+def row_of(value: Any) -> Row:
+    """The row, if each part of it has its type and each file its one possible name."""
+    expect(type(value) is dict, "a row is no object")
+    expect(set(value) <= set(_TYPES) | {"commands", "result"}, "a row has an unknown part")
+    row = Row(position=-2, kind="", name="")
+    for key, kind in _TYPES.items():
+        if key in value:
+            expect(type(value[key]) is kind, f"{key} of a row is no {kind.__name__}")
+            setattr(row, key, value[key])
+    expect(row.kind in KINDS and row.by in WAYS and row.position >= CONSTRAINTS, "a row of an unknown kind")
+    expect((row.position == CONSTRAINTS) == (row.kind == "constraints"), f"kind of {row.label}")
+    expect(_texts(row.notes), f"notes of {row.label}")
+    _numbers(row)
+    _files(row)
+    _verdict(row)
+    return row
+
+
+def _numbers(row: Row) -> None:
+    expect(0 <= row.first <= row.last <= MOST_LINES, f"place of {row.label}")
+    expect(row.file != "" or row.last == 0, f"place of {row.label}")
+    least = 0 if row.by in ("", "certificate") else 1
+    most = 0 if row.by == "certificate" or row.by == "" and row.verdict != ALIVE else MOST_FRAMES
+    expect(least <= row.frames <= most, f"frames of {row.label}")
+    expect((row.of is not None) == (row.kind == "condition"), f"{row.label} is of no row")
+
+
+def _files(row: Row) -> None:
+    shown = WAYS[row.by]
+    expect(set(shown.needed) <= set(row.files) <= {*shown.needed, *shown.possible}, f"files of {row.label}")
+    for role, name in row.files.items():
+        expect(type(name) is str and name == name_of(row.position, role), f"file {name!r} of {row.label}")
+    expect("shorter" not in row.files or row.frames > 1, f"files of {row.label}")
+
+
+def _verdict(row: Row) -> None:
+    lines = [line for line, _ in row.commands()]
+    if row.kind == "constraints":
+        expect(row.by in ("", "alive") and not row.name, f"kind of {row.label}")
+        expect(row.verdict in (lines[:1] or [ALIVE, UNDECIDED]), f"verdict of {row.label}")
+    else:
+        expect(row.by != "alive", f"kind of {row.label}")
+        expect(row.verdict == (lines[0] if lines else UNDECIDED), f"verdict of {row.label}")
+
+
+def check_results(manifest: Dict[str, Any], rows: List[Row]) -> None:
+    """That the words of the table in the manifest are those of its rows."""
+    words = results(rows)
+    for value, row in zip(manifest["rows"], rows):
+        expect(value.get("result") == words.get(row.position), f"result of {row.label}")
+
+
+def files_of(manifest: Dict[str, Any], rows: List[Row]) -> List[str]:
+    """The files that a bundle has to have, in a fixed order."""
+    named = [name for row in rows for name in row.files.values()]
+    sources = [f"sources/{name}" for name in manifest["sources"]]
+    return [CIRCUIT, *named, *sources, *[SCRIPT_OF_YOSYS] * bool(sources)]

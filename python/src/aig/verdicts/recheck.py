@@ -1,0 +1,119 @@
+"""Checks a bundle by `aig` alone. Nothing of the bundle is believed: each command is made here, from the kind of the
+row, and `aig` has to print the line of the verdict."""
+
+from __future__ import annotations
+
+import os
+import tempfile
+from concurrent.futures import ThreadPoolExecutor
+from pathlib import Path
+from typing import Callable, List
+
+from ..errors import AigError
+from .bundle import MOST_BYTES, Bundle, Wrong
+from .design import properties, symbol
+from .made import made
+from .manifest import SCRIPT_OF_YOSYS, expect
+from .row import CIRCUIT, CONSTRAINTS, Row
+from .tools import Stop, ask
+
+Read = Callable[[str], bytes]
+
+
+def check_row(row: Row, circuit: bytes, read: Read, stop: Stop) -> None:
+    """Has `aig` answer each command of the row, and compares."""
+    if row.by == "run":
+        text = read(row.files["witness"])
+        expect(text.split(b"\n", 2)[1:2] == [b"b%d" % row.position],
+               f"the witness of {row.label} is for another property")
+        expect(text.count(b"\n") - 4 == row.frames, f"the witness of {row.label} has another number of frames")
+    for line, words in row.commands():
+        said = _said(row, words, circuit, read, stop)
+        expect(said == line, f"{row.label}: aig {words[0]} prints {said!r}, and not {line!r}")
+
+
+def _said(row: Row, words: List[str], circuit: bytes, read: Read, stop: Stop) -> str:
+    """What `aig` prints for a command whose files are in the bundle."""
+    command, *options, name, last = words
+    expect(name == CIRCUIT, f"{row.label} is about another circuit")
+    named = {}
+    for option in ("--step", "--certificate"):
+        if option in options:
+            place = options.index(option)
+            named[option] = read(options[place + 1])
+            del options[place : place + 2]
+    try:
+        said = ask(stop, command, *options, files=[circuit, read(last)], named=named, good=(0, 1))
+    except AigError as error:
+        raise Wrong(f"{row.label}: aig {command}: {error.part}: {error.reason}") from None
+    except RuntimeError as error:
+        raise Wrong(f"{row.label}: {error}") from None
+    return said.decode("ascii", "replace").strip()
+
+
+def _readable(name: str) -> str:
+    return name.encode("utf-8", "surrogateescape").decode("utf-8", "replace")
+
+
+def _properties(circuit: bytes, stop: Stop) -> List[str]:
+    """The names of the bad state properties."""
+    try:
+        lines = ask(stop, "info", "--names", files=[circuit]).decode("utf-8", "surrogateescape").split("\n")
+    except AigError as error:
+        raise Wrong(f"{CIRCUIT}: {error.part}: {error.reason}") from None
+    return [line.split(" ", 3)[3] for line in lines if line.startswith("b ")]
+
+
+def check_names(rows: List[Row], names: List[str], is_of_yosys: bool) -> None:
+    """That the rows are those of the circuit's properties: each once, in order, with its kind and name."""
+    expect([row.position for row in rows] == [CONSTRAINTS, *range(len(names))],
+           "the rows are not those of the circuit's properties, each once and in order")
+    expect(len(names) > 0, "there is no assertion")
+    for row, named, (kind, name, of) in zip(rows[1:], names, properties(names)):
+        is_named = symbol(kind, row.name) == named if is_of_yosys else row.name == (_readable(name) or row.label)
+        expect(row.kind == kind and is_named, f"{row.label} has another kind or name than the property")
+        expect(row.of == of, f"{row.label} is of another row")
+
+
+def recheck(path: Path, sums: bool = True, say: Callable[[Row], None] = lambda _: None, jobs: int = 0,
+            stop: Stop = Stop(), most_bytes: int = MOST_BYTES) -> Bundle:
+    """Checks a bundle, or raises a Wrong."""
+    bundle = Bundle(path, most_bytes)
+    circuit = bundle.circuit(sums)
+    check_names(bundle.rows, _properties(circuit, stop), bool(bundle.manifest["options"]))
+    read = bundle.summed if sums else bundle.read
+    for name in bundle.sums:
+        if name.startswith("sources/") or name == SCRIPT_OF_YOSYS:
+            read(name)
+    with ThreadPoolExecutor(jobs or os.cpu_count() or 1) as pool:
+        checks = [pool.submit(check_row, row, circuit, read, stop) for row in bundle.rows]
+        try:
+            for row, check in zip(bundle.rows, checks):
+                check.result()
+                if row.by:
+                    say(row)
+        finally:
+            for check in checks:
+                check.cancel()
+    return bundle
+
+
+def same_design(bundle: Bundle, stop: Stop = Stop()) -> None:
+    """Whether Yosys makes the same circuit of the sources again. The script in the bundle is not run: it could do
+    anything."""
+    options = bundle.manifest["options"]
+    expect(set(options) == {"top", "defines", "conditions", "wires"} and type(options["top"]) is str
+           and type(options["defines"]) is list and all(type(options[it]) is bool for it in ("conditions", "wires")),
+           "the bundle has no sources" if not options else "options of MANIFEST.json")
+    with tempfile.TemporaryDirectory(prefix="aig-verdicts-") as folder:
+        paths = []
+        for name in bundle.manifest["sources"]:
+            paths.append(Path(folder, name))
+            paths[-1].write_bytes(bundle.summed(f"sources/{name}"))
+        expect(bool(paths), "the bundle has no sources")
+        again = made(paths, stop, options)
+    expect(again.circuit == bundle.circuit(), "Yosys makes another circuit of the sources")
+    places = {it.position: (it.kind, it.name, it.file, it.first, it.last) for it in again.assertions}
+    for row in bundle.rows[1:]:
+        place = (row.kind, row.name, row.file, row.first, row.last)
+        expect(places[row.position] == place, f"{row.label} is at another place")

@@ -1,0 +1,113 @@
+"""A row: a verdict on one property, the files that show it, and the commands that check it."""
+
+from __future__ import annotations
+
+from dataclasses import dataclass, field
+from typing import Dict, List, NamedTuple, Optional, Tuple
+
+CIRCUIT = "circuit.aig"
+# The position of the row that says whether some run keeps the constraints.
+CONSTRAINTS = -1
+KINDS = ("assert", "cover", "condition", "constraints")
+# The verdicts without a number of frames. `alive` is the solver's answer alone: no command checks it.
+CONFIRMED, UNREACHABLE, ALIVE, UNDECIDED = "confirmed", "unreachable", "alive", "undecided"
+
+
+class Shown(NamedTuple):
+    """The files that show a verdict, by role: those that have to be there, and those that may."""
+
+    needed: Tuple[str, ...] = ()
+    possible: Tuple[str, ...] = ()
+
+
+# What a verdict is found by, and the files of each.
+WAYS: Dict[str, Shown] = {
+    "run": Shown(("witness",), ("shorter",)),
+    "induction": Shown(("base", "step")),
+    "certificate": Shown(("certificate", "proof")),
+    "bound": Shown(("base",)),
+    "alive": Shown(("alive",)),
+    "": Shown(),
+}
+# How the file of each role ends.
+ENDINGS = {
+    "witness": "wit", "shorter": "shorter.drat", "base": "base.drat", "step": "step.drat", "certificate": "cert.aag",
+    "proof": "cert.drat", "alive": "drat",
+}
+
+
+class Command(NamedTuple):
+    """The arguments of `aig`, and the line that it has to print. A file is its name in the bundle."""
+
+    prints: str
+    words: List[str]
+
+
+def name_of(position: int, role: str) -> str:
+    """The only name that the file of a row can have."""
+    return f"{'alive' if position == CONSTRAINTS else position}.{ENDINGS[role]}"
+
+
+@dataclass
+class Row:
+    """A verdict on a property, and the files that show it.
+
+    kind     `assert`, `cover`, `condition` (the `if` of an assertion), or `constraints` for the row of all assumptions
+    of       for a condition, the position of its assertion
+    verdict  the line that `aig` prints; `alive` or `undecided` if it prints none
+    by       a key of WAYS
+    frames   of the run, the induction or the bound
+    """
+
+    position: int
+    kind: str
+    name: str
+    file: str = ""
+    first: int = 0
+    last: int = 0
+    of: Optional[int] = None
+    verdict: str = UNDECIDED
+    by: str = ""
+    frames: int = 0
+    files: Dict[str, str] = field(default_factory=dict)
+    notes: List[str] = field(default_factory=list)
+
+    @property
+    def decided(self) -> bool:
+        """Whether no search can find more."""
+        return self.verdict in (CONFIRMED, UNREACHABLE) or self.by == "alive"
+
+    @property
+    def label(self) -> str:
+        return self.kind if self.position == CONSTRAINTS else f"b{self.position}"
+
+    @property
+    def _property(self) -> str:
+        return f"--property={self.position}"
+
+    def commands(self) -> List[Command]:
+        """The commands that check the row."""
+        files = self.files
+        if self.by == "run":
+            shown = [Command(CONFIRMED, ["check", self._property, CIRCUIT, files["witness"]])]
+            if "shorter" in files:
+                shown.append(self._bounded(self.frames - 1, files["shorter"]))
+            return shown
+        if self.by == "induction":
+            step = ["--step", files["step"]]
+            return [self._refuted(UNREACHABLE, [f"--frames={self.frames}"], step, files["base"])]
+        if self.by == "certificate":
+            certificate = ["--certificate", files["certificate"]]
+            return [self._refuted(UNREACHABLE, [], certificate, files["proof"])]
+        if self.by == "bound":
+            return [self._bounded(self.frames, files["base"])]
+        if self.by == "alive":
+            words = ["refute", "--alive", f"--frames={self.frames}", CIRCUIT, files["alive"]]
+            return [Command(f"no run of {self.frames} frames", words)]
+        return []
+
+    def _bounded(self, frames: int, proof: str) -> Command:
+        return self._refuted(f"unreachable within {frames}", [f"--frames={frames}"], [], proof)
+
+    def _refuted(self, prints: str, frames: List[str], more: List[str], proof: str) -> Command:
+        return Command(prints, ["refute", *frames, self._property, *more, CIRCUIT, proof])

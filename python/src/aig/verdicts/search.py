@@ -1,0 +1,241 @@
+"""How a verdict is found: one frame, then what ABC knows at once, then runs and inductions of growing length, then ABC
+with its whole limit. The search is on what the property reads; each answer is one that `aig` printed about the whole
+circuit."""
+
+from __future__ import annotations
+
+import re
+from pathlib import Path
+from typing import Dict, List, NamedTuple, Optional, Union
+
+from . import abc
+from .cone import Cone, whole
+from .decide import Found, Task
+from .questions import NO_TIME, Answer, Questions, why
+from .row import ALIVE
+from .tools import Stop
+
+# The seconds of ABC's first try.
+SHORT = 5.0
+# The longest run that the solver is asked for because ABC knows one.
+LONGEST = 65536
+
+
+def growing(frames: int) -> List[int]:
+    """The numbers of frames to try: each that is small, then each half as large again."""
+    tried = list(range(1, min(frames, 3) + 1))
+    while tried[-1] < frames:
+        tried.append(min(frames, max(tried[-1] + 1, tried[-1] * 3 // 2)))
+    return tried
+
+
+class Asserted(NamedTuple):
+    """ABC's answer that there is a run of so many frames."""
+
+    frames: int
+
+
+class Proved(NamedTuple):
+    """ABC's answer that there is none: the invariant."""
+
+    invariant: bytes
+
+
+class Unknown(NamedTuple):
+    """ABC's answer that it does not know; whether more time may help."""
+
+    more_time: bool
+
+
+class Search:
+    """The search for one task. It writes into `found`."""
+
+    def __init__(self, task: Task, circuit: bytes, folder: Path, stop: Stop, found: Found):
+        self.task, self.found = task, found
+        self.ask = Questions(circuit, task.bounds, task.programs, folder, stop, found.notes)
+        self.whole = whole(circuit, stop)
+        self.known = 0  # there is no run of so many frames
+        self.gave_up = False  # the solver had no answer
+        if task.position >= 0:
+            self.cone = Cone(self.whole, task.position)
+
+    @property
+    def of_property(self) -> str:
+        return f"--property={self.task.position}"
+
+    def answer(self, verdict: str, by: str, frames: int, **files: bytes) -> bool:
+        self.found.verdict, self.found.by, self.found.frames, self.found.files = verdict, by, frames, files
+        return True
+
+    def search(self) -> None:
+        if self.task.position < 0:
+            self.alive()
+            return
+        first, *others = growing(self.task.bounds.frames)
+        if self.by_frames([first]):
+            return
+        known_to_abc = self.by_abc(SHORT)
+        if known_to_abc or self.by_frames(others) or known_to_abc is None and self.by_abc(None):
+            return
+        self.bound()
+
+    # -- ways to an answer; each says whether it found one
+
+    def alive(self) -> None:
+        """Whether some run keeps all constraints for so many frames."""
+        frames = self.task.bounds.frames
+        if not self.whole.constraints:
+            self.answer(ALIVE, "", frames)
+            return
+        options = ["--alive", f"--frames={frames}"]
+        said = self.ask.part("constraints", Cone(self.whole, None).file, *options)
+        if said.proof is not None:
+            said = self.ask.whole("constraints", *options)
+        if said.proof is not None:
+            self.answer(self.ask.refute(*options, files=[said.proof]), "alive", frames, alive=said.proof)
+        elif said.model is not None:
+            self.answer(ALIVE, "", frames)
+
+    def by_frames(self, numbers: List[int]) -> bool:
+        """Runs and inductions of these numbers of frames, until the solver has no answer."""
+        for frames in numbers:
+            if self.gave_up:
+                return False
+            if frames > self.known:
+                said = self.ask.part(f"run of {frames}", self.cone.file, f"--frames={frames}")
+                if said.model is not None:
+                    return self.run_of(frames, said.model)
+                self.gave_up = said.proof is None
+                if self.gave_up:
+                    return False
+                self.known = frames
+            said = self.ask.part(f"induction of {frames}", self.cone.file, "--step", f"--frames={frames}")
+            if said.proof is not None:
+                return self.induction(frames)
+            self.gave_up = said.model is None
+        return False
+
+    def run_of(self, frames: int, model: bytes) -> bool:
+        """The shortest run, with a proof that there is no shorter one."""
+        witness = self.shortest(self.witness(frames, model))
+        reduced = self.ask.aig("reduce", files=[self.ask.circuit, self.cone.widened(witness)])
+        said = self.ask.aig("check", self.of_property, files=[self.ask.circuit, reduced], good=(0, 1))
+        verdict = said.decode().strip()
+        files = {"witness": reduced}
+        length = _length(reduced)
+        if length > 1:
+            files.update(self.no_run_of(length - 1))
+        return self.answer(verdict, "run", length, **files)
+
+    def witness(self, frames: int, model: bytes) -> bytes:
+        return self.ask.aig("witness", f"--frames={frames}", files=[self.cone.file], named={"--model": model})
+
+    def shortest(self, witness: bytes) -> bytes:
+        """The shortest run that the solver finds, by halving."""
+        while _length(witness) - 1 > self.known:
+            length = _length(witness)
+            middle = (self.known + length) // 2 if length - self.known > 2 else length - 1
+            said = self.ask.part(f"run of {middle}", self.cone.file, f"--frames={middle}")
+            if said.model is not None:
+                witness = self.witness(middle, said.model)
+            elif said.proof is not None:
+                self.known = middle
+            else:
+                break
+        return witness
+
+    def no_run_of(self, frames: int) -> Dict[str, bytes]:
+        """The proof that no run of so many frames is there, if it can be had."""
+        if self.known == frames:
+            options = [f"--frames={frames}", self.of_property]
+            proof = self.ask.whole(f"run of {frames}", *options).proof
+            if proof is not None:
+                self.ask.refute(*options, files=[proof])
+                return {"shorter": proof}
+        self.ask.note("a shorter run was not ruled out")
+        return {}
+
+    def induction(self, frames: int) -> bool:
+        options = [f"--frames={frames}", self.of_property]
+        base = self.ask.whole(f"run of {frames}", *options).proof
+        if base is None:
+            return False
+        step = self.ask.whole(f"induction of {frames}", "--step", *options).proof
+        if step is None:
+            return False
+        verdict = self.ask.refute(*options, files=[base], named={"--step": step})
+        return self.answer(verdict, "induction", frames, base=base, step=step)
+
+    def bound(self) -> bool:
+        """That no run of so many frames is there; of fewer frames, if that takes too long."""
+        frames = self.known
+        while frames:
+            options = [f"--frames={frames}", self.of_property]
+            proof = self.ask.whole(f"run of {frames}", *options).proof
+            if proof is not None:
+                return self.answer(self.ask.refute(*options, files=[proof]), "bound", frames, base=proof)
+            frames //= 2
+        return False
+
+    # -- ABC
+
+    def by_abc(self, seconds: Optional[float]) -> Optional[bool]:
+        """Whether ABC's answer leads to a verdict; None if it needs more time for one. Without seconds it has all."""
+        program = self.task.programs.abc
+        if program is None:
+            return False
+        said = self.pdr(program, seconds)
+        if isinstance(said, Proved):
+            return self.certificate(said.invariant)
+        if isinstance(said, Asserted):
+            return self.asserted(said.frames)
+        return None if said.more_time else False
+
+    def pdr(self, program: str, seconds: Optional[float]) -> Union[Proved, Asserted, Unknown]:
+        bounds = self.task.bounds
+        whole_limit = self.ask.seconds_left()
+        given = whole_limit if seconds is None else min(seconds, whole_limit)
+        if given < 1:
+            self.ask.note(f"invariant: {NO_TIME}")
+            return Unknown(False)
+        one = self.ask.aig("toaig", "--to", "aig", files=[abc.folded(self.cone.file)])
+        conflicts = f"-C {bounds.conflicts} " if bounds.conflicts else ""
+        script = f"read_aiger one.aig; logic; undc; strash; pdr -T {int(given)} {conflicts}-d -I inv.pla"
+        ran, made = self.ask.tool([program, "-q", script], given, {"one.aig": one}, "inv.pla")
+        asserted = re.search(rb"was asserted in frame (\d{1,5})\b", ran.out)
+        if asserted:
+            return Asserted(int(asserted[1]) + 1)
+        if b"Property proved" in ran.out and made is not None:
+            return Proved(made)
+        if seconds is not None and ran.status == 0 and given < whole_limit and b"onflict" not in ran.out:
+            return Unknown(True)
+        self.ask.note(f"invariant: {why(program, ran, round(given))}")
+        return Unknown(False)
+
+    def asserted(self, frames: int) -> bool:
+        """ABC knows a run: the solver finds it too."""
+        said = Answer()
+        if self.known < frames <= LONGEST:
+            said = self.ask.part(f"run of {frames}", self.cone.file, f"--frames={frames}")
+        if said.model is not None:
+            return self.run_of(frames, said.model)
+        if said.proof is not None:
+            self.known = max(self.known, frames)
+        self.ask.note(f"ABC says that there is a run of {frames} frames")
+        return False
+
+    def certificate(self, invariant: bytes) -> bool:
+        made = abc.certificate(self.cone.file, invariant, self.cone.latches)
+        named = {"--certificate": made}
+        said = self.ask.whole("certificate", self.of_property, named=named)
+        if said.proof is not None:
+            verdict = self.ask.refute(self.of_property, files=[said.proof], named=named)
+            return self.answer(verdict, "certificate", 0, certificate=made, proof=said.proof)
+        if said.model is not None:
+            self.ask.note("ABC's invariant made a certificate that is wrong")
+        return False
+
+
+def _length(witness: bytes) -> int:
+    """The frames of a witness that `aig` wrote."""
+    return witness.count(b"\n") - 4

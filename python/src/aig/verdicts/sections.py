@@ -1,0 +1,230 @@
+"""The parts of a page that are about one assertion or cover."""
+
+from __future__ import annotations
+
+import re
+from typing import Callable, Dict, List, Optional, Sequence
+
+import aig
+
+from .judge import MARK, Judged
+from .row import Row
+from .runs import Story, Told, story
+from .svg import escape, parts, shortened
+
+KIND = {
+    "fails": "bad", "never": "bad", "vacuous": "warn", "undecided": "warn", "bounded": "warn", "holds": "good",
+    "reached": "good",
+}
+# Pictures have so many bytes of a page, and none is made of a run with more letters. The lines of `why` below those that
+# are seen at once are so many, and have so many causes.
+MOST_PICTURES, MOST_LETTERS = 1_500_000, 50_000_000
+MOST_LINES, SEEN_LINES, MOST_CAUSES = 200, 8, 100
+# The bytes of a source that is shown, the letters of a line, the lines of an assertion, and the letters of all of them.
+MOST_SOURCE, MOST_LINE, MOST_TEXT, MOST_SNIPPETS = 1 << 26, 1000, 200, 10_000_000
+
+
+def size(count: int) -> str:
+    """A number of bytes, short."""
+    if count < 1000:
+        return f"{count} B"
+    return f"{count / 1000:.1f} kB" if count < 10**6 else f"{count / 10**6:.1f} MB"
+
+
+def counted(count: object, name: str) -> str:
+    """A number of things."""
+    return f"{count} {name}" if count == 1 else f"{count} {name}{'es' if name.endswith('ch') else 's'}"
+
+
+def kind(it: Judged) -> str:
+    """How a row looks: one that is in doubt is not good."""
+    return "warn" if it.doubt else KIND[it.result]
+
+
+def verdict(it: Judged) -> str:
+    return f'<span class="v {kind(it)}"><i aria-hidden="true">{MARK[it.result]}</i>{escape(it.words)}</span>'
+
+
+def anchor(row: Row) -> str:
+    """The place of a row on the page: no name is in it."""
+    return f"b{row.position}"
+
+
+def place(row: Row) -> str:
+    """The file and the line, where the name does not say them."""
+    found = f"{row.file}:{row.last}" if row.file else ""
+    return "" if found == row.name else found
+
+
+class Sources:
+    """The sources of the design, as lines."""
+
+    def __init__(self, read: Callable[[str], bytes]):
+        self._read = read
+        self._lines: Dict[str, List[str]] = {}
+        self._room = MOST_SNIPPETS
+
+    def lines(self, name: str) -> List[str]:
+        if name and name not in self._lines:
+            try:
+                text = self._read(f"sources/{name}")
+                lines = text.decode("utf-8", "replace").split("\n") if len(text) <= MOST_SOURCE else []
+                self._lines[name] = [line[:MOST_LINE] for line in lines]
+            except Exception:  # a page without sources is better than none
+                self._lines[name] = []
+        return self._lines.get(name, [])
+
+    def text(self, row: Row) -> str:
+        """The lines of the assertion. Yosys' first line may be that of the text before it."""
+        lines = self.lines(row.file)
+        if not 1 <= row.first <= row.last <= len(lines):
+            return ""
+        first, least = row.last, max(row.first, row.last - MOST_TEXT)
+        while first > least and not re.search(r"\b(assert|cover)\b", lines[first - 1]):
+            first -= 1
+        return "\n".join(lines[first - 1 : row.last])
+
+    def snippet(self, row: Row, around: int = 2) -> str:
+        """The lines of the assertion, marked, and those around it."""
+        lines, text = self.lines(row.file), self.text(row)
+        if not text or self._room <= 0:
+            return ""
+        hit = row.last - text.count("\n")
+        first, last = max(1, hit - around), min(len(lines), row.last + around)
+        wide = len(str(last))
+        out = []
+        for number in range(first, last + 1):
+            css, mark = (' class="hit"', "▸") if hit <= number <= row.last else ("", " ")
+            line = escape(lines[number - 1].rstrip("\r")[:200].expandtabs(4)) or " "
+            out.append(f"<span{css}><s>{mark}{number:>{wide}}  </s>{line}</span>")
+        self._room -= sum(map(len, out))
+        return f'<pre class="src" aria-label="source">{"".join(out)}</pre>'
+
+
+class Sections:
+    """Makes the section of each row."""
+
+    def __init__(self, circuit: aig.Circuit, sources: Sources, read: Callable[[str], bytes]):
+        self._told, self._sources, self._read = Told(circuit), sources, read
+        self._constrained = bool(circuit.info()["constraints"])
+        self._room = MOST_PICTURES
+
+    def section(self, it: Judged) -> str:
+        row = it.row
+        found = [
+            f'<header><h3 class=name>{escape(row.name)}</h3>{verdict(it)}<span class=sub>{escape(row.kind)} '
+            f'<code>b{row.position}</code></span><span class="sub name">{escape(place(row))}</span></header>',
+            self._sources.snippet(row),
+        ]
+        if it.why:
+            found.append(f"<p><b>Vacuous:</b> {escape(it.why)}.</p>")
+        if it.doubt:
+            found.append(f"<p class=warn><b>Perhaps vacuous:</b> {escape(it.doubt)}.</p>")
+        if row.by == "run":
+            found.append(self._run(it))
+        elif row.by:
+            found.append(self._proof(row))
+        if row.notes:
+            found.append(f"<p>Notes: {'; '.join(escape(note) for note in row.notes)}.</p>")
+        again = _commands(row) + (_commands(it.proof) if it.proof else "")
+        if again:
+            found.append(f"<details><summary>Check it again</summary>{again}</details>")
+        return f'<section id="{anchor(row)}" class="{kind(it)}">{"".join(found)}</section>'
+
+    # -- a run
+
+    def _run(self, it: Judged) -> str:
+        """The waveform of a run, and why."""
+        row = it.row
+        said = "The cover is reached" if row.kind == "cover" else "The assertion fails"
+        shorter = "<b>A shorter run may exist.</b>"
+        if row.frames == 1:
+            shorter = ""
+        elif "shorter" in row.files:
+            shorter = f"No run of {counted(row.frames - 1, 'frame')} does: that is checked too."
+        return f"{self._picture(row)}<p>{said} at frame {row.frames - 1}, whatever the x are. {shorter}</p>"
+
+    def _picture(self, row: Row) -> str:
+        file = escape(row.files["witness"])
+        letters = row.frames * len(self._told.circuit.entries)
+        told = self._story(row) if self._room > 0 and letters <= MOST_LETTERS else None
+        if told is None:
+            return ("<p>The page has no more room for pictures: "
+                    f"<code>aig wave --witness circuit.aig {file}</code> makes a waveform, and "
+                    f"<code>aig why --witness circuit.aig {file}</code> says why.</p>")
+        mark = "reached" if row.kind == "cover" else "fails"
+        title = f"run of {counted(row.frames, 'frame')} to {row.name}"
+        names, waves = parts(told.lanes, told.run.frames, told.run.frames - 1, title, mark)
+        more = ""
+        if told.left:
+            more = (f"<p class=sub>{counted(told.left, 'more signal')}: "
+                    f"<code>aig why --witness circuit.aig {file}</code></p>")
+        found = (f'<div class="two"><div><div class="wave">{names}<div class="scroll">{waves}</div></div>{more}</div>'
+                 f"<div><p><b>Why</b>, from the last frame back:</p>{_why(told.why)}</div></div>")
+        self._room -= len(found) + letters // 1000 + sum(map(len, told.why)) // 100
+        return found
+
+    def _story(self, row: Row) -> Optional[Story]:
+        try:
+            return story(self._told, self._read(row.files["witness"]), self._sources.text(row))
+        except aig.OutOfMemory:
+            self._room -= MOST_PICTURES // 4  # it took a while
+            return None
+
+    # -- a proof
+
+    def _proof(self, row: Row) -> str:
+        runs = "run that begins as the resets allow" + (" and keeps all assumptions" if self._constrained else "")
+        what = f"property <code>b{row.position}</code> of <code>circuit.aig</code>"
+        if row.by == "bound":
+            said = (f"In no {runs} is {what} 1 within the first {counted(row.frames, 'frame')}. "
+                    "Longer runs were not decided.")
+        else:
+            said = f"In no {runs}, of any length, is {what} ever 1."
+        meaning = "where the cover happens" if row.kind == "cover" else "where the assertion is violated"
+        return f"<p>{said} It is 1 {meaning}.</p><p>{self._how(row)}</p>"
+
+    def _how(self, row: Row) -> str:
+        if row.by == "induction":
+            base, step = self._size(row, "base"), self._size(row, "step")
+            if row.frames == 1:
+                return (f"By induction: it is 1 at no start (proof of {base}), and after no step from a frame where it "
+                        f"was 0 (proof of {step}).")
+            return (f"By induction of {row.frames} frames: it is 1 in the first {row.frames} frames of no run (proof "
+                    f"of {base}), and never right after {row.frames} frames in which it was 0 (proof of {step}).")
+        if row.by == "certificate":
+            facts = aig.Circuit(self._read(row.files["certificate"])).info()
+            return (f"By an invariant: a certificate of {counted(facts['bad'], 'claim')} over "
+                    f"{counted(facts['inputs'], 'latch')} ({counted(facts['gates'], 'gate')}), and a proof of "
+                    f"{self._size(row, 'proof')} that it is right.")
+        return (f"Proof of {self._size(row, 'base')}. No induction of up to {counted(row.frames, 'frame')} and no "
+                "invariant was found.")
+
+    def _size(self, row: Row, role: str) -> str:
+        return size(len(self._read(row.files[role])))
+
+
+def _why(lines: Sequence[str]) -> str:
+    """The lines of `why`: the first ones, and the others folded."""
+    rest = lines[SEEN_LINES:MOST_LINES]
+    found = _lines(lines[:SEEN_LINES])
+    if rest:
+        back = "back to frame 0" if len(lines) <= MOST_LINES else f"of {len(lines) - SEEN_LINES}"
+        more = f"<summary>{counted(len(rest), 'more line')}, {back}</summary>"
+        found += f"<details class=rest>{more}{_lines(rest)}</details>"
+    return found
+
+
+def _lines(lines: Sequence[str]) -> str:
+    def words(line: str) -> str:
+        named = line.split(" ")
+        left = [f"… {len(named) - MOST_CAUSES} more"] if len(named) > MOST_CAUSES else []
+        return " ".join(f"<i>{escape(shortened(word, MOST_LINE))}</i>" for word in named[:MOST_CAUSES] + left)
+
+    return f'<pre class="why">{"".join(f"<span>{words(line)}</span>" for line in lines)}</pre>'
+
+
+def _commands(row: Row) -> str:
+    """The commands that check a row, each with the line that it prints."""
+    lines = [text for line, words in row.commands() for text in (f"$ aig {' '.join(words)}", line)]
+    return f"<pre>{chr(10).join(map(escape, lines))}</pre>" if lines else ""

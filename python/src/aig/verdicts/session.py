@@ -1,0 +1,240 @@
+"""Finds the verdicts of a design: in parallel, stoppable at any time. What is known from an earlier run is checked
+again, and not searched again."""
+
+from __future__ import annotations
+
+import json
+import os
+import sys
+from concurrent.futures import FIRST_COMPLETED, Executor, Future, ThreadPoolExecutor, wait
+from dataclasses import asdict
+from pathlib import Path
+from typing import Any, Callable, Collection, Dict, List, Optional
+
+from .._program import program
+from .bundle import MOST_BYTES, Bundle, Wrong, sum_of
+from .decide import Bounds, Found, Programs, Sent, Task
+from .design import Design
+from .folder import TIMES, Folder
+from .manifest import FORMAT, SCRIPT_OF_YOSYS, rows_as_json
+from .questions import NO_ANSWER, NO_TIME
+from .recheck import check_row
+from .row import CIRCUIT, CONSTRAINTS, ENDINGS, Row, name_of
+from .tools import Clock, Stop, Stopped, version
+from .workers import Workers
+
+# The manifest is written while rows come in, as long as that takes less than this part of the time.
+WRITING = 0.05
+# How long a wait for a worker takes until the user's wish to stop is looked at.
+LOOK = 0.5
+# No search takes longer than this.
+MOST_SECONDS = 10.0**9
+
+# How many rows are done, of how many, and the row that is new.
+Progress = Callable[[int, int, Optional[Row]], None]
+
+
+def _silent(_: int, __: int, ___: Optional[Row]) -> None:
+    """Shows nothing."""
+
+
+class Session:
+    """The verdicts of a design, in a folder that is always a bundle."""
+
+    def __init__(self, design: Design, path: Path, bounds: Bounds = Bounds(), programs: Programs = Programs(),
+                 only: Optional[Collection[int]] = None, stop: Optional[Stop] = None):
+        self.design, self.bounds, self.programs, self.only = design, bounds, programs, only
+        self.stop = stop or Stop()
+        self.rows = [Row(CONSTRAINTS, "constraints", "")]
+        self.rows += [Row(it.position, it.kind, it.name, it.file, it.first, it.last, it.of) for it in design.assertions]
+        self.seconds: Dict[int, float] = {}
+        self.rejected: List[str] = []
+        self.versions = self._versions()
+        self.folder = Folder(path, max(MOST_BYTES, bounds.proof_megabytes << 20 or sys.maxsize))
+        self._goes_further = True  # than an earlier run
+        self._written = Clock()
+        self._cost = 0.0
+
+    def close(self) -> None:
+        self.folder.close()
+
+    def _versions(self) -> Dict[str, str]:
+        named = {"aig": program(), "solver": self.programs.solver}
+        if self.programs.abc:
+            named["abc"] = self.programs.abc
+        if self.design.script:
+            named["yosys"] = "yosys"
+        return {key: version(name, self.stop) for key, name in named.items()}
+
+    # -- the folder
+
+    def open(self, jobs: int = 0) -> None:
+        """Writes the circuit and the sources. Earlier rows about the same circuit stay if `aig` confirms them."""
+        self._take_over(self._earlier(), jobs)
+        if not self.folder.has(CIRCUIT, self.design.circuit):
+            self.folder.remove("MANIFEST.json")  # it would be about another circuit
+        self.folder.put(CIRCUIT, self.design.circuit)
+        if self.design.script:
+            self.folder.put(SCRIPT_OF_YOSYS, self.design.script.encode())
+        for name, text in self.design.sources.items():
+            self.folder.put(f"sources/{name}", text)
+        self.write(True)
+        self.folder.clean()
+
+    def _earlier(self) -> Dict[int, Row]:
+        """The rows of an earlier run on the same circuit."""
+        try:
+            old = Bundle(self.folder.path)
+        except Wrong:
+            return {}
+        if old.sums[CIRCUIT] != sum_of(self.design.circuit):
+            return {}
+        self._goes_further = not self._searched_so_far(old.manifest)
+        self.seconds = self._earlier_seconds()
+        return {row.position: row for row in old.rows}
+
+    def _searched_so_far(self, manifest: Dict[str, Any]) -> bool:
+        """Whether the earlier run had the same programs, and bounds that are no smaller."""
+        try:
+            return manifest["versions"] == self.versions and self.bounds.within(Bounds(**manifest["bounds"]))
+        except TypeError:  # other bounds
+            return False
+
+    def _earlier_seconds(self) -> Dict[int, float]:
+        try:
+            times = json.loads(self.folder.read(TIMES), parse_int=float)
+            found = {row.position: times.get(str(row.position)) for row in self.rows}
+        except (Wrong, OSError, ValueError, AttributeError, RecursionError, MemoryError):
+            return {}
+        return {key: value for key, value in found.items() if type(value) is float and 0 <= value < MOST_SECONDS}
+
+    def _take_over(self, earlier: Dict[int, Row], jobs: int) -> None:
+        kept = [(row, earlier[row.position]) for row in self.rows if row.position in earlier]
+        kept = [(row, old) for row, old in kept if old.by and (old.kind, old.name) == (row.kind, row.name)]
+        with ThreadPoolExecutor(jobs or os.cpu_count() or 1) as pool:
+            for (row, old), wrong in zip(kept, pool.map(self._wrong, [old for _, old in kept])):
+                if wrong:
+                    self.rejected.append(wrong)
+                    continue
+                row.verdict, row.by, row.frames, row.notes = old.verdict, old.by, old.frames, old.notes
+                row.files = {role: old.files[role] for role in ENDINGS if role in old.files}
+        self.stop.look()
+
+    def _wrong(self, row: Row) -> str:
+        """What is wrong with a row of an earlier run. The files of one that is right get their sums."""
+        try:
+            files = {name: self.folder.read(name) for name in row.files.values()}
+            check_row(row, self.design.circuit, files.__getitem__, self.stop)
+        except (Wrong, OSError, MemoryError) as error:
+            return str(error)
+        except Stopped:
+            return "stopped"
+        self.folder.sums.update({name: sum_of(data) for name, data in files.items()})
+        return ""
+
+    def manifest(self) -> Dict[str, Any]:
+        return {
+            "format": FORMAT, "name": self.design.name, "notes": self.design.notes, "bounds": asdict(self.bounds),
+            "options": self.design.options, "sources": list(self.design.sources), "rows": rows_as_json(self.rows),
+            "versions": self.versions, "sums": self.folder.sums,
+        }
+
+    def write(self, now: bool = False) -> None:
+        """The manifest, as often as it costs little."""
+        if not now and self._written() * WRITING < self._cost:
+            return
+        clock = Clock()
+        self.folder.write(self.manifest())
+        if now:
+            self.folder.write_last(self.rows, self.seconds)
+        self._cost, self._written = clock(), Clock()
+
+    # -- the search
+
+    def take(self, found: Found) -> None:
+        """Writes what a search found."""
+        row = self.rows[found.position + 1]
+        self.seconds[row.position] = round(found.seconds, 1)
+        if row.by == "bound" and found.by in ("", "bound") and found.frames <= row.frames:
+            row.notes = found.notes  # an earlier search knows more
+            return
+        self._forget(row)
+        for role, data in found.files.items():
+            self.folder.put(name_of(row.position, role), data)
+        row.verdict, row.by, row.frames, row.notes = found.verdict, found.by, found.frames, found.notes
+        row.files = {role: name_of(row.position, role) for role in found.files}
+        self.write()
+
+    def _forget(self, row: Row) -> None:
+        """Lets go of what an earlier search found, before its files change."""
+        if row.files:
+            names = list(row.files.values())
+            row.verdict, row.by, row.frames, row.notes, row.files = "undecided", "", 0, [], {}
+            for name in names:
+                self.folder.sums.pop(name)
+            self.write(True)
+
+    def waiting(self) -> List[Row]:
+        """The rows that a search may improve."""
+        return [row for row in self.rows if not self._stays(row)]
+
+    def _stays(self, row: Row) -> bool:
+        if row.decided:
+            return True
+        if row.position == CONSTRAINTS:
+            return False  # its answer has no witness, so it is found again: one question
+        if self.only is not None and row.position not in self.only:
+            return True
+        if row.by != "bound" or row.frames < self.bounds.frames or self._goes_further:
+            return False
+        return all(note.endswith((NO_TIME, NO_ANSWER)) for note in row.notes)
+
+    def search(self, executor: Optional[Executor] = None, count: int = 0, progress: Progress = _silent,
+               share: Optional[Callable[[Sent], Any]] = None) -> bool:
+        """Finds what is not known yet. It is false if the user stopped it; what was found until then is kept."""
+        rows = self.waiting()
+        path = self.folder.path / CIRCUIT
+        left: Dict[Future[Found], Row] = {}
+        try:
+            with Workers(self.design.circuit, path, self.stop, executor, count, share) as workers:
+                try:
+                    for row in rows:
+                        left[workers.submit(Task(None, row.position, self.bounds, self.programs))] = row
+                    return self._collect(left, len(rows), progress)
+                finally:
+                    if left:
+                        self.stop()
+                    for future in left:
+                        future.cancel()
+        finally:
+            self.write(True)
+
+    def _collect(self, left: Dict[Future[Found], Row], count: int, progress: Progress) -> bool:
+        """Takes what the workers find, until all is found or the user stops it."""
+        progress(0, count, None)
+        complete = True
+        while left:
+            stopped = self.stop.stopped
+            ready, _ = wait(left, timeout=0 if stopped else LOOK, return_when=FIRST_COMPLETED)
+            for future in ready:
+                row = left.pop(future)
+                try:
+                    self.take(_result(future, row))
+                except Stopped:
+                    complete = False
+                progress(count - len(left), count, row)
+            if stopped:
+                return complete and not left
+            if not ready:
+                progress(count - len(left), count, None)
+        return complete
+
+
+def _result(future: Future[Found], row: Row) -> Found:
+    """What a worker found. If it died, its property is undecided, and the others go on."""
+    try:
+        return future.result()
+    except Stopped:
+        raise
+    except Exception as error:
+        return Found(row.position, notes=[f"worker: {type(error).__name__}: {str(error)[:200]}"])

@@ -1,0 +1,236 @@
+"""Waveforms as SVG. Tested, not proved: the values are those that `aig` printed, the picture is Python's.
+
+All names are text of others: each goes through `escape`."""
+
+from __future__ import annotations
+
+import hashlib
+import re
+from dataclasses import dataclass, field
+from typing import FrozenSet, Iterator, List, Optional, Sequence, Tuple
+
+# The least width of a frame, the height of a lane and the gap below it, the width of a letter, what is above and below.
+CELL, LANE, GAP, LETTER, TOP, BOTTOM = 30, 22, 8, 7.3, 26, 20
+# How many bits of a value its title shows.
+MOST_BITS = 1024
+STYLE = """\
+.w{font:12px ui-monospace,"DejaVu Sans Mono",Menlo,Consolas,monospace;color:var(--ink);--paper:#fff;--ink:#1b1f24;
+--pale:#6e7781;--grid:#e4e7eb;--band:#fde8e6;--edge:#b42318;--fill:#f4f6f8;--key:#0b57d0}
+@media screen and (prefers-color-scheme:dark){
+.w{--paper:#14171b;--ink:#e6e8eb;--pale:#9aa4ae;--grid:#30363d;--band:#4a1f1c;--edge:#ff8a80;
+--fill:#22272e;--key:#8ab4f8}}
+@media print{.w{--paper:#fff;--ink:#000;--pale:#666;--grid:#ddd;--band:#eee;--edge:#000;--fill:#fff;--key:#000}}
+.w text{fill:var(--ink)}.w .n{fill:var(--pale);font-size:11px}.w .g{stroke:var(--grid)}.w .p{fill:var(--paper)}
+.w .l{stroke:var(--pale);stroke-width:1.2;fill:none}.w .k{stroke:var(--key);stroke-width:2.8;fill:none}
+.w .b{fill:var(--fill);stroke:var(--pale);stroke-width:1.1}.w .b.k{stroke:var(--key);stroke-width:2.4}
+.w .pale{fill:var(--pale)}.w .v{font-weight:bold}.w .band{fill:var(--band)}
+.w .edge{stroke:var(--edge);stroke-width:1.6;stroke-dasharray:4 2;fill:none}
+.w .mark{fill:var(--edge);font-weight:bold}.w .h{stroke:var(--pale);stroke-width:1}
+.w .xb{stroke:var(--pale);stroke-width:.8}.w .xb.k{stroke:var(--key);stroke-width:2.4}.w .s{font-weight:bold}
+"""
+
+
+@dataclass(frozen=True)
+class Lane:
+    """A signal: its name, and a text of bits per frame, the most significant first, each 0, 1 or x.
+
+    keys    frames whose value is a cause
+    strong  whether the name stands out
+    """
+
+    name: str
+    values: Sequence[str]
+    keys: FrozenSet[int] = field(default_factory=frozenset)
+    strong: bool = False
+
+
+def escape(text: str) -> str:
+    """Text for SVG and HTML. What no document may hold, and what would turn the direction of the text around, is shown
+    as a number."""
+    return _quoted(visible(text))
+
+
+def visible(text: str) -> str:
+    """Text in which each letter can be seen."""
+    return _HIDDEN.sub(lambda found: _number(ord(found[0])), text)
+
+
+# Controls, letters that nothing is drawn for, blanks but the usual one, marks that turn the direction, lone surrogates,
+# and what is no letter.
+_HIDDEN = re.compile(
+    r"[\x00-\x1f\x7f-\xa0\xad\u034f\u061c\u115f\u1160\u1680\u17b4\u17b5\u180b-\u180f\u2000-\u200f\u2028-\u202f"
+    r"\u205f-\u206f\u2800\u3000\u3164\ud800-\udfff\ufe00-\ufe0f\ufeff\uffa0\ufff9-\ufffb\U0001d173-\U0001d17a"
+    r"\U000e0000-\U000e0fff" + "".join(rf"\U{plane:04x}fffe\U{plane:04x}ffff" for plane in range(17)) + "]")
+
+
+def _number(code: int) -> str:
+    return f"\\x{code:02x}" if code < 256 else f"\\u{code:04x}"
+
+
+def _quoted(text: str) -> str:
+    return re.sub("[&<>\"']", lambda found: f"&#{ord(found[0])};", text)
+
+
+def hexadecimal(bits: str) -> str:
+    """As hex digits; a digit with an x in it is x, and all x is nothing."""
+    if set(bits) == {"x"}:
+        return ""
+    padded = "0" * (-len(bits) % 4) + bits
+    digits = [padded[at : at + 4] for at in range(0, len(padded), 4)]
+    return "".join("x" if "x" in digit else f"{int(digit, 2):x}" for digit in digits)
+
+
+def shortened(name: str, most: int = 26) -> str:
+    """The name, with its middle left out if it is too long."""
+    return name if len(name) <= most else f"{name[: most // 2 - 1]}…{name[-(most - most // 2):]}"
+
+
+def columns(frames: int, most: int = 40) -> List[Optional[int]]:
+    """The frames to show, None for those that are left out: the first one, and the last ones."""
+    return list(range(frames)) if frames <= most else [0, None, *range(frames - most + 2, frames)]
+
+
+def waveform(lanes: Sequence[Lane], frames: int, failing: Optional[int] = None, title: str = "",
+             mark: str = "fails") -> str:
+    """The picture of a run. The frames are the ticks of the clock; a hatched box is x, any value."""
+    return _Picture(lanes, frames, failing, title, mark, True).svg()
+
+
+def parts(lanes: Sequence[Lane], frames: int, failing: Optional[int] = None, title: str = "",
+          mark: str = "fails") -> Tuple[str, str]:
+    """The names and the waves as two pictures, for a page where the names stay while the waves scroll."""
+    picture = _Picture(lanes, frames, failing, title, mark, False)
+    return picture.names_alone(), picture.svg()
+
+
+def _opened(width: int, height: int, more: str) -> str:
+    return (f'<svg xmlns="http://www.w3.org/2000/svg" class="w" {more} width="{width}" height="{height}" '
+            f'viewBox="0 0 {width} {height}">')
+
+
+class _Picture:
+    """A picture of lanes. It holds its names and its style if it stands `alone`."""
+
+    def __init__(self, lanes: Sequence[Lane], frames: int, failing: Optional[int], title: str, mark: str, alone: bool):
+        self.lanes, self.title, self.mark, self.alone = lanes, title, mark, alone
+        self.shown = columns(frames)
+        column_of = {frame: column for column, frame in enumerate(self.shown) if frame is not None}
+        self.failing = None if failing is None else column_of.get(failing)
+        self.room = int(max([len(shortened(visible(lane.name))) for lane in lanes] + [5]) * LETTER) + 14
+        self.left = self.room if alone else 0
+        wide = max((len(hexadecimal(lane.values[frame])) for lane in lanes for frame in column_of
+                    if len(lane.values[frame]) > 1), default=0)
+        self.cell = max(CELL, min(84, int(wide * LETTER + 14)))
+        self.width = max(self.left + self.cell * len(self.shown) + 6, self.left + 74)
+        self.height = TOP + len(lanes) * (LANE + GAP) + BOTTOM
+        # Each picture of a page has a pattern of its own: the pattern of a hidden picture is not drawn.
+        said = repr((list(lanes), frames, failing, title, mark, alone)).encode("utf-8", "replace")
+        self.ident = "x" + hashlib.sha256(said).hexdigest()[:12]
+
+    def x(self, column: int) -> int:
+        return self.left + column * self.cell
+
+    def svg(self) -> str:
+        return "".join(self._elements())
+
+    def _elements(self) -> Iterator[str]:
+        yield _opened(self.width, self.height, 'role="img"')
+        yield f"<title>{escape(self.title)}</title>"
+        if self.alone:
+            yield f'<style>{STYLE}</style><rect class="p" width="{self.width}" height="{self.height}"/>'
+        yield (f'<defs><pattern id="{self.ident}" width="6" height="6" patternUnits="userSpaceOnUse" '
+               'patternTransform="rotate(45)"><line class="h" x1="0" y1="0" x2="0" y2="6"/></pattern></defs>')
+        yield self._frame("band")
+        yield from self._grid()
+        if self.alone:
+            yield from self._names()
+        for number, lane in enumerate(self.lanes):
+            yield from self._lane(lane, TOP + number * (LANE + GAP))
+        yield self._frame("edge")
+        yield from self._mark()
+        yield "</svg>"
+
+    def names_alone(self) -> str:
+        return "".join([_opened(self.room, self.height, 'aria-hidden="true"'), *self._names(), "</svg>"])
+
+    def _names(self) -> Iterator[str]:
+        end = f'x="{self.room - 8}" text-anchor="end"'
+        yield f'<text class="n" {end} y="{TOP - 13}">frame</text>'
+        for number, lane in enumerate(self.lanes):
+            strong = ' class="s"' if lane.strong else ""
+            y = TOP + number * (LANE + GAP) + LANE - 6
+            short = _quoted(shortened(visible(lane.name)))
+            yield f'<text{strong} {end} y="{y}"><title>{escape(lane.name)}</title>{short}</text>'
+
+    def _frame(self, kind: str) -> str:
+        """The box around the failing frame."""
+        if self.failing is None:
+            return ""
+        return (f'<rect class="{kind}" x="{self.x(self.failing)}" y="{TOP - 8}" width="{self.cell}" '
+                f'height="{self.height - TOP - 8}"/>')
+
+    def _grid(self) -> Iterator[str]:
+        for column, frame in enumerate(self.shown):
+            x = self.x(column)
+            yield f'<line class="g" x1="{x}" y1="{TOP - 8}" x2="{x}" y2="{self.height - 16}"/>'
+            label = "⋯" if frame is None else str(frame)
+            yield f'<text class="n" x="{x + self.cell / 2:g}" y="{TOP - 13}" text-anchor="middle">{label}</text>'
+
+    def _mark(self) -> Iterator[str]:
+        if self.failing is not None:
+            anchor, x = ("end", self.x(self.failing + 1)) if self.failing > 1 else ("start", self.x(self.failing))
+            yield (f'<text class="mark" x="{x}" y="{self.height - 3}" text-anchor="{anchor}">'
+                   f"▲ {escape(self.mark)}</text>")
+
+    def _lane(self, lane: Lane, y: int) -> Iterator[str]:
+        before: Optional[Tuple[int, str]] = None
+        for begin, end, value, key in _spans(lane, self.shown):
+            if set(value) == {"x"}:
+                yield self._unknown(self.x(begin), self.x(end), y, len(value), key)
+            elif len(value) == 1:
+                turns = before is not None and before[0] == begin and before[1] not in ("x", value)
+                yield _level(self.x(begin), self.x(end), y, value, turns, key)
+            else:
+                yield _vector(self.x(begin), self.x(end), y, value, key)
+            before = end, value
+
+    def _unknown(self, x: int, to: int, y: int, bits: int, key: bool) -> str:
+        return (f'<rect class="xb{" k" if key else ""}" x="{x + 1}" y="{y + 2}" width="{to - x - 2}" '
+                f'height="{LANE - 4}" fill="url(#{self.ident})"><title>{_start("x" * bits)}: any value</title></rect>')
+
+
+def _spans(lane: Lane, shown: Sequence[Optional[int]]) -> List[Tuple[int, int, str, bool]]:
+    """Columns from and to with the same value, and whether it is a cause. Frames that are left out begin a new one."""
+    spans: List[Tuple[int, int, str, bool]] = []
+    goes_on = False
+    for column, frame in enumerate(shown):
+        if frame is not None:
+            value, key = lane.values[frame], frame in lane.keys
+            if goes_on and spans[-1][2:] == (value, key):
+                spans[-1] = (spans[-1][0], column + 1, value, key)
+            else:
+                spans.append((column, column + 1, value, key))
+        goes_on = frame is not None
+    return spans
+
+
+def _start(bits: str) -> str:
+    return bits if len(bits) <= MOST_BITS else f"{bits[:MOST_BITS]}…"
+
+
+def _level(x: int, to: int, y: int, value: str, turns: bool, key: bool) -> str:
+    high, low = y + 2, y + LANE - 2
+    level, other = (high, low) if value == "1" else (low, high)
+    step = f"M{x} {other}V{level}" if turns else f"M{x} {level}"
+    return f'<path class="{"k" if key else "l"}" d="{step}H{to}"/>'
+
+
+def _vector(x: int, to: int, y: int, value: str, key: bool) -> str:
+    high, low, middle = y + 2, y + LANE - 2, y + LANE // 2
+    text = hexadecimal(value)
+    room = int((to - x - 8) / LETTER)
+    shown = text if len(text) <= room else text[: max(room - 1, 0)] + "…"
+    outline = f"M{x + 1} {middle}L{x + 5} {high}H{to - 5}L{to - 1} {middle}L{to - 5} {low}H{x + 5}Z"
+    return (f'<path class="b{" k" if key else ""}" d="{outline}"><title>{len(value)}&#39;b{_start(value)}</title></path>'
+            f'<text class="{"v" if key else "pale"}" x="{(x + to) / 2:g}" y="{y + LANE - 6}" text-anchor="middle">'
+            f"{shown}</text>")

@@ -1,0 +1,181 @@
+"""Runs the programs of others: bounded, stoppable, and never trusted. And `aig`, which ends too when the user stops."""
+
+from __future__ import annotations
+
+import os
+import shutil
+import signal
+import subprocess
+import tempfile
+import threading
+import time
+from dataclasses import dataclass
+from pathlib import Path
+from typing import List, Mapping, Optional, Sequence, Set
+
+from .._program import held, program
+from ..errors import error_of
+
+# Seconds that a program gets after its own limit, before it is killed.
+GRACE = 2.0
+VERSION_SECONDS = 4.0
+# How much of a program's output is read.
+MOST_OUTPUT = 1 << 28
+MOST_ERROR = 1 << 16
+
+
+class Stopped(Exception):
+    """The user stopped the run."""
+
+
+class ToolFailed(Exception):
+    """A program is missing, crashed, or printed something that makes no sense."""
+
+
+@dataclass(frozen=True)
+class Ran:
+    """How a program ended: its status (negative for a signal, None if it was killed at its limit) and its output."""
+
+    status: Optional[int]
+    out: bytes
+    err: bytes
+
+    @property
+    def said(self) -> str:
+        words = (self.err or self.out).decode("utf-8", "replace").strip()
+        return words[-400:] if words else "nothing"
+
+
+class Stop:
+    """Ends all programs that run, and lets no new one begin. All threads of a run share one."""
+
+    def __init__(self) -> None:
+        self._lock = threading.RLock()  # a signal may come while this thread has it
+        self._running: Set[subprocess.Popen[bytes]] = set()
+        self.stopped = False
+
+    def begin(self, process: subprocess.Popen[bytes]) -> None:
+        with self._lock:
+            self._running.add(process)
+            if self.stopped:
+                _kill(process)
+
+    def end(self, process: subprocess.Popen[bytes]) -> None:
+        with self._lock:
+            self._running.discard(process)
+
+    def __call__(self, *_: object) -> None:
+        """Also the handler of a signal. It raises nothing, so no write is left half done."""
+        with self._lock:
+            self.stopped = True
+            for process in list(self._running):
+                _kill(process)
+
+    def look(self) -> None:
+        if self.stopped:
+            raise Stopped
+
+
+def _kill(process: subprocess.Popen[bytes]) -> None:
+    """Ends a program and all that it began: each runs in a group of its own."""
+    if process.returncode is None:
+        try:
+            os.killpg(process.pid, signal.SIGKILL)
+        except (ProcessLookupError, PermissionError):
+            pass
+
+
+def found(name: str) -> str:
+    """The path of a program, from any folder."""
+    path = shutil.which(name)
+    if path is None:
+        raise ToolFailed(f"there is no program {name} on the path")
+    return os.path.abspath(path)
+
+
+def run(words: Sequence[str], folder: Path, seconds: float, stop: Stop, megabytes: int = 0,
+        file_megabytes: int = 0) -> Ran:
+    """Runs a program in a folder, with limits on its memory and on each file that it writes (0 is none). Its output
+    goes to files there, so no pipe fills up."""
+    stop.look()
+    out, err = folder / "out", folder / "err"
+    with out.open("wb") as to, err.open("wb") as wrong:
+        process = subprocess.Popen(_bounded(words, megabytes, file_megabytes), cwd=folder, stdin=subprocess.DEVNULL,
+                                   stdout=to, stderr=wrong, start_new_session=True)
+        stop.begin(process)
+        try:
+            status: Optional[int] = process.wait(seconds + GRACE)
+        except subprocess.TimeoutExpired:
+            status = None
+        finally:
+            _end(process)
+            stop.end(process)
+    stop.look()
+    return Ran(status, _start_of(out, MOST_OUTPUT), _start_of(err, MOST_ERROR))
+
+
+def _bounded(words: Sequence[str], megabytes: int, file_megabytes: int) -> List[str]:
+    """A shell that sets the limits before the program begins: what the program starts has them too."""
+    bounds = [f"ulimit -f {file_megabytes * 2048}"] * (file_megabytes > 0)
+    bounds += [f"ulimit -v {megabytes * 1024}"] * (megabytes > 0)
+    return ["/bin/sh", "-c", "; ".join([*bounds, 'exec "$@"']), "sh", found(words[0]), *words[1:]]
+
+
+def _end(process: subprocess.Popen[bytes]) -> None:
+    """Ends a program, if it goes on, and what it began, also if it has ended itself."""
+    try:
+        os.killpg(process.pid, signal.SIGKILL)
+    except (ProcessLookupError, PermissionError):
+        pass
+    process.wait()
+
+
+def _start_of(path: Path, most: int) -> bytes:
+    with path.open("rb") as file:
+        return file.read(most)
+
+
+def ask(stop: Stop, command: str, *options: str, files: Sequence[bytes], named: Mapping[str, bytes] = {},
+        good: Sequence[int] = (0,)) -> bytes:
+    """What `aig` prints for these files, and for those that an option names. It raises the error of any other run."""
+    stop.look()
+    with held(*named.values(), *files) as (paths, descriptors):
+        by_option = [word for option, path in zip(named, paths) for word in (option, path)]
+        words = [program(), command, "--explain", *options, *by_option, *paths[len(named):]]
+        process = subprocess.Popen(words, stdin=subprocess.DEVNULL, stdout=subprocess.PIPE, stderr=subprocess.PIPE,
+                                   pass_fds=descriptors, start_new_session=True)
+        stop.begin(process)
+        try:
+            out, err = process.communicate()
+        finally:
+            _kill(process)
+            process.wait()
+            stop.end(process)
+    stop.look()
+    if process.returncode not in good or err.startswith(b"aig: "):
+        raise error_of(process.returncode, err.decode("utf-8", "replace"))
+    return out
+
+
+def version(name: str, stop: Stop) -> str:
+    """One line that says which program this is."""
+    short = Path(name).name
+    words = {"yosys": ["-V"]}.get(short, ["-q", "version"] if "abc" in short else ["--version"])
+    with tempfile.TemporaryDirectory(prefix="aig-verdicts-") as folder:
+        try:
+            ran = run([name, *words], Path(folder), VERSION_SECONDS, stop, file_megabytes=1)
+        except (ToolFailed, OSError) as error:
+            return f"{short}: {error}"
+    lines = (ran.out or ran.err)[:4000].decode("utf-8", "replace").strip().splitlines()
+    line = lines[0][:200] if lines else "?"
+    return line if line.startswith(f"{short} ") else f"{short} {line}"
+
+
+class Clock:
+    """Seconds since it was made."""
+
+    def __init__(self) -> None:
+        self._begin = time.monotonic()
+
+    def __call__(self) -> float:
+        return time.monotonic() - self._begin

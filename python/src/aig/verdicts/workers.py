@@ -1,0 +1,69 @@
+"""Who works on the tasks: threads of this process, or any executor of `concurrent.futures`."""
+
+from __future__ import annotations
+
+import os
+from concurrent.futures import Executor, Future, ThreadPoolExecutor
+from dataclasses import replace
+from pathlib import Path
+from types import TracebackType
+from typing import Any, Callable, Optional, Type
+
+from .decide import Found, Sent, Task, decide, decide_about
+from .tools import Stop, ToolFailed
+
+# A circuit whose compressed file is larger is not a part of each task.
+LARGE = 1 << 16
+
+
+class Workers:
+    """Takes tasks about one circuit. An executor that is not named is one of threads, which ends with these workers.
+
+    A large circuit is not sent with each task. `share` puts it where all workers are, and its result is sent in place
+    of it; without that, the workers read it from the file at `path`."""
+
+    def __init__(self, circuit: bytes, path: Path, stop: Stop, executor: Optional[Executor] = None, count: int = 0,
+                 share: Optional[Callable[[Sent], Any]] = None):
+        self._stop, self._own = stop, executor is None
+        self._executor = executor or ThreadPoolExecutor(count or os.cpu_count() or 1)
+        self._sent = Sent.of(circuit)
+        self._shared: Any = None
+        if not self._own and len(self._sent.packed) > LARGE:
+            if share is not None:
+                self._shared = share(self._sent)
+            else:
+                self._sent = Sent.at(path)
+
+    def submit(self, task: Task) -> Future[Found]:
+        if self._own:
+            return self._executor.submit(decide, replace(task, circuit=self._sent), self._stop)
+        if self._shared is not None:
+            return self._executor.submit(decide_about, self._shared, task)
+        return self._executor.submit(decide, replace(task, circuit=self._sent))
+
+    def __enter__(self) -> Workers:
+        return self
+
+    def __exit__(self, kind: Optional[Type[BaseException]], _: Optional[BaseException],
+                 __: Optional[TracebackType]) -> None:
+        if self._own:
+            self._executor.shutdown(wait=True)
+
+
+class Dask:
+    """The workers of a Dask cluster, as an executor and a way to share a circuit."""
+
+    def __init__(self, address: str):
+        try:
+            import dask.distributed as distributed
+        except ImportError:
+            raise ToolFailed("--dask needs the package distributed") from None
+        make: Any = distributed.Client
+        self._client = make(address, timeout="30s")
+        self.executor: Executor = self._client.get_executor(pure=False)
+
+    def share(self, sent: Sent) -> Any:
+        return self._client.scatter(sent, broadcast=True)
+
+    def close(self) -> None:
+        self._client.close()

@@ -1,0 +1,146 @@
+"""Bundles in which anything was changed are rejected, or say the same."""
+
+from __future__ import annotations
+
+import json
+import os
+import random
+import shutil
+from pathlib import Path
+
+from bundles.common import called, judged, kept, manifest_of, row, why_rejected, write_manifest
+from bundles.forgers import FORGERS
+
+TRIED = 8
+NOT_READ = ("recheck.sh",)
+
+
+def bits(_, tally, __):
+    """A bit of each file of a bundle is flipped, at each place of the short ones and at some of the long ones, with the
+    sums and without. With them, only MANIFEST.json may change unseen, where it changes no row. Without them a changed
+    circuit may pass: it is another circuit, of which the same is proved."""
+    path = kept("every")
+    good = judged(path)
+    tally.check("bits: the bundle is right", good is not None)
+    chance = random.Random(1)
+    for file in sorted(it for it in path.rglob("*") if it.is_file() and it.name not in NOT_READ):
+        data = file.read_bytes()
+        places = range(len(data)) if len(data) <= TRIED else sorted(chance.sample(range(len(data)), TRIED))
+        for place in places:
+            wrong = bytearray(data)
+            wrong[place] ^= 1 << chance.randrange(8)
+            file.write_bytes(bytes(wrong))
+            for sums in (True, False):
+                said = judged(path, sums)
+                may_pass = file.name == "MANIFEST.json" or not sums
+                may_change = file.name == "circuit.aig" and not sums
+                is_right = said is None or may_pass and (said == good or may_change)
+                tally.check(f"bits: {file.name} byte {place}, sums {sums}", is_right, said)
+        file.write_bytes(data)
+
+
+def forgers(_, tally, __):
+    """Someone who changes a bundle and mends all sums: rows dropped, told twice, out of order, with the proof or the
+    witness of another property, with other kinds, conditions, words, numbers, names and paths. All are rejected, and
+    nothing is read or written outside of the bundle."""
+    for change, caught_by in FORGERS.items():
+        path = kept("every")
+        manifest = manifest_of(path)
+        change(path, manifest)
+        write_manifest(path, manifest)
+        why = why_rejected(path)
+        tally.check(f"forgers: {change.__name__[1:]}", why is not None and caught_by in why, why)
+        status, out, err = called("recheck", path)
+        tally.check(f"forgers: {change.__name__[1:]}, status", status == 1 and err.startswith("aig-verdicts: "),
+                    (status, out, err))
+    path = kept("contradiction")
+    manifest = manifest_of(path)
+    manifest["rows"][0].update(verdict="alive", by="")
+    del manifest["rows"][0]["files"], manifest["sums"]["alive.drat"]
+    row(manifest, "fine")["result"] = "holds"
+    write_manifest(path, manifest)
+    tally.check("forgers: that some run keeps the assumptions has no proof yet", judged(path) is not None)
+
+
+def harmless(_, tally, __):
+    """A command in the manifest is for readers, and nothing runs it; `recheck` needs neither yosys.ys nor
+    recheck.sh."""
+    path = kept("every")
+    good = judged(path)
+    manifest = manifest_of(path)
+    row(manifest, "two")["commands"] = [{"prints": "confirmed", "words": ["touch", os.path.abspath("owned")]}]
+    (path / "yosys.ys").write_text(f"shell touch {os.path.abspath('owned')}\n")
+    (path / "recheck.sh").write_text("touch owned\n")
+    write_manifest(path, manifest)
+    tally.compare("harmless: the same rows", judged(path), good)
+    tally.check("harmless: nothing ran", not Path("owned").exists())
+
+
+def files(_, tally, __):
+    """Links, pipes, folders and devices in the place of a file, and a folder that is a link: all are rejected, and none
+    is waited for. A hard link is a file like each other one."""
+    def link(file):
+        os.symlink(file.with_name("other"), file)
+
+    def dangling(file):
+        os.symlink("nothing", file)
+
+    def pipe(file):
+        os.mkfifo(file)
+
+    def folder(file):
+        file.mkdir()
+
+    def device(file):
+        os.symlink("/dev/zero", file)
+
+    def missing(_):
+        pass
+
+    for change in (link, dangling, pipe, folder, device, missing):
+        for name in ("circuit.aig", "MANIFEST.json", "sources/every.v", "3.base.drat"):
+            path = kept("every")
+            file = path / name
+            shutil.copy(file, file.with_name("other"))
+            file.unlink()
+            change(file)
+            tally.check(f"files: {change.__name__} for {name}", why_rejected(path) is not None, "accepted")
+    path = kept("every")
+    os.rename(path / "sources", "elsewhere")
+    os.symlink(os.path.abspath("elsewhere"), path / "sources")
+    tally.check("files: a folder that is a link", why_rejected(path) is not None, "accepted")
+    path = kept("every")
+    os.rename(path / "circuit.aig", "circuit.aig")
+    os.link("circuit.aig", path / "circuit.aig")
+    tally.check("files: a hard link", why_rejected(path) is None, why_rejected(path))
+    os.rename(path, "real.verdicts")
+    os.symlink("real.verdicts", path)
+    tally.check("files: the folder that was named may be a link", why_rejected(path) is None, why_rejected(path))
+    os.unlink(path)
+
+
+def texts(_, tally, __):
+    """Manifests that are no JSON, or JSON with two meanings: keys twice, huge numbers, floats, deep nesting, other
+    encodings."""
+    path = kept("every")
+    good = (path / "MANIFEST.json").read_bytes()
+    for name, text in {
+        "nothing": b"", "no JSON": b"{", "null": b"null", "a list": b"[]", "deep": b"[" * 200000,
+        "deep objects": b'{"a":' * 200000,
+        "empty": b"{}", "format alone": b'{"format": "aig-verdicts 1"}', "utf-16": good.decode().encode("utf-16"),
+        "not utf-8": good.replace(b"two", b"\xff\xfe", 1), "a mark of order": b"\xef\xbb\xbf" + good,
+        "a key twice": good.replace(b'"name": "two"', b'"name": "two", "name": "two"', 1),
+        "rows twice": good.rstrip().removesuffix(b"}") + b', "rows": []}',
+        "huge number": good.replace(b'"frames": 3', b'"frames": ' + b"9" * 100000, 1),
+        "huge float": good.replace(b'"frames": 3', b'"frames": 1e999', 1),
+        "NaN": good.replace(b'"frames": 3', b'"frames": NaN', 1),
+        "infinite": good.replace(b'"conflicts": 0', b'"conflicts": Infinity', 1),
+        "float": good.replace(b'"position": 0', b'"position": 0.0', 1),
+        "more after it": good + b"{}", "zeros": b"\0" * 1000,
+    }.items():
+        (path / "MANIFEST.json").write_bytes(text)
+        tally.check(f"texts: {name} changed something", text != good)
+        status, _, err = called("recheck", path)
+        tally.check(f"texts: {name}", status == 1 and err.startswith("aig-verdicts: "), (status, err[:200]))
+    (path / "MANIFEST.json").write_bytes(json.dumps(json.loads(good)).encode())
+    tally.check("texts: other blanks mean the same", why_rejected(path) is None, why_rejected(path))

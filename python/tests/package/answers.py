@@ -1,0 +1,100 @@
+"""Each answer is about the property, the frames and the file that were asked for, and no answer is taken from a program
+that is killed."""
+
+import os
+
+import aig
+from library import runs
+from package.common import CHAIN, CLAIMS_0, CONFIRMED, NO_CLAIM, STAYS, example, raised, running
+
+
+def many(program, tally, _):
+    """A circuit with 13 properties, of which the property P is first reached at frame P, but for the first: each answer
+    is about the property and the number of frames that were asked for."""
+    chain = aig.Circuit(CHAIN)
+    rows = ["0" * (frame + 1) + "1" + "0" * (11 - frame) for frame in range(12)] + ["0" * 13]
+    trace = chain.simulate(rows)
+    tally.compare("a vector of 13 bits", trace.vector("d"), [2 << frame for frame in range(12)] + [0])
+    tally.compare("a vector of 12 bits", trace.vector("q"), [0] + [1 << frame for frame in range(12)])
+    tally.compare("a bit, an output and a value", (trace["d[10]"], trace["o12"], trace["q[11]", 12]),
+                  ("0" * 9 + "1" + "0" * 3, "0" * 12 + "1", 1))
+    found = ((12, chain.witness(rows, 12)), (11, chain.witness(rows, "p11")), (1, chain.witness(rows)))
+    for position, witness in found:
+        tally.compare(f"the witness of property {position}", (witness.position, witness.property, witness.rows),
+                      (position, f"p{position}", rows[:position + 1]))
+        tally.compare("its start and its verdict", (witness.start, chain.check(witness)), ("0" * 12, "confirmed"))
+        tally.compare("of this property", chain.check(witness, position).witness.text, witness.text)
+        other = (position + 1) % 13
+        error = raised(chain.check, witness, other)
+        tally.compare("of another", error.reason, f"of b{position}, not b{other}")
+    witness = chain.witness(rows, 12).text.decode()
+    for line, text in (("initial 11", witness.replace("0" * 12 + "\n", "0" * 11 + "1\n", 1)),
+                       ("constraint 3 0", witness.replace(rows[3], "1" * 13)),
+                       ("not bad", witness.replace("b12", "b11"))):
+        verdict = chain.check(text)
+        tally.compare(line, (verdict.line, bool(verdict), verdict.confirmed), (line, False, False))
+        tally.compare("no witness", verdict.witness, None)
+    tally.check("a witness that is none", raised(chain.check, witness[:-2], 12).part == "witness")
+    for position in (0, 12):
+        formula = chain.cnf(12, position)
+        tally.compare("the formula", formula.text.split(b"\n")[0].split()[-1], b"p%d" % position)
+        tally.compare("its frames", max(frame for _, frame in formula.inputs), 11)
+        tally.compare("unreachable", chain.refute(12, proof_of(formula), f"p{position}"), "unreachable within 12")
+    tally.compare("a proof of another property", raised(chain.refute, 12, b"0\n", 11).part, "proof")
+    tally.compare("a proof of fewer frames", raised(chain.refute, 13, proof_of(chain.cnf(12, 12)), 12).part, "proof")
+    step = chain.cnf(1, 0, step=True)
+    tally.compare("an induction", chain.refute(1, b"0\n", 0, step=proof_of(step)), "unreachable")
+    tally.compare("no induction", raised(chain.refute, 1, b"0\n", 12, step=b"0\n").part, "step proof")
+    tally.compare("selected", chain.select([12, "p3"]).properties, ["p12", "p3"])
+    tally.compare("outputs as properties", chain.select([12], source="outputs").witness(rows).rows, rows)
+    outputs = chain.select(["p7"], target="outputs")
+    tally.compare("properties as outputs", outputs.simulate(rows)["p7"], "0" * 7 + "1" + "0" * 5)
+    tally.compare("unrolled", chain.unroll(3).info()["inputs"], 39)
+    certified = chain.certified(NO_CLAIM, 12)
+    first = chain.certified(NO_CLAIM)
+    error = raised(certified.refute, proof_of(first.cnf()))
+    tally.check("a certificate of another property", isinstance(error, aig.AigError) and error.part == "proof", error)
+    tally.compare("that of the first", first.refute(proof_of(first.cnf())), "unreachable")
+    tally.compare("the claims", chain.certified(NO_CLAIM, "p12").strengthened().simulate(rows)["o0"], trace["o12"])
+
+
+def models(_, tally, __):
+    """Formulas as lists, and models of runs with zeros and ones: as text, as numbers and as truth values."""
+    chain = aig.Circuit(CHAIN)
+    formula = chain.cnf(5, 4)
+    lines = [line.split() for line in formula.text.decode().splitlines() if line[:1] not in "cp"]
+    tally.compare("the clauses", formula.clauses, [[int(word) for word in words[:-1]] for words in lines])
+    tally.compare("clause by clause", list(formula), formula.clauses)
+    tally.compare("how many", len(lines), formula.size)
+    rows = ["0" * (frame + 1) + "1" + "0" * (11 - frame) for frame in range(5)]
+    values = {variable: rows[frame][at] == "1" for (at, frame), variable in formula.inputs.items()}
+    numbers = [variable if value else -variable for variable, value in sorted(values.items())]
+    truths = [values.get(variable) for variable in range(formula.variables + 1)]
+    text = "s SATISFIABLE\nv " + " ".join(map(str, numbers)) + " 0\n"
+    for name, model in (("numbers", numbers), ("truth values", truths), ("text", text), ("bytes", text.encode())):
+        tally.compare(f"a model as {name}", formula.witness(model).rows, rows)
+    tally.compare("values that are missing", formula.witness(numbers[1:]).rows[0][1:], rows[0][1:])
+
+
+def proof_of(formula):
+    """A proof by unit propagation: that the bad state is at no frame, frame by frame."""
+    frames = [line.split() for line in formula.text.decode().split("\n") if line.startswith("c b ")]
+    return "".join(f"{-int(words[2])} 0\n" for words in frames).encode() + b"0\n"
+
+
+def killed(program, tally, _):
+    """A program that is killed, or ends with another status, gives no answer, whatever it printed before."""
+    wraps, certified = example("wraps.aag"), aig.Circuit(STAYS).certified(CLAIMS_0)
+    ends = {"killed": "kill -9 $$", "status 5": "exit 5", "status 1": "echo 'aig: x: y' >&2; exit 1",
+            "status 0 and a message": "echo 'aig: x: y' >&2; exit 0"}
+    for name, end in ends.items():
+        runs.write("ended", f"#!/bin/sh\necho unreachable\n{end}\n")
+        os.chmod("ended", 0o755)
+        with running("ended"):
+            calls = (("refute", wraps.refute, (3, b"")), ("refute_alive", wraps.refute_alive, (3, b"")),
+                     ("certified", certified.refute, (b"",)), ("check", wraps.check, (CONFIRMED,)),
+                     ("to", wraps.to, ("aag",)), ("rows", wraps.simulate, (["1"],)))
+            for call, function, words in calls:
+                error = raised(function, *words)
+                wanted = aig.AigError if "message" in name or name == "status 1" else RuntimeError
+                tally.check(f"{name}: {call}", isinstance(error, wanted), error)

@@ -1,0 +1,115 @@
+"""`aig.solve`, `aig.prove` and `aig.certify`, their bounds, and the verdicts that they return."""
+
+import os
+import re
+import shutil
+import threading
+from pathlib import Path
+
+import aig
+from library import runs
+from package.common import CHAIN, CLAIMS_0, CLAIMS_1, STAYS, chain_of, example, need, raised
+
+PYTHON = Path(__file__).resolve().parent.parent.parent
+
+
+def solvers(_, tally, __):
+    """Solvers, `aig.prove` and `aig.certify`, with their bounds."""
+    need("cadical")
+    wraps, stays, chain = example("wraps.aag"), aig.Circuit(STAYS), aig.Circuit(CHAIN)
+    found = aig.prove(wraps, "wraps")
+    tally.compare("a bug", (found, found.by, found.frames, found.witness.rows), ("confirmed", "run", 4, ["1"] * 4))
+    tally.compare("no shorter one", wraps.refute(3, found.proof), "unreachable within 3")
+    bound = aig.prove(wraps, "wraps", frames=3)
+    tally.compare("no bug within 3", (bound, bound.frames, bool(bound)), ("unreachable within 3", 3, True))
+    tally.compare("its proof", wraps.refute(3, bound.proof), "unreachable within 3")
+    holds = aig.prove(stays)
+    tally.compare("no bug", (holds, holds.by, holds.unreachable, holds.confirmed, holds.witness),
+                  ("unreachable", "induction", True, False, None))
+    tally.compare("its proofs", stays.refute(holds.frames, holds.proof, step=holds.step), "unreachable")
+    for position in (0, 11, 12):
+        found = aig.prove(chain, f"p{position}", frames=12)
+        tally.compare(f"property {position}", (found.line, found.witness and found.witness.position),
+                      {0: ("unreachable", None), 11: ("confirmed", 11), 12: ("unreachable within 12", None)}[position])
+    tally.check("no frames", isinstance(raised(aig.prove, wraps, frames=0), ValueError))
+    tally.compare("one frame", aig.prove(wraps, frames=1), "unreachable within 1")
+    tally.compare("20 frames", aig.prove(aig.Circuit(chain_of(24)), 24), "unreachable within 20")
+    contradict = aig.Circuit("aag 2 2 0 0 0 1 2\n2\n4\n4\n2\n3\n")
+    both = aig.prove(contradict, frames=2)
+    tally.compare("vacuous", (both.line, both.vacuous), ("unreachable", "no run of 2 frames"))
+    tally.compare("its proof", both.witness or contradict.refute_alive(2, both.files["alive"]), both.vacuous)
+    tally.compare("not vacuous", aig.prove(chain, 0).vacuous, "")
+    certified = stays.certified(CLAIMS_0)
+    found = aig.certify(certified)
+    tally.compare("certified", (found, found.by), ("unreachable", "certificate"))
+    tally.compare("its certificate", found.certificate, certified.certificate)
+    tally.compare("its proof is checked", certified.refute(found.proof), "unreachable")
+    witness = aig.certify(stays.certified(CLAIMS_1))
+    tally.compare("a wrong certificate", (witness.property, witness.circuit.check(witness).line), ("b0", "confirmed"))
+    step = stays.cnf(1, step=True)
+    solved = aig.solve(step)
+    tally.check("the step", (solved.proof is None) != (solved.model is None))
+    for call, words in ((aig.solve, (step, "no-such")), (aig.prove, (stays, 0, 1, "no-such"))):
+        error = raised(call, *words)
+        tally.check("no solver", isinstance(error, FileNotFoundError) and "no-such" in str(error), error)
+    error = raised(aig.solve, step, "false")
+    tally.check("a solver that fails", isinstance(error, RuntimeError) and "false ended with" in str(error), error)
+    tally.compare("a solver that fails to prove", aig.prove(stays, solver=shutil.which("false")), "undecided")
+    tally.check("options for prove", isinstance(raised(aig.prove, stays, solver=["cadical", "--sat"]), ValueError))
+
+
+def bounds(_, tally, __):
+    """Searches that are ended: by a bound, and by another thread."""
+    wraps = example("wraps.aag")
+    formula = wraps.cnf(3)
+    written = {"slow": "sleep 60", "gives_up": "exit 0", "counts": 'case "$*" in *"-c 7"*) exit 0;; esac; exit 1'}
+    for name, body in written.items():
+        runs.write(name, f"#!/bin/sh\n{body}\n")
+        os.chmod(name, 0o755)
+    for name, limits in (("slow", {"seconds": 0.2}), ("gives_up", {"seconds": 5}), ("counts", {"conflicts": 7})):
+        tally.compare(f"solve: {name}", aig.solve(formula, f"./{name}", **limits), (None, None))
+    tally.check("no bound, no answer", isinstance(raised(aig.solve, formula, "./gives_up"), RuntimeError))
+    tally.check("another bound", isinstance(raised(aig.solve, formula, "./counts", conflicts=8), RuntimeError))
+    found = aig.prove(wraps, solver="./slow", seconds=1)
+    tally.compare("prove", (found, bool(found), found.files, len(found.notes)), ("undecided", False, {}, 1))
+    found = aig.prove(wraps, solver="./counts", conflicts=7)
+    tally.check("prove: the bound is that of the solver", "within its bounds" in found.notes[0], found.notes)
+    certified = aig.Circuit(STAYS).certified(CLAIMS_0)
+    for name, limits in (("gives_up", {"seconds": 5}), ("counts", {"conflicts": 7})):
+        found = aig.certify(certified, f"./{name}", **limits)
+        tally.compare(f"certify: {name}", (found, len(found.notes)), ("undecided", 1))
+    calls = (("solve", aig.solve, (formula, "./slow")), ("prove", aig.prove, (wraps, 0, 20, "./slow")),
+             ("certify", aig.certify, (certified, "./slow")))
+    for name, call, words in calls:
+        stop = aig.Stop()
+        timer = threading.Timer(0.3, stop)
+        timer.start()
+        error = raised(call, *words, stop=stop)
+        timer.join()
+        tally.check(f"{name} is stopped", isinstance(error, aig.Stopped), error)
+
+
+def texts(program, tally, _):
+    """Verdicts beside the texts that they were before."""
+    found = aig.Verdict("unreachable within 3", "bound", 3)
+    line = "unreachable within 3"
+    tally.compare("equal to its line", (found == line, found != "unreachable", f"{found}", {found: 1}[line]),
+                  (True, True, line, 1))
+    tally.compare("equal to another", [found == other for other in (aig.Verdict(line), aig.Verdict("x"), 3)],
+                  [True, False, False])
+    tally.compare("shown", repr(found), "Verdict(line='unreachable within 3', by='bound', frames=3)")
+    tally.compare("shown as before", repr(aig.Verdict("confirmed")), "Verdict(line='confirmed')")
+    tally.compare("shown with all", repr(aig.Verdict("unreachable", vacuous="no run of 1 frames", notes=["n"])),
+                  "Verdict(line='unreachable', vacuous='no run of 1 frames', notes=['n'])")
+    truths = {"confirmed": True, "unreachable": True, "no run of 3 frames": True, "undecided": False, "not bad": False,
+              "initial 0": False, "constraint 0 0": False}
+    tally.compare("true or false", {line: bool(aig.Verdict(line)) for line in truths}, truths)
+    roles = {"base": b"1", "step": b"2", "certificate": b"3"}
+    files = (roles, {}, {"proof": b""}, {"shorter": b"4", "witness": b"5"})
+    of_files = [aig.Verdict("", files=each) for each in files]
+    tally.compare("its proofs", [(it.proof, it.step, it.certificate) for it in of_files],
+                  [(b"1", b"2", b"3"), (None, None, None), (b"", None, None), (b"4", None, None)])
+    version = re.search(r'VERSION = "(.*)"', (PYTHON / "make_wheel.py").read_text())
+    tally.compare("the version of the wheel", aig.__version__, version and version[1])
+    said = program.run("--version")  # a program without proofs says so on standard error
+    tally.compare("the version of the program", (said.out + said.err).split()[:2], [b"aig", aig.__version__.encode()])

@@ -1,0 +1,76 @@
+"""Pages that `aig-verdicts run` made, with Yosys and cadical: each picture beside the plain simulator and explainer."""
+
+import contextlib
+import io
+import json
+import os
+import shutil
+import signal
+import subprocess
+import sys
+from pathlib import Path
+
+import aig
+from aig.verdicts import command
+from aig.verdicts.runs import Told
+from library import runs, supervised
+from pages.tags import read
+from pages.values import compared
+
+DESIGNS = Path(__file__).resolve().parent.parent / "designs"
+SMALL = """\
+module small(input clk, input a, input [10:0] d, output reg [1:0] n, output reg [10:0] kept);
+  initial n = 0;
+  wire both = a && n == 1;
+  always @(posedge clk) begin if (a) n <= n + (n != 2); kept <= d; end
+  always @* begin
+    two: assert (n != 2); // </pre><script>alert(1)</script> \u202e
+    three: assert (n != 3);
+    wide: assert (kept != 11'h5a5 || !both);
+    back: cover (both);
+    never: cover (n == 3);
+  end
+endmodule
+"""
+
+
+def called(*words):
+    """The status of a command. Signals are as they were afterwards, for the command takes them."""
+    before = [(number, signal.getsignal(number)) for number in (signal.SIGINT, signal.SIGTERM)]
+    with contextlib.redirect_stdout(io.StringIO()), contextlib.redirect_stderr(io.StringIO()):
+        try:
+            return command.main([str(word) for word in words])
+        finally:
+            for number, handler in before:
+                signal.signal(number, handler)
+
+
+def made(_, tally, __):
+    """Two designs, from Verilog and from a circuit with hostile names, to their pages."""
+    for tool in ("yosys", "cadical"):
+        if not shutil.which(tool):
+            raise runs.LeftOut(f"there is no {tool}")
+    Path("small.v").write_text(SMALL, encoding="utf-8")
+    hostile = supervised.run([sys.executable, str(DESIGNS / "hostile.py")], stdout=subprocess.PIPE, check=True).stdout
+    runs.write("hostile.aag", hostile)
+    for file, wanted in (("small.v", ["b0", "b1", "b2", "b3", "b4"]), ("hostile.aag", ["b0"])):
+        folder = f"{file}.out"
+        tally.compare(f"{file}: the status", called("run", file, "--out", folder, "--frames", "20", "--abc", ""), 5)
+        page = Path(folder, "index.html").read_text(encoding="utf-8")
+        text = read(tally, file, page)
+        tally.check(f"{file}: scripts are text", "<script>alert(1)</script>" in text)
+        tally.compare(f"{file}: sections", [it for it in wanted if f'id="{it}"' not in page], [])
+        pictured(tally, file, folder)
+    tally.check("the register is shown", ">n</text>" in Path("small.v.out/index.html").read_text(encoding="utf-8"))
+
+
+def pictured(tally, file, folder):
+    """Each run of a bundle beside the plain simulator."""
+    told = Told(aig.read(os.path.join(folder, "circuit.aig")))
+    rows = json.loads(Path(folder, "MANIFEST.json").read_text())["rows"]
+    shown = 0
+    for row in rows:
+        if "witness" in row.get("files", {}):
+            witness = aig.Witness(told.circuit, Path(folder, row["files"]["witness"]).read_bytes())
+            shown += compared(tally, f"{file} b{row['position']}", told, witness, "both n")
+    tally.check(f"{file}: pictures", shown > 1, shown)

@@ -1,0 +1,166 @@
+"""Pictures of random runs beside the plain simulator and explainer: each value, each thick line, each name."""
+
+import random
+import re
+
+import aig
+from aig.verdicts.signals import Names, unique
+from aig.verdicts.runs import Told, lanes, story
+from aig.verdicts.svg import parts, waveform
+from pages.oracle import Expected, Picture
+
+BASES = ("q", "=1", "at", "a=b=c", "x=1", "always", "0", "q[1]", "<b>", "i0", "l1", "é", "b0", "count")
+
+
+def circuit_of(chance):
+    """A random circuit with odd names: of several signals, with blanks, vectors with holes, bits in the wrong order."""
+    inputs, latches, gates = chance.randrange(1, 7), chance.randrange(1, 9), chance.randrange(1, 25)
+    variables = [2 * (at + 1) for at in range(inputs + latches + gates)]
+
+    def one(below):
+        return chance.choice([0, *variables[:below]]) + chance.randrange(2)
+
+    known = inputs + latches
+    lines = [str(it) for it in variables[:inputs]]
+    for latch in variables[inputs:known]:
+        lines.append(f"{latch} {one(known + gates)}{chance.choice(['', ' 1', f' {latch}', ''])}")
+    outputs = chance.randrange(4)
+    lines += [str(one(known + gates)) for _ in range(outputs)]
+    lines += [str(one(known + gates) if chance.randrange(5) else chance.choice(variables[inputs:known]))]
+    lines += [f"{variables[known + at]} {one(known + at)} {one(known + at)}" for at in range(gates)]
+    counts = f"aag {known + gates} {inputs} {latches} {outputs} {gates} 1"
+    symbols = [line for letter, count in (("i", inputs), ("l", latches), ("o", outputs))
+               for line in symbols_of(chance, letter, count)]
+    return "\n".join([counts, *lines, *symbols, f"b0 {chance.choice(BASES)}", ""]).encode()
+
+
+def symbols_of(chance, letter, count):
+    names, at = [], 0
+    while at < count:
+        base, wide = chance.choice(BASES), chance.choice((1, 1, 2, 3, 4))
+        indices = list(range(wide))
+        kind = chance.randrange(6)
+        if kind == 0:
+            indices.reverse()
+        elif kind == 1:
+            indices = [it + chance.randrange(3) for it in indices]
+        elif kind == 2:
+            indices.pop(chance.randrange(wide))
+        for index in indices[: count - at]:
+            name = f"{base}[{index}]" if wide > 1 or chance.randrange(3) == 0 else base
+            name = chance.choice((name, name, name, f"{name} top.{name}", f" {name}"))
+            names.append(f"{letter}{at} {name}" if chance.randrange(8) else "")
+            at += 1
+    return [name for name in names if name]
+
+
+def witness_of(circuit, chance):
+    """A witness of a random run, reduced or not; None if no run is found."""
+    rows = ["".join(chance.choice("0011x") for _ in circuit.inputs) for _ in range(chance.randrange(1, 12))]
+    try:
+        witness = circuit.witness(rows)
+    except aig.AigError:
+        return None
+    return witness.reduced() if chance.randrange(2) else witness
+
+
+def compared(tally, name, told, witness, text=""):
+    """Compares the picture of a witness with what it has to show. Returns how many lanes it has."""
+    found = story(told, witness.text, text)
+    expected = Expected(told.circuit.to("aag"), witness.text)
+    picture = Picture(*parts(found.lanes, found.run.frames, found.run.frames - 1, witness.property))
+    signals = {}
+    for signal in expected.names.signals:
+        signals.setdefault(signal.name, signal)
+    frames = range(len(witness.rows))
+    for lane in picture.lanes:
+        signal = signals[lane.name]
+        wanted = {frame: expected.value(signal, frame) for frame in frames}
+        tally.compare(f"{name}: values of {lane.name!r}", lane.values, wanted)
+        thick = {frame for frame in frames if expected.is_named(signal, frame)}
+        tally.compare(f"{name}: causes of {lane.name!r}", lane.thick, thick)
+    drawn = {lane.name for lane in picture.lanes}
+    missing = [it.name for it in expected.names.signals if it.letter in "il" and it.name not in drawn
+               and any(expected.is_named(it, frame) for frame in frames)]
+    tally.compare(f"{name}: all causes are there", missing if not found.left else [], [])
+    return len(picture.lanes)
+
+
+def numbers(circuit):
+    """The lines of a circuit without its symbols."""
+    return [line for line in circuit.to("aag").split(b"\n") if re.fullmatch(rb"aag .*|[0-9 ]+", line)]
+
+
+def values(_, tally, __):
+    """Random circuits with odd names."""
+    chance, seen = random.Random(11), 0
+    for number in range(200):
+        circuit = aig.Circuit(circuit_of(chance))
+        told = Told(circuit)
+        tally.compare(f"{number}: only names differ", numbers(told.circuit), numbers(circuit))
+        tally.compare(f"{number}: no name twice", Names(told.circuit.entries).clashes, [])
+        witness = witness_of(circuit, chance)
+        if witness is not None:
+            text = f"assert ({chance.choice(BASES)} == count);"
+            seen += compared(tally, str(number), told, witness, text)
+    tally.check("pictures were drawn", seen > 200, seen)
+
+
+def names(_, tally, __):
+    """Names, as `why` forms them: vectors, holes, bits in the wrong order, one name of several signals."""
+    def named(*symbols, letter="l"):
+        count = len(symbols)
+        lines = [f"aag {count} 0 {count} 0 0"] + [f"{2 * at + 2} 0" for at in range(count)]
+        return aig.Circuit("\n".join([*lines, *(f"{letter}{at} {it}" for at, it in enumerate(symbols) if it), ""]))
+
+    cases = {
+        ("q[0]", "q[1]", "q[2]"): ["q"], ("q[0]",): ["q[0]"], ("q[0]", "q[1]", "q[5]"): ["q", "q[5]"],
+        ("q[1]", "q[2]"): ["q[2:1]"], ("q[0]", "q[1]", "a", "q[3]", "q[4]"): ["q[1:0]", "a", "q[4:3]"],
+        ("q[2]", "q[1]", "q[0]"): ["q[2]", "q[1]", "q[0]"], ("", "x y"): ["l0", "x"],
+        ("q[00]", "q[1]"): ["q[00]", "q[1]"], ("a[0][0]", "a[0][1]"): ["a[0]"],
+    }
+    for symbols, wanted in cases.items():
+        tally.compare(f"{symbols}", list(Names(named(*symbols).entries).signals), wanted)
+    clashes = {
+        ("q", "q", "q"): ["q", "q(l1)", "q(l2)"], ("q[0]", "q[1]", "q[0]", "q[1]"): ["q", "q(l2)"],
+        ("q", "q", "q(l1)"): ["l0", "l1", "l2"], ("", "l0"): ["l0", "l0(l1)"], ("a b", "b a"): ["a", "b"],
+    }
+    for symbols, wanted in clashes.items():
+        tally.compare(f"unique {symbols}", list(Names(unique(named(*symbols)).entries).signals), wanted)
+    plain = named("a", "b")
+    tally.check("a circuit without clashes stays", unique(plain) is plain)
+
+
+def frames(_, tally, __):
+    """Runs of 40, 41 and 300 frames: the first frame and the last ones are shown. And vectors of 64 bits."""
+    counter = aig.Circuit("aag 1 0 1 0 0 1\n2 3\n2\nl0 q\n")
+    for count in (1, 2, 40, 42, 300):
+        witness = aig.Witness(counter, b"1\nb0\n0\n" + b"\n" * count + b".\n")
+        found = story(Told(counter), witness.text)
+        picture = Picture(*parts(found.lanes, count, count - 1))
+        wanted = list(range(count)) if count <= 40 else [0, None, *range(count - 38, count)]
+        tally.compare(f"{count} frames", picture.frames, wanted)
+        values_of = {frame: str(frame % 2) for frame in wanted if frame is not None}
+        tally.compare(f"{count} frames: values", picture.lanes[0].values, values_of)
+    wide = aig.Circuit("aag 70 70 0 0 0 1\n" + "".join(f"{2 * at + 2}\n" for at in range(70)) + "2\n"
+                       + "".join(f"i{at} d[{at}]\n" for at in range(70)))
+    witness = wide.witness(["1" + "0" * 62 + "1x" + "10101"])
+    tally.compare("a wide vector", compared(tally, "wide", Told(wide), witness), 1)
+    text = wide.simulate([witness.rows[0]] * 3).svg()
+    tally.check("of a trace", "70&#39;b10101x1" in text and ">2…<" not in text)
+
+
+def mentioned(_, tally, __):
+    """Signals that the text of an assertion names come first and are bold; 24 lanes at most."""
+    lines = ["aag 30 30 0 1 0 1\n" + "".join(f"{2 * at + 2}\n" for at in range(30)), "4\n2\n",
+             "".join(f"i{at} top.s{at} s{at}\n" for at in range(30)), "o0 w\n"]
+    circuit = aig.Circuit("".join(lines))
+    told, witness = Told(circuit), circuit.witness(["1" * 30])
+    found = story(told, witness.text, "assert (s7 == w || nothing);")
+    tally.compare("mentioned", [(it.name, it.strong, sorted(it.keys)) for it in found.lanes],
+                  [("top.s7", True, []), ("w", True, []), ("top.s0", False, [0])])
+    many = " ".join(f"s{at}" for at in range(30))
+    shown, left = lanes(found.run, found.why, many)
+    tally.compare("24 at most", (len(shown), left), (24, 6))
+    tally.compare("causes first", shown[0].name, "top.s0")
+    tally.check("alone", waveform(found.lanes, 1, 0).count("<style>") == 1)

@@ -1,0 +1,96 @@
+#!/usr/bin/env python3
+"""Runs aig-verdicts on designs with known truth (designs/truth.py), and compares each row with it: the verdict, and the
+length of the shortest run. Each folder is checked again by `aig`, and each circuit made again by Yosys.
+
+usage: run_designs.py [PROGRAM] [NAME ..]. It needs yosys, cadical and berkeley-abc."""
+
+import json
+import os
+import subprocess
+import sys
+import tempfile
+from concurrent.futures import ThreadPoolExecutor
+from pathlib import Path
+
+HERE = Path(__file__).resolve().parent
+sys.path[:0] = [str(HERE), str(HERE.parent.parent / "tests")]
+from designs.truth import DESIGNS, FREE_CLOCK  # noqa: E402
+from library import supervised  # noqa: E402
+
+# How long one design may take: the slowest needs a tenth of it.
+SECONDS = 300
+
+
+def called(*words):
+    """Status, standard output and standard error of aig-verdicts, and no status where it is over its time."""
+    settings = {**os.environ, "PYTHONPATH": str(HERE.parent / "src")}
+    try:
+        done = supervised.run([sys.executable, "-m", "aig.verdicts", *map(str, words)], env=settings, stdin=subprocess.DEVNULL,
+                              capture_output=True, text=True, timeout=SECONDS, check=False)
+    except subprocess.TimeoutExpired:
+        return None, "", f"not ended within {SECONDS} seconds"
+    return done.returncode, done.stdout, done.stderr
+
+
+def answers(table):
+    """What the table says of each name: the length of a run, or a word."""
+    found = {}
+    for line in table.splitlines():
+        _, _, _, name, word, *more = line.split()
+        found[name] = int(more[2]) if word in ("fails", "reached") else word
+    return found
+
+
+def wrong_in(known, folder):
+    """What is wrong of a design, line by line."""
+    words = [*(f"-D{it}" for it in known.defines), *(f"-I{it}" for it in known.search)]
+    words += ["--top", known.top] if known.top else []
+    status, table, said = called("run", *known.paths, *words, "--out", folder, "--quiet", "--jobs", "1")
+    if status not in (0, 4, 5):
+        return [f"status {status}: {said}"]
+    got, wrong = answers(table), []
+    for name, answer in known.answers.items():
+        if got.pop(name, None) != answer:
+            wrong.append(f"{name}: wanted {answer}: {[line for line in table.splitlines() if f' {name} ' in line]}")
+    wrong += [f"{name}: {answer} of a row that nobody wants" for name, answer in got.items()]
+    manifest = json.loads((folder / "MANIFEST.json").read_text())
+    rows = [row for row in manifest["rows"] if row["kind"] in ("assert", "cover")]
+    said = "\n".join(manifest["notes"])
+    if len(rows) != len(known.answers) or len(table.splitlines()) != len(rows):
+        wrong.append(f"{len(rows)} rows, wanted {len(known.answers)}")
+    wrong += [f"no note has {note!r}: {said}" for note in known.notes if note not in said]
+    if known.one_clock == (FREE_CLOCK in said):
+        wrong.append(f"frames are {'not ' if known.one_clock else ''}cycles of one clock: {said}")
+    lines = {path.name: path.read_text().splitlines() for path in (folder / "sources").iterdir()}
+    wrong += [f"{row['name']} is at {row['file']}:{row['last']}" for row in rows
+              if not any(word in line for line in lines[row["file"]][row["first"] - 1 : row["last"]] for word in ("assert", "cover"))]
+    status, _, said = called("recheck", folder, "--yosys", "--jobs", "1")
+    if status not in (0, 4, 5):
+        wrong.append(f"recheck has status {status}: {said}")
+    return wrong
+
+
+def check(known):
+    with tempfile.TemporaryDirectory() as folder:
+        return known, wrong_in(known, Path(folder, "out"))
+
+
+def checked(names=()):
+    """Each design with what is wrong of it, as they end."""
+    chosen = [known for known in DESIGNS if not names or known.name in names]
+    with ThreadPoolExecutor(min(4, os.cpu_count() or 1)) as pool:
+        yield from pool.map(check, chosen)
+
+
+if __name__ == "__main__":
+    words = sys.argv[1:]
+    if words and os.path.isfile(words[0]):
+        os.environ["AIG_PROGRAM"] = os.path.abspath(words.pop(0))
+    rows = failed = 0
+    for known, wrong in checked(words):
+        rows += len(known.answers)
+        failed += len(wrong)
+        for line in wrong:
+            print(f"FAILED: {known.name}: {line}", flush=True)
+    print(f"designs: {rows - failed} rows passed, {failed} failed")
+    sys.exit(failed > 0)

@@ -1,0 +1,33 @@
+#!/usr/bin/env python3
+"""The page and the pictures of aig-verdicts, on the built program: each value, each thick line and each name of pictures
+beside the plain simulator and the plain explainer of tests/library; pages as html.parser reads them, with hostile names
+and sources, and of 1,000 rows."""
+
+import os
+import sys
+from pathlib import Path
+
+PYTHON = Path(__file__).resolve().parent.parent
+sys.path[:0] = [str(PYTHON / "src"), str(PYTHON.parent / "tests")]
+from library import runs  # noqa: E402
+from pages import browser, made, sizes, tags, values  # noqa: E402
+
+PARTS = {
+    "values": values.values, "names": values.names, "frames": values.frames, "mentioned": values.mentioned,
+    "pictures": tags.pictures, "hostile": tags.hostile, "many": tags.many, "sizes": sizes.sizes,
+    "browser": browser.browser, "made": made.made,
+}
+
+
+def of_program(part):
+    """The part, where the package runs the program that is tested."""
+    def run(program, tally, chosen):
+        os.environ["AIG_PROGRAM"] = program.path
+        return part(program, tally, chosen)
+
+    run.__doc__ = part.__doc__
+    return run
+
+
+if __name__ == "__main__":
+    runs.main(__doc__, {name: of_program(part) for name, part in PARTS.items()}, outside=("browser", "made"))
