@@ -1,20 +1,23 @@
-"""Certificates by the scripts of `examples/`, and by hand. For each property of the designs `examples/certify.sh` says what
-ABC says: `unreachable` where `pdr` proves it, and the circuit and the formula of that certificate are those of
-library/certificate.py. `examples/prove.sh` goes from induction to a certificate. The certificates of `examples/` are right."""
+"""Certificates by `aig-verdicts`, and by hand. For each property of the designs it says what ABC says, and holds where `pdr`
+proves it. Where it made a certificate, the circuit and the formula of that are those of library/certificate.py. It goes from
+induction to a certificate. The certificates of `examples/` are right."""
 
 import itertools
 import os
+import re
 import shutil
 import subprocess
 import sys
 
+from library import supervised
 from library.certificate import formula, strengthened
 from library.plain_reader import in_order, spelled
 from library.runs import DESIGNS, EXAMPLES, Ended, write
 from tools.external import LOGIC, Tools, parts_of
 from tools.proofs import UNSATISFIABLE, Property, circuits
+from tools.table import table
 
-PROVED, NEITHER, REACHED = 0, 4, 5  # the statuses of the scripts
+PROVED, NEITHER, REACHED = 0, 4, 5  # the statuses of `aig-verdicts`
 # A model and its certificate, and the least K of an induction that proves the property.
 SHIPPED = (("ring", 3), ("delay", 2))
 ADDERS = f"{EXAMPLES}/retimed.v"
@@ -24,46 +27,36 @@ PROVED_DESIGNS = {f"{DESIGNS}/delayed.v": 3, f"{DESIGNS}/lock.v": 2, f"{DESIGNS}
 
 
 def certificates(program, tally, _):
-    for name in ("cadical", "awk"):
-        if not shutil.which(name):
-            sys.exit(f"{name} is missing: apt-get install cadical mawk")
+    if not shutil.which("cadical"):
+        sys.exit("cadical is missing: apt-get install cadical")
     tools = Tools()
-    scripts = Scripts(program, tools)
-    counts = designs(program, tally, tools, scripts)
-    provers(tally, tools, scripts)
+    counts = designs(program, tally, tools)
+    ways(program, tally)
     shipped(program, tally)
-    return f"{counts['proved']} properties that pdr proves have certificates, {counts['reached']} have none: "
+    return (f"{counts['proved']} properties that pdr proves hold, {counts['certified']} of them by a certificate, and "
+            f"{counts['reached']} fail: ")
 
 
-class Scripts:
-    """The scripts of `examples/` with this program and ABC."""
-
-    def __init__(self, program, tools):
-        self.settings = {**os.environ, "AIG": program.path, "ABC": tools.abc_path}
-
-    def run(self, name, *words, **more):
-        done = subprocess.run([f"{EXAMPLES}/{name}", *words], env={**self.settings, **more}, stdin=subprocess.DEVNULL,
-                              capture_output=True, check=False)
-        return Ended(done.returncode, done.stdout, done.stderr)
-
-
-def designs(program, tally, tools, scripts):
-    """Each property of the designs by `certify.sh`, beside ABC's opinion of it."""
-    counts = {"reached": 0, "proved": 0}
+def designs(program, tally, tools):
+    """Each property of the designs by `aig-verdicts`, beside ABC's opinion of it. Induction of one frame alone is tried
+    before an invariant."""
+    counts = {"reached": 0, "proved": 0, "certified": 0}
     for name, properties in itertools.chain(circuits(tally, tools), proved_designs(tally, tools)):
+        shutil.rmtree("found", ignore_errors=True)
+        found = {row.position: row for row in table(program, "bad.aig", "--out", "found", "--frames", "1").rows}
         for place in range(properties):
             asked = f"certificates: {name}, property {place}"
             reached, is_proved = Property(program, tally, tools, {}, name, place).opinion()
             tally.check(f"{asked}: ABC", is_proved or reached is not None, tools.last_lines())
             counts["proved" if is_proved else "reached"] += 1
-            wanted = Ended(PROVED, b"unreachable\n", b"")
-            if not is_proved:
-                wanted = Ended(REACHED, b"ABC found a run to property %d\n" % place, b"")
-            tally.compare(asked, scripts.run("certify.sh", "bad.aig", str(place)), wanted)
-            if is_proved:
-                same_bytes(program, tally, asked, "bad.aig", "certificate.aag", place)
+            row = found[f"b{place}"]
+            tally.compare(asked, row.words, "holds" if is_proved else "fails")
+            if row.by == "invariant":
+                counts["certified"] += 1
+                same_bytes(program, tally, asked, "bad.aig", f"found/{place}.cert.aag", place)
     least = sum(PROVED_DESIGNS.values())
-    tally.check("certificates: properties of both kinds", counts["proved"] > least and counts["reached"] > 0, counts)
+    is_enough = counts["proved"] > least and counts["reached"] > 0 and counts["certified"] >= 5
+    tally.check("certificates: properties of each kind", is_enough, counts)
     return counts
 
 
@@ -89,36 +82,24 @@ def proved_designs(tally, tools):
             yield name, properties
 
 
-def provers(tally, tools, scripts):
-    """What `prove.sh` and `certify.sh` say, and how they end, where they prove a property and where they do not."""
-    is_made = tools.yosys(f"read_verilog -sv -formal {ADDERS}; prep -flatten -top retimed; {LOGIC}; write_aiger adders.aig")
-    tally.check("certificates: yosys retimed", is_made, tools.last_lines())
+def ways(program, tally):
+    """What `aig-verdicts` says, and how it ends, where it proves a property and where it does not."""
+    def compare(name, status, said, *words):
+        found = table(program, *words, "--out", re.sub(r"\W", "_", name))
+        tally.compare(f"certificates: {name}", (found.status, [(row.words, row.by) for row in found.rows]), (status, said))
 
-    def compare(name, got, status, out, err=""):
-        tally.compare(f"certificates: {name}", got, Ended(status, out.encode(), err.encode()))
-
-    ring = f"{EXAMPLES}/ring.aag"
-    compare("induction of the ring", scripts.run("prove.sh", ring), PROVED, "unreachable\n",
-            "no induction of 1\nno induction of 2\ninduction of 3\n")
-    further = "no induction of 1\nno induction of 2\nno induction to 2; ABC searches for an invariant\n"
-    compare("a certificate of the ring", scripts.run("prove.sh", ring, "0", "2"), PROVED, "unreachable\n", further)
-    compare("neither", scripts.run("prove.sh", "adders.aig", "0", "2", LIMIT="1"), NEITHER,
-            "ABC found neither a run to property 0 nor an invariant\nunreachable within 2\n", further)
-    wraps = f"{EXAMPLES}/wraps.aag"
-    compare("a run", scripts.run("prove.sh", wraps), REACHED, "a run reaches the property within 4\n",
-            "".join(f"no induction of {frames}\n" for frames in (1, 2, 3)))
-    compare("a run that ABC finds", scripts.run("prove.sh", wraps, "0", "2"), REACHED, "ABC found a run to property 0\n",
-            further)
-    for name in ("certify.sh", "prove.sh"):
-        compare(f"{name}: no circuit", scripts.run(name, "missing"), 3, "", "aig: circuit: input or output\n")
-        part = "select" if name == "certify.sh" else "cnf"
-        compare(f"{name}: no property", scripts.run(name, ring, "1"), 1, "", f"aig: {part}: property\n")
-    left = [name for name in os.listdir(".") if name.split(".")[0] in ("one", "folded", "inv")]
-    tally.compare("certificates: files that certify.sh leaves", left, ["one.aig"])
-    free_starts(tally, scripts)
+    ring, wraps = f"{EXAMPLES}/ring.aag", f"{EXAMPLES}/wraps.aag"
+    compare("induction of the ring", PROVED, [("holds", "induction of 3")], ring, "--abc", "")
+    compare("a certificate of the ring", PROVED, [("holds", "invariant")], ring, "--frames", "2")
+    compare("neither", NEITHER, [("holds within 2", "")], ADDERS, "--top", "retimed", "--frames", "2", "--seconds", "1")
+    compare("a run", REACHED, [("fails", "run of 4")], wraps)
+    compare("a run that ABC finds", REACHED, [("fails", "run of 4")], wraps, "--frames", "2")
+    compare("no circuit", 3, [], "missing.aig")
+    compare("no property", 1, [], ring, "--only", "b1")
+    free_starts(program, tally)
 
 
-def free_starts(tally, scripts):
+def free_starts(program, tally):
     """Small circuits of which ABC turns or adds latches, with a run of at least two frames or an invariant."""
     cases = (
         ("a latch that starts at 1", "aag 2 1 1 0 0 1\n2\n4 4 1\n5\n", PROVED),
@@ -127,15 +108,16 @@ def free_starts(tally, scripts):
         ("two such latches", "aag 5 0 3 0 2 1\n2 2 2\n4 2 4\n6 1\n10\n8 4 3\n10 8 6\n", PROVED),
         ("two such latches at the start", "aag 3 0 2 0 1 1\n2 2 2\n4 2 4\n6\n6 4 3\n", REACHED),
         ("a constraint on it", "aag 3 1 2 0 0 1 1\n2\n4 4 4\n6 4\n6\n5\n", PROVED),
-        ("a constraint that cannot be kept", "aag 1 1 0 0 0 1 1\n2\n2\n0\n", PROVED),
+        ("a constraint that cannot be kept", "aag 1 1 0 0 0 1 1\n2\n2\n0\n", NEITHER),  # vacuous
         ("no latch", "aag 3 2 0 0 1 1\n2\n4\n6\n6 4 2\n", REACHED),
         ("a property that is 0", "aag 1 0 1 0 0 1\n2 3\n0\n", PROVED),
         ("a property that is 1", "aag 1 0 1 0 0 1\n2 3\n1\n", REACHED),
     )
     for name, text, status in cases:
         write("small.aag", text)
-        ended = scripts.run("certify.sh", "small.aag")
-        tally.check(f"certificates: {name}", ended.status == status, ended)
+        shutil.rmtree("small", ignore_errors=True)
+        found = table(program, "small.aag", "--out", "small", "--frames", "1")
+        tally.check(f"certificates: {name}", found.status == status, found)
 
 
 def shipped(program, tally):
@@ -156,7 +138,7 @@ def shipped(program, tally):
 def solved(program, *words):
     """The status of cadical on the formula that the program writes."""
     write("asked.cnf", program.run(*words).out)
-    return subprocess.run(["cadical", "-q", "asked.cnf", "asked.drat"], stdin=subprocess.DEVNULL,
+    return supervised.run(["cadical", "-q", "asked.cnf", "asked.drat"], stdin=subprocess.DEVNULL,
                           stdout=subprocess.DEVNULL, check=False).returncode
 
 

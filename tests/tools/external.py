@@ -6,6 +6,7 @@ import shutil
 import subprocess
 import sys
 
+from library import supervised
 from library.plain_reader import Reader, spelled
 from library.runs import DESIGNS, contents, write
 
@@ -25,7 +26,7 @@ class Tools:
         self.said = ""
 
     def run(self, *words):
-        done = subprocess.run(words, stdin=subprocess.DEVNULL, stdout=subprocess.PIPE, stderr=subprocess.STDOUT,
+        done = supervised.run(words, stdin=subprocess.DEVNULL, stdout=subprocess.PIPE, stderr=subprocess.STDOUT,
                               errors="replace", text=True, check=False)
         self.said = done.stdout
         return done.returncode == 0

@@ -7,6 +7,7 @@ import shutil
 import subprocess
 import sys
 
+from library import supervised
 from library.dimacs import read_formula
 from library.families import Added, dimacs
 from library.recipes import proving, shell
@@ -48,7 +49,7 @@ def after_addition(tally, name, formula, style):
     added = Added(variables, clauses, style)
     tally.check(f"own_variables: {name}, variables of its own", added.variables > variables)
     write("reduced.cnf", dimacs(added.variables, [*added.clauses]))
-    done = subprocess.run(["cadical", "-q", "--no-binary", "reduced.cnf", "tail.drat"], stdin=subprocess.DEVNULL,
+    done = supervised.run(["cadical", "-q", "--no-binary", "reduced.cnf", "tail.drat"], stdin=subprocess.DEVNULL,
                           stdout=subprocess.DEVNULL, check=False)
     tally.compare(f"own_variables: {name}, cadical", done.returncode, UNSATISFIABLE)
     return write(f"{style}.drat", text_of(added.steps) + contents("tail.drat"))

@@ -9,6 +9,7 @@ import shutil
 import subprocess
 import sys
 
+from library import supervised
 from library.plain_reader import in_order, spelled
 from library.runs import DESIGNS, EXAMPLES, Ended, write
 from tools.external import FORMAL, LOGIC, Tools, parts_of, with_bad
@@ -92,7 +93,7 @@ class Property:
         ended = self.program.run("cnf", "--frames", str(frames), *options, "--property", self.place, "bad.aig")
         write(f"{name}.cnf", ended.out)
         form = ["--no-binary"] if frames % 2 else []
-        return subprocess.run(["cadical", "-q", *form, f"{name}.cnf", f"{name}.drat"], stdin=subprocess.DEVNULL,
+        return supervised.run(["cadical", "-q", *form, f"{name}.cnf", f"{name}.drat"], stdin=subprocess.DEVNULL,
                               stdout=subprocess.DEVNULL, check=False).returncode
 
     def refute(self, frames, is_reached):

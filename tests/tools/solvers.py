@@ -9,6 +9,7 @@ import shutil
 import subprocess
 import sys
 
+from library import supervised
 from library.plain_reader import spelled
 from library.runs import Ended, contents, write
 from tools.external import Tools, parts_of
@@ -60,7 +61,7 @@ def fail_step(program, tally, found, counts, title, place, frames):
     asked = ("--frames", str(frames), "--property", str(place))
     write("f.cnf", program.run("cnf", "--step", *asked, "bad.aig").out)
     for name, words in found.items():
-        done = subprocess.run(words, stdin=subprocess.DEVNULL, stdout=subprocess.PIPE, stderr=subprocess.DEVNULL,
+        done = supervised.run(words, stdin=subprocess.DEVNULL, stdout=subprocess.PIPE, stderr=subprocess.DEVNULL,
                               check=False)
         write("model", contents("f.model") if name == "minisat" else done.stdout)
         ended = program.run("witness", "--step", "--model", "model", *asked, "bad.aig")
@@ -86,7 +87,7 @@ def ask_each(program, tally, found, counts, title, place, frames, is_reached):
     asked = ("--frames", str(frames), "--property", place)
     write("f.cnf", program.run("cnf", *asked, "bad.aig").out)
     for name, words in found.items():
-        done = subprocess.run(words, stdin=subprocess.DEVNULL, stdout=subprocess.PIPE, stderr=subprocess.DEVNULL,
+        done = supervised.run(words, stdin=subprocess.DEVNULL, stdout=subprocess.PIPE, stderr=subprocess.DEVNULL,
                               check=False)
         tally.compare(f"{title}: {name}", done.returncode, SATISFIABLE if is_reached else UNSATISFIABLE)
         model = contents("f.model") if name == "minisat" else done.stdout

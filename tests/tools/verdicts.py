@@ -1,13 +1,13 @@
-"""`examples/verdicts.sh` on designs of the tests: the tables of tests/expected/verdicts, whatever the number of processes is.
-The witnesses are confirmed. Each line that is named has an assertion, and those of `order.v` fail for the number of their
-line, so each name is that of its property."""
+"""`aig-verdicts` on designs of the tests, whose verdicts and lengths of runs are those of tests/expected/verdicts, whatever the
+number of workers is. The witnesses are confirmed. Each line that is named has an assertion, and those of `order.v` fail for
+the number of their line, so each name is that of its property."""
 
 import os
 import re
-import subprocess
 
 from library.runs import DESIGNS, EXAMPLES, EXPECTED, Ended, contents
 from tools.external import Tools
+from tools.table import table
 
 # The designs, and how many properties are worked on at once.
 TABLES = {f"{EXAMPLES}/queue.v": 1, f"{EXAMPLES}/decimal.v": 2, f"{DESIGNS}/order.v": 1, f"{DESIGNS}/edges.v": 1,
@@ -18,49 +18,49 @@ TABLES = {f"{EXAMPLES}/queue.v": 1, f"{EXAMPLES}/decimal.v": 2, f"{DESIGNS}/orde
 
 
 def verdicts(program, tally, _):
-    settings = {**os.environ, "AIG": program.path, "ABC": Tools().abc_path}
+    Tools()
     for file, jobs in TABLES.items():
-        of_design(program, tally, settings, file, jobs)
+        of_design(program, tally, file, jobs)
     names_of_order(tally)
-    bounds(tally, settings)
+    bounds(program, tally)
 
 
-def table(settings, file, **more):
-    """What the script prints of a design, and its status."""
-    done = subprocess.run([f"{EXAMPLES}/verdicts.sh", top_of(file), file], env={**settings, **more},
-                          stdin=subprocess.DEVNULL, capture_output=True, check=False)
-    return f"{done.stdout.decode()}status {done.returncode}\n"
+def asked(program, file, out, *more):
+    """The table of a design, whose folder is `out`."""
+    return table(program, file, "--top", top_of(file), "--out", out, *more)
 
 
 def top_of(file):
     return os.path.basename(file).removesuffix(".v")
 
 
-def of_design(program, tally, settings, file, jobs):
+def of_design(program, tally, file, jobs):
     name = top_of(file)
-    wanted = contents(f"{EXPECTED}/verdicts/{name}.txt").decode()
-    tally.compare(f"verdicts: {name}", table(settings, file, JOBS=str(jobs)), wanted)
+    found = asked(program, file, name, "--jobs", str(jobs))
+    tally.compare(f"verdicts: {name}", found.short, contents(f"{EXPECTED}/verdicts/{name}.txt").decode())
     lines = contents(file).decode().splitlines()
-    for place in re.findall(r"\.v:(\d+)", wanted):
-        tally.check(f"verdicts: {name}, line {place}", "assert" in lines[int(place) - 1], lines[int(place) - 1])
-    for witness in re.findall(r"(?m)\S+\.wit$", wanted):
-        tally.compare(f"verdicts: {witness}", program.run("check", f"{name}.aig", witness), Ended(0, b"confirmed\n", b""))
+    for row in found.rows:
+        place = re.search(r"\.v:(\d+)$", row.name)
+        if place:
+            tally.check(f"verdicts: {row.name}", "assert" in lines[int(place[1]) - 1], lines[int(place[1]) - 1])
+        for witness in (file for file in row.files if file.endswith(".wit")):
+            tally.compare(f"verdicts: {name}, {witness}", program.run("check", f"{name}/circuit.aig", f"{name}/{witness}"),
+                          Ended(0, b"confirmed\n", b""))
 
 
 def names_of_order(tally):
     """Each assertion of `order.v` fails for one value of the input, the number of its line."""
-    named = [int(line) for line in re.findall(r"order\.v:(\d+)", contents(f"{EXPECTED}/verdicts/order.txt").decode())]
-    rows = [contents(f"order.{place}.wit").decode().split("\n")[3] for place in range(len(named))]
-    # the clock comes first, and then the bits of the value
-    tally.compare("verdicts: the names of order.v", [int(row[:0:-1], 2) for row in rows], named)
+    lines = contents("order/circuit.aig").decode("latin-1").splitlines()
+    for position, line in (re.match(r"b(\d+) order\.v:(\d+)$", it).groups() for it in lines if it.startswith("b")):
+        row = contents(f"order/{position}.wit").decode().split("\n")[3]
+        # the clock comes first, and then the bits of the value
+        tally.compare(f"verdicts: the name of line {line}", int(row[:0:-1], 2), int(line))
 
 
-def bounds(tally, settings):
-    few = table(settings, f"{EXAMPLES}/retimed.v", MOST="2", LIMIT="1")
-    tally.compare("verdicts: bounds", few,
-                  "b0  retimed.v:16  unreachable within 2  no induction  retimed.0.base.drat\nstatus 4\n")
-    without = table(settings, f"{EXAMPLES}/decimal.v", MOST="2", ABC="no-such-program")
-    tally.compare("verdicts: without ABC", without,
-                  "b0  never_13  unreachable within 2  no induction  decimal.0.base.drat\n"
-                  "b1  same      unreachable within 2  no induction  decimal.1.base.drat\nstatus 4\n")
-    tally.compare("verdicts: no assertion", table(settings, f"{DESIGNS}/adder.v"), "status 1\n")
+def bounds(program, tally):
+    few = asked(program, f"{EXAMPLES}/retimed.v", "few", "--frames", "2", "--seconds", "1")
+    tally.compare("verdicts: bounds", few.short, "retimed.v:16  holds within 2\nstatus 4\n")
+    without = asked(program, f"{EXAMPLES}/decimal.v", "without", "--frames", "2", "--abc", "")
+    tally.compare("verdicts: without ABC", without.short, "never_13  holds within 2\nsame  holds within 2\nstatus 4\n")
+    none = asked(program, f"{DESIGNS}/adder.v", "none")
+    tally.compare("verdicts: no assertion", (none.status, none.rows), (1, []))

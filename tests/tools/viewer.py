@@ -5,6 +5,7 @@ import re
 import shutil
 import subprocess
 
+from library import supervised
 from library.runs import LeftOut, write
 
 TOOLS = ("gtkwave", "xvfb-run", "vcd2fst", "fst2vcd")
@@ -35,7 +36,7 @@ def shown(dump, frames):
     """The values of each signal that GTKWave shows, in binary, by its full name. Those of a vector begin with the bit
     that GTKWave takes for the most significant one."""
     write("shown.tcl", SCRIPT.replace("FRAMES", str(frames)))
-    done = subprocess.run(["xvfb-run", "-a", "gtkwave", "-S", "shown.tcl", dump], stdin=subprocess.DEVNULL,
+    done = supervised.run(["xvfb-run", "-a", "gtkwave", "-S", "shown.tcl", dump], stdin=subprocess.DEVNULL,
                           stdout=subprocess.PIPE, stderr=subprocess.STDOUT, timeout=120, check=False)
     found = {}
     for time, name, value in re.findall(r"(?m)^VALUE (\d+) (\S+) (\S*)$", done.stdout.decode(errors="replace")):

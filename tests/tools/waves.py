@@ -6,7 +6,7 @@ import random
 import re
 import subprocess
 
-from library import wave_names
+from library import supervised, wave_names
 from library.broken import circuit, stimulus
 from library.dump_reader import Dump
 from library.plain_reader import Reader
@@ -20,7 +20,7 @@ from tools.external import LOGIC, Tools
 CASES = 40
 # The counter of examples/, frame by frame, until an unknown input makes it unknown.
 COUNTED = [0, 0, 1, 2, 3, 4, 0]
-# Names of properties as `verdicts.sh` and Yosys give them, at which GTKWave must not stop.
+# Names of properties as `aig-verdicts` and Yosys give them, at which GTKWave must not stop.
 COLONS = b"aag 2 2 0 0 0 2\n2\n4\n2\n4\nb0 queue.v:37\nb1 $assert$queue.v:36$46\n"
 # Designs of Yosys, each with some of the signals that GTKWave has to show for it.
 SHOWN = {f"{DESIGNS}/hier.v": ("latches.u1.q[3:0]", "latches.u2.st[1:0]", "latches.y[3:0]", "outputs.x[3:0]"),
@@ -132,7 +132,7 @@ def named_bits(design, frames):
 
 
 def run(*words):
-    return subprocess.run(words, stdin=subprocess.DEVNULL, stdout=subprocess.PIPE, stderr=subprocess.STDOUT,
+    return supervised.run(words, stdin=subprocess.DEVNULL, stdout=subprocess.PIPE, stderr=subprocess.STDOUT,
                           check=True).stdout
 
 
