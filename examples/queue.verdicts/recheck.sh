@@ -1,6 +1,6 @@
 #!/bin/sh
 # Checks each verdict of this folder again. usage: sh recheck.sh   (AIG names another program aig)
-case $0 in */*) cd "${0%/*}" || exit 3 ;; esac
+case $0 in */*) CDPATH= cd -- "${0%/*}" || exit 3 ;; esac
 aig=${AIG:-aig}
 wrong=0
 # check LINE WORD ..: aig has to print this line
@@ -22,7 +22,7 @@ of() {
     fi
 }
 of 0.wit b0 15
-check confirmed check circuit.aig 0.wit
+check confirmed check --property=0 circuit.aig 0.wit
 check 'unreachable within 10' refute --frames=10 --property=0 circuit.aig 0.shorter.drat
 check unreachable refute --frames=1 --property=1 --step 1.step.drat circuit.aig 1.base.drat
 exit $wrong
