@@ -14,6 +14,12 @@ COUNTER = contents(f"{EXAMPLES}/counter.aag")
 WRAPS = contents(f"{EXAMPLES}/wraps.aag")
 WITNESS = contents(f"{EXAMPLES}/wraps.wit")
 CR_LF = "lines end with CR LF"
+GZIP = "the file is compressed with gzip"
+UNPACK = "zcat FILE > NEW, and name the new file"
+VERILOG = "module m(input a, output b); endmodule\n"
+FORMULA = "c i 2 0 0\np cnf 10 20\n"
+NAME_STIMULUS = "name a stimulus: see \"Stimulus\" in man aig-formats"
+NAME_WITNESS = "name a witness: see \"Witness\" in man aig-formats"
 WRITE_AGAIN = "write the file again: the command that should write it may have failed"
 CUT = ("something is missing at the end", "write or copy the file again: it may be cut off")
 FORMAT = "wanted: `aag` or `aig`, and a space (in the first word)"
@@ -41,9 +47,9 @@ CIRCUITS = (
      FORMAT, "the file begins with a byte-order mark, three bytes that an editor added",
      "save the file without it, or: tail -c +4 FILE > NEW"),
     ("gzip", gzip.compress(COUNTER), "text at 0",
-     "line 1, column 1: found \\x1f", FORMAT, "the file is compressed with gzip",
+     "line 1, column 1: found \\x1f", FORMAT, GZIP,
      "zcat FILE | aig COMMAND .. /dev/stdin"),
-    ("Verilog", "module m(input a, output b); endmodule\n", "text at 0",
+    ("Verilog", VERILOG, "text at 0",
      "line 1, column 1: found 'm'", FORMAT, "the file is Verilog", CONVERT),
     ("BLIF", ".model m\n.inputs a\n.end\n", "text at 0",
      "line 1, column 1: found '.'", FORMAT, "the file is BLIF", CONVERT),
@@ -55,6 +61,8 @@ CIRCUITS = (
      "the circuit comes first: aig check CIRCUIT WITNESS"),
     ("a stimulus", "01\n0x\n", "text at 0",
      "line 1, column 1: found '0'", FORMAT, "the file is a stimulus", "the circuit comes first: aig sim CIRCUIT STIM"),
+    ("a formula", FORMULA, "text at 0",
+     "line 1, column 1: found 'c'", FORMAT, "the file is a CNF formula", "name the circuit: aig reads no formula"),
     ("a part of the first word", "aa", "text at 2", "line 1, column 3: the file ends here", FORMAT, *CUT),
     ("CR LF", "aag 1 1 0 0 0\r\n2\r\n", "text at 13",
      "line 1, column 14: found \\x0d (CR)", "wanted: a space or a newline (in the header, at the number of gates A)",
@@ -199,10 +207,25 @@ STIMULI = (
      "line 1 has the length 0", "wanted: 2 of 0, 1 and x, one for each input of the circuit"),
     ("a witness", WITNESS, "length of line 1",
      "line 1 has the length 1", "wanted: 2 of 0, 1 and x, one for each input of the circuit",
-     "the file is a witness: aig wave --witness CIRCUIT WITNESS, or aig check CIRCUIT WITNESS"),
+     "the file is a witness", "aig wave --witness CIRCUIT WITNESS, or aig check CIRCUIT WITNESS"),
     ("a circuit", COUNTER, "character in line 1",
      "line 1, column 1: found 'a'", "wanted: 2 of 0, 1 and x, one for each input of the circuit",
-     "the file is a circuit, and CIRCUIT comes before STIM"),
+     "the file is a circuit", "CIRCUIT comes before STIM"),
+    ("gzip", b"\x1f\x8b\x08\n", "character in line 1",
+     "line 1, column 1: found \\x1f", "wanted: 2 of 0, 1 and x, one for each input of the circuit", GZIP, UNPACK),
+    ("Verilog", VERILOG, "character in line 1",
+     "line 1, column 1: found 'm'", "wanted: 2 of 0, 1 and x, one for each input of the circuit",
+     "the file is Verilog", NAME_STIMULUS),
+    ("BLIF", "# of a tool\n.model m\n", "character in line 1",
+     "line 1, column 1: found '#'", "wanted: 2 of 0, 1 and x, one for each input of the circuit",
+     "the file is BLIF", NAME_STIMULUS),
+    ("a formula", FORMULA, "character in line 1",
+     "line 1, column 1: found 'c'", "wanted: 2 of 0, 1 and x, one for each input of the circuit",
+     "the file is a CNF formula", NAME_STIMULUS),
+    ("a comment that names a file", "01\n# of cpu.model\n", "character in line 2",
+     "line 2, column 1: found '#'", "wanted: 2 of 0, 1 and x, one for each input of the circuit"),
+    ("numbers with blanks", "0 1\n", "character in line 1",
+     "line 1, column 2: found ' '", "wanted: 2 of 0, 1 and x, one for each input of the circuit"),
     ("no newline at the end", "01\n0", "unfinished",
      "line 2, the last one, has the length 1 and no newline", "add the newline, if the line is whole: echo >> FILE"),
 )
@@ -229,7 +252,15 @@ WITNESSES = (
      "line 1 is `en@0=1`", "wanted: the line `1`",
      "these may be values by name of ABC's write_cex: see \"Witness\" in man aig-formats"),
     ("a circuit", WRAPS,
-     "line 1 is `aag 9 1 2 0 6 1`", "wanted: the line `1`", "the file is a circuit, and CIRCUIT comes before WITNESS"),
+     "line 1 is `aag 9 1 2 0 6 1`", "wanted: the line `1`", "the file is a circuit", "CIRCUIT comes before WITNESS"),
+    ("gzip", b"\x1f\x8b\x08=\n",
+     "line 1 is `\\x1f\\x8b\\x08=`", "wanted: the line `1`", GZIP, UNPACK),
+    ("Verilog", VERILOG, f"line 1 is `{VERILOG.strip()}`", "wanted: the line `1`", "the file is Verilog", NAME_WITNESS),
+    ("a formula", FORMULA,
+     "line 1 is `c i 2 0 0`", "wanted: the line `1`", "the file is a CNF formula",
+     "run a solver on it: aig witness --model makes a witness of a model"),
+    ("a comment that names a file", b"# of cpu.model\n" + WITNESS,
+     "line 1 is `# of cpu.model`", "wanted: the line `1`", "a witness has no comments: sed '/^#/d' FILE > NEW"),
     ("a comment with a hash", b"# DONE\n" + WITNESS,
      "line 1 is `# DONE`", "wanted: the line `1`", "a witness has no comments: sed '/^#/d' FILE > NEW"),
     ("a bound", b"u0\n" + WITNESS,
@@ -319,9 +350,8 @@ PROOFS = (
     ("an end before the refutation", "2 3 0\nd 2 3 0\n", "no refutation", TOO_SHORT, "its number of steps: 2", SAME),
     ("an empty file", "", "no refutation", TOO_SHORT, "its number of steps: 0", "the file is empty", WRITE_AGAIN),
     ("gzip", b"\x1f\x8b\x08", "text at 0", NO_STEP, "line 1, column 1: found `\\x1f\\x8b\\x08`",
-     "the file is compressed with gzip",
-     "zcat FILE > NEW, and name the new file"),
-    ("a formula", "c i 2 0 0\np cnf 10 20\n", "text at 10", NO_STEP, "line 2, column 1: found `p`",
+     GZIP, UNPACK),
+    ("a formula", FORMULA, "text at 10", NO_STEP, "line 2, column 1: found `p`",
      "the file is a CNF formula",
      "run a solver on it, and name the file that the solver writes"),
     ("a model", "s SATISFIABLE\nv 1 0\n", "text at 0", NO_STEP, "line 1, column 1: found `s`",
@@ -391,6 +421,12 @@ MODELS = (
     ("a circuit", COUNTER, "text at 0", "line 1, column 1: found `aag`",
      "wanted: a literal of the formula, or the 0 that ends the literals", "the file is a circuit",
      "--model names what the solver printed, and CIRCUIT the circuit"),
+    ("what may be a proof", "o 12\n", "text at 0", "line 1, column 1: found `o`",
+     "wanted: a literal of the formula, or the 0 that ends the literals", "the file may be a solver's proof",
+     "aig refute checks a proof; --model names what the solver printed"),
+    ("a witness", WITNESS, "text at 2", "line 2, column 1: found `b0`",
+     "wanted: a literal of the formula, or the 0 that ends the literals", "the file is a witness",
+     "name the file that the solver writes"),
     ("CR LF", "-1\r\n0\r\n", "text at 0", "line 1, column 1: found `-1\\x0d`",
      "wanted: a literal of the formula, or the 0 that ends the literals", CR_LF,
      "only LF ends a line: tr -d '\\r' < FILE > NEW"),
@@ -586,6 +622,10 @@ def others(rows):
         rows.row(f"no signal {text}", ["why", "--of", text, "wraps", write("s", "1\n")], "why: name",
                  [f"no signal, vector, entry or literal has the name `{text}`", *notes, "the greatest literal is 19",
                   "aig info --names CIRCUIT prints the names of all entries"])
+    long = "n" * 69
+    rows.row("no signal of a long name", ["why", "--of", f"{long}k", write("g", f"aag 1 1 0 0 0\n2\ni0 {long}m\n"), write("s", "1\n")],
+             "why: name", [f"no signal, vector, entry or literal has the name `{long[:60]}..`", f"do you mean `{long[:60]}..`?",
+                           "the greatest literal is 3", "aig info --names CIRCUIT prints the names of all entries"])
     rows.row("no frame of a stimulus", ["why", "--of", "b0", "--frame", "3", "wraps", write("s", "1\n")], "why: frame",
              ["T is 3, counted from 0", "the last frame is 0"])
     rows.row("no frame at all", ["why", "--of", "b0", "wraps", write("s", "")], "why: frame", ["the run has no frames"])

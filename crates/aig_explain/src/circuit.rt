@@ -1,5 +1,5 @@
 //! Why a circuit is rejected.
-ghost use Rattle.std.specs.Prelude.{◌≡◌, ◌≢◌, [], IfOk};
+ghost use Rattle.std.specs.Prelude.{◌≡◌};
 
 mod body;
 mod circuit_parts;
@@ -22,9 +22,10 @@ use crate::circuit::reader::Reader;
 use crate::circuit::symbols::first_wrong;
 use crate::circuit::token::{Wanted, Within, Wrong};
 use crate::explanation::Explanation;
+use crate::kind::Kind;
 use aig_bytes::Memory;
+use aig_files::Part;
 use aig_parts::Fault;
-use std::alloc::Global;
 
 // The place of a wrong token.
 fn push_place(lines: &mut Explanation, file: &[u8], wrong: &Wrong) -> Result<(), Memory> {
@@ -51,11 +52,16 @@ fn push_wanted(lines: &mut Explanation, wrong: &Wrong) -> Result<(), Memory> {
 
 // A cause that is known, and what to do.
 fn push_cause(lines: &mut Explanation, file: &[u8], wrong: &Wrong) -> Result<(), Memory> {
+    if matches!(wrong.within, Within::Word)
+        && let Some(kind) = Kind::of(file)
+    {
+        return kind.push(lines, Part::Circuit);
+    }
     let Some(cause) = cause_of(file, wrong) else {
         return Ok(());
     };
-    lines.add(cause)?;
-    lines.add(cause.remedy())
+    lines.say(cause.what())?;
+    lines.say(cause.remedy())
 }
 
 // Where an entry is named first that a symbol names again.
@@ -134,17 +140,21 @@ fn push_counts(lines: &mut Explanation, file: &[u8]) -> Result<(), Memory> {
         "line 1: M = {max_var}, I = {inputs}, L = {latches}, A = {gates}; I + L + A = {sum}"
     ))?;
     if !is_binary {
-        return lines.add("wanted: M of at least I + L + A");
+        return lines.say("wanted: M of at least I + L + A");
     }
-    lines.add("wanted: M = I + L + A, in the binary format")?;
+    lines.say("wanted: M = I + L + A, in the binary format")?;
     if max_var > sum {
-        lines.add("some variables are unused: the text format (aag) allows this")?;
+        lines.say("some variables are unused: the text format (aag) allows this")?;
     }
     Ok(())
 }
 
-// A line for what is wrong, and what to do.
-fn push_fault(lines: &mut Explanation, file: &[u8], fault: Fault) -> Result<(), Memory> {
+/// Adds why the bytes of a file are no circuit: what is wrong, where it is, and what to do. Linear in the file, but for
+/// the sorting of its gates where they form a cycle.
+pub fn push_circuit(lines: &mut Explanation, file: &[u8], fault: Fault) -> Result<(), Memory>
+    ensures memory { fault ≡ Fault.Memory → lines.new ≡ lines.old }
+    ensures io { fault ≡ Fault.Io → lines.new ≡ lines.old }
+{
     match fault {
         Fault::Memory | Fault::Io => Ok(()),
         Fault::Text { at } => push_text(lines, file, usize::try_from(at).unwrap_or(usize::MAX)),
@@ -156,22 +166,5 @@ fn push_fault(lines: &mut Explanation, file: &[u8], fault: Fault) -> Result<(), 
         | Fault::Undefined(_)
         | Fault::Reset(_)
         | Fault::Cycle(_) => push_fault_of_parts(lines, file, fault),
-    }
-}
-
-/// Explains why the bytes of a file are no circuit: what is wrong, where it is, and what to do. Out of memory and a
-/// failed read have no explanation. Linear in the file, but for the sorting of its gates where they form a cycle.
-pub fn explain_circuit(alloc: Global, file: &[u8], fault: Fault) -> Result<Explanation, Memory>
-    ensures memory { fault ≡ Fault.Memory → IfOk result (λ lines. lines ≡ []) }
-    ensures io { fault ≡ Fault.Io → IfOk result (λ lines. lines ≡ []) }
-    ensures explained { fault ≢ Fault.Memory → fault ≢ Fault.Io → IfOk result (λ lines. lines ≢ []) }
-{
-    let mut lines = Explanation::new(alloc);
-    match fault {
-        Fault::Memory | Fault::Io => Ok(lines),
-        _ => {
-            push_fault(&mut lines, file, fault)?;
-            lines.or_nothing_found()
-        }
     }
 }

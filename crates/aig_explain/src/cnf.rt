@@ -1,5 +1,5 @@
 //! Why there is no formula of a bad state.
-ghost use Rattle.std.specs.Prelude.{◌≡◌, ◌≢◌, [], IfOk};
+ghost use Rattle.std.specs.Prelude.{◌≡◌};
 
 use crate::explanation::Explanation;
 use crate::stimulus::header_of;
@@ -7,9 +7,9 @@ use crate::unrolling::{push_limit, push_no_frames};
 use crate::witness::push_bad_count;
 use aig_bytes::Memory;
 use aig_cnf::{CnfFault, Goal, Query};
-use std::alloc::Global;
 
-fn push_property(lines: &mut Explanation, circuit: &[u8], property: u32) -> Result<(), Memory> {
+/// Adds which property is asked for, and how many the circuit has.
+pub fn push_property(lines: &mut Explanation, circuit: &[u8], property: u32) -> Result<(), Memory> {
     lines.add(format_args!("P is {property}, counted from 0"))?;
     push_bad_count(lines, header_of(circuit))
 }
@@ -22,38 +22,19 @@ fn push_frames(lines: &mut Explanation, circuit: &[u8], query: Query) -> Result<
     }
 }
 
-// Lines for what is wrong, and what to do.
-fn push_fault(
+/// Adds why the circuit, whose file is not rejected, has no formula of a query. Linear in the file.
+pub fn push_cnf(
     lines: &mut Explanation,
     circuit: &[u8],
     query: Query,
     fault: CnfFault,
-) -> Result<(), Memory> {
+) -> Result<(), Memory>
+    ensures memory { fault ≡ CnfFault.Memory → lines.new ≡ lines.old }
+{
     match fault {
         CnfFault::Memory => Ok(()),
         CnfFault::NoFrames => push_no_frames(lines, query.frames),
         CnfFault::Property => push_property(lines, circuit, query.property),
         CnfFault::Limit => push_frames(lines, circuit, query),
-    }
-}
-
-/// Explains why the circuit, whose file is not rejected, has no formula of a query. Out of memory has no explanation.
-/// Linear in the file.
-pub fn explain_cnf(
-    alloc: Global,
-    circuit: &[u8],
-    query: Query,
-    fault: CnfFault,
-) -> Result<Explanation, Memory>
-    ensures memory { fault ≡ CnfFault.Memory → IfOk result (λ lines. lines ≡ []) }
-    ensures explained { fault ≢ CnfFault.Memory → IfOk result (λ lines. lines ≢ []) }
-{
-    let mut lines = Explanation::new(alloc);
-    match fault {
-        CnfFault::Memory => Ok(lines),
-        _ => {
-            push_fault(&mut lines, circuit, query, fault)?;
-            lines.or_nothing_found()
-        }
     }
 }

@@ -1,5 +1,5 @@
 //! Lines that explain a refusal.
-ghost use Rattle.std.specs.Prelude.{◌≡◌, ◌≢◌, ℕ, List, ◌++◌, ◌↔◌, [], IsTrue, IfOk, OnOk, OnErr};
+ghost use Rattle.std.specs.Prelude.{◌≡◌, ◌≢◌, ℕ, List, ◌++◌, [], length, IfOk, OnOk, OnErr};
 ghost use Rattle.std.specs.String.{string_bytes};
 ghost use Rattle.aig_terminal.specs.Shown.{ArePrintable, escaped};
 ghost use Rattle.aig_explain.specs.Shown.{shown_line, IsShown};
@@ -66,10 +66,18 @@ impl Explanation {
     /// Adds a line that shows this value, escaped.
     pub fn add<T: Display + Drop>(&mut self, value: T) -> Result<(), Memory>
         ensures ok { OnOk result ((text : List ℕ) × (self.new ≡ self.old ++ shown_line text)) }
+        ensures some { OnOk result (self.new ≢ []) }
         ensures err { OnErr result (self.new ≡ self.old) }
     {
         let text = value.to_string(self.alloc)?;
         self.push(text.as_bytes())
+    }
+
+    /// Adds a line of the program's own.
+    pub(crate) fn say(&mut self, line: &str) -> Result<(), Memory>
+        ensures { OnOk result (self.new ≢ []) }
+    {
+        self.push(line.as_bytes())
     }
 
     /// The lines as text.
@@ -80,25 +88,15 @@ impl Explanation {
         self.text.as_str()
     }
 
-    /// Whether there is no line.
-    pub fn is_empty(&self) -> bool
-        ensures { IsTrue result ↔ (self.now ≡ []) }
-    {
-        self.text.is_empty()
-    }
-
     /// The allocator of the lines.
     pub(crate) fn alloc(&self) -> Global {
         self.alloc
     }
 
-    /// The explanation; without a line, one that says that nothing was found.
-    pub(crate) fn or_nothing_found(mut self) -> Result<Explanation, Memory>
-        ensures { IfOk result (λ lines. lines ≢ []) }
+    /// How many bytes the lines have.
+    pub(crate) fn len(&self) -> usize
+        ensures { result ≡ length self.now }
     {
-        if self.is_empty() {
-            self.add("a second look finds nothing wrong: the file may have changed")?;
-        }
-        Ok(self)
+        self.as_str().len()
     }
 }

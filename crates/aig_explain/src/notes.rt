@@ -3,14 +3,12 @@
 
 mod certificate_look;
 mod failed_run;
-mod known_file;
 mod look;
 mod model_look;
 mod names_look;
 mod output_look;
 mod proof_look;
-mod proof_walk;
-mod select_look;
+pub(crate) mod proof_walk;
 mod verdict_look;
 mod why_look;
 

@@ -1,14 +1,15 @@
 //! Why a stimulus is rejected.
-ghost use Rattle.std.specs.Prelude.{◌≡◌, ◌≢◌, [], IfOk};
+ghost use Rattle.std.specs.Prelude.{◌≡◌};
 
 use crate::circuit::header::Header;
 use crate::circuit::place::Found;
 use crate::circuit::reader::Reader;
 use crate::explanation::Explanation;
+use crate::kind::Kind;
 use crate::text_lines::{TextLines, first_other};
 use aig_bytes::Memory;
+use aig_files::Part;
 use aig_sim::StimFault;
-use std::alloc::Global;
 
 /// The header of a circuit that is not rejected.
 pub fn header_of(circuit: &[u8]) -> Option<Header> {
@@ -18,25 +19,20 @@ pub fn header_of(circuit: &[u8]) -> Option<Header> {
 // How long the lines have to be.
 fn push_width(lines: &mut Explanation, circuit: &[u8]) -> Result<(), Memory> {
     match header_of(circuit).map(|header| header.inputs) {
-        Some(0) => lines.add("wanted: empty lines, because the circuit has no inputs"),
+        Some(0) => lines.say("wanted: empty lines, because the circuit has no inputs"),
         Some(inputs) => lines.add(format_args!(
             "wanted: {inputs} of 0, 1 and x, one for each input of the circuit"
         )),
-        None => lines.add("wanted: one of 0, 1 and x for each input of the circuit"),
+        None => lines.say("wanted: one of 0, 1 and x for each input of the circuit"),
     }
 }
 
-// What the file is, if it seems to be of another kind.
+// What the file is, if it is of another kind.
 fn push_kind(lines: &mut Explanation, file: &[u8]) -> Result<(), Memory> {
-    if file.starts_with(b"1\nb") {
-        return lines.add(
-            "the file is a witness: aig wave --witness CIRCUIT WITNESS, or aig check CIRCUIT WITNESS",
-        );
+    match Kind::of(file) {
+        None | Some(Kind::Empty | Kind::Stimulus) => Ok(()),
+        Some(kind) => kind.push(lines, Part::Stimulus),
     }
-    if file.starts_with(b"aag ") || file.starts_with(b"aig ") {
-        return lines.add("the file is a circuit, and CIRCUIT comes before STIM");
-    }
-    Ok(())
 }
 
 fn push_character(
@@ -54,7 +50,7 @@ fn push_character(
     lines.add(format_args!("line {number}, column {column}: {found}"))?;
     push_width(lines, circuit)?;
     if line.ends_with(b"\r") && column == line.len() {
-        lines.add("lines end with CR LF, and only LF ends a line: tr -d '\\r' < FILE > NEW")?;
+        lines.say("lines end with CR LF, and only LF ends a line: tr -d '\\r' < FILE > NEW")?;
     }
     push_kind(lines, file)
 }
@@ -76,50 +72,31 @@ fn push_unfinished(lines: &mut Explanation, file: &[u8]) -> Result<(), Memory> {
     let number = text.ended().saturating_add(1);
     let length = text.unfinished().len();
     lines.add(format_args!("line {number}, the last one, has the length {length} and no newline"))?;
-    lines.add("add the newline, if the line is whole: echo >> FILE")
+    lines.say("add the newline, if the line is whole: echo >> FILE")
 }
 
 fn push_limit(lines: &mut Explanation, file: &[u8]) -> Result<(), Memory> {
     let rows = TextLines::of(file).ended();
     lines.add(format_args!("the stimulus has {rows} rows"))?;
-    lines.add("wanted: at most 65,536 rows for bench; sim and wave take any number")
+    lines.say("wanted: at most 65,536 rows for bench; sim and wave take any number")
 }
 
-// Lines for what is wrong, and what to do.
-fn push_fault(
+/// Adds why the bytes of a file are no stimulus of the circuit, whose file is not rejected: which line it is, what is
+/// there, and what to do. A circuit of no bytes stands for one that is not known. Linear in both files.
+pub fn push_stimulus(
     lines: &mut Explanation,
     circuit: &[u8],
     file: &[u8],
     fault: StimFault,
-) -> Result<(), Memory> {
+) -> Result<(), Memory>
+    ensures memory { fault ≡ StimFault.Memory → lines.new ≡ lines.old }
+    ensures io { fault ≡ StimFault.Io → lines.new ≡ lines.old }
+{
     match fault {
         StimFault::Memory | StimFault::Io => Ok(()),
         StimFault::Char(number) => push_character(lines, circuit, file, number),
         StimFault::Length(number) => push_length(lines, circuit, file, number),
         StimFault::Unfinished => push_unfinished(lines, file),
         StimFault::Limit => push_limit(lines, file),
-    }
-}
-
-/// Explains why the bytes of a file are no stimulus of the circuit, whose file is not rejected: which line it is, what
-/// is there, and what to do. A circuit of no bytes stands for one that is not known. Out of memory and a failed read
-/// have no explanation. Linear in both files.
-pub fn explain_stimulus(
-    alloc: Global,
-    circuit: &[u8],
-    file: &[u8],
-    fault: StimFault,
-) -> Result<Explanation, Memory>
-    ensures memory { fault ≡ StimFault.Memory → IfOk result (λ lines. lines ≡ []) }
-    ensures io { fault ≡ StimFault.Io → IfOk result (λ lines. lines ≡ []) }
-    ensures explained { fault ≢ StimFault.Memory → fault ≢ StimFault.Io → IfOk result (λ lines. lines ≢ []) }
-{
-    let mut lines = Explanation::new(alloc);
-    match fault {
-        StimFault::Memory | StimFault::Io => Ok(lines),
-        _ => {
-            push_fault(&mut lines, circuit, file, fault)?;
-            lines.or_nothing_found()
-        }
     }
 }

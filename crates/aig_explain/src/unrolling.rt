@@ -1,12 +1,11 @@
 //! Why a circuit is not unrolled.
-ghost use Rattle.std.specs.Prelude.{◌≡◌, ◌≢◌, [], IfOk};
+ghost use Rattle.std.specs.Prelude.{◌≡◌};
 
 use crate::circuit::header::Header;
 use crate::circuit::parts::{Parts, Sought};
 use crate::explanation::Explanation;
 use aig_bytes::Memory;
 use aig_unroll::UnrollFault;
-use std::alloc::Global;
 
 /// The greatest number of frames.
 const FRAMES: u32 = 65_536;
@@ -74,7 +73,7 @@ pub(crate) fn push_limit(
 ) -> Result<(), Memory> {
     if frames > FRAMES {
         lines.add(format_args!("{name} is {frames}"))?;
-        return lines.add("wanted: at most 65,536 frames");
+        return lines.say("wanted: at most 65,536 frames");
     }
     let Some(parts) = Parts::of(circuit) else {
         return Ok(());
@@ -84,7 +83,7 @@ pub(crate) fn push_limit(
     push_count(lines, "outputs:", unrolled.outputs)?;
     push_count(lines, "bad state properties:", unrolled.bad)?;
     push_count(lines, "constraints:", unrolled.constraints)?;
-    lines.add("wanted: M and each count of at most 4,194,303; unroll for fewer frames")
+    lines.say("wanted: M and each count of at most 4,194,303; unroll for fewer frames")
 }
 
 /// How many variables the formula of a bad state within so many frames has.
@@ -115,47 +114,28 @@ fn push_liveness(lines: &mut Explanation, circuit: &[u8]) -> Result<(), Memory> 
     lines.add(format_args!(
         "the circuit has justice properties: {justice}, fairness constraints: {fairness}"
     ))?;
-    lines.add("wanted: none of them: aig select --to aag CIRCUIT > NEW leaves them out")
+    lines.say("wanted: none of them: aig select --to aag CIRCUIT > NEW leaves them out")
 }
 
 /// Adds lines for a number of frames that is 0.
 pub(crate) fn push_no_frames(lines: &mut Explanation, frames: u32) -> Result<(), Memory> {
     lines.add(format_args!("K is {frames}"))?;
-    lines.add("wanted: at least one frame")
+    lines.say("wanted: at least one frame")
 }
 
-// Lines for what is wrong, and what to do.
-fn push_fault(
+/// Adds why the circuit, whose file is not rejected, is not unrolled for so many frames. Linear in the file.
+pub fn push_unroll(
     lines: &mut Explanation,
     circuit: &[u8],
     frames: u32,
     fault: UnrollFault,
-) -> Result<(), Memory> {
+) -> Result<(), Memory>
+    ensures memory { fault ≡ UnrollFault.Memory → lines.new ≡ lines.old }
+{
     match fault {
         UnrollFault::Memory => Ok(()),
         UnrollFault::NoFrames => push_no_frames(lines, frames),
         UnrollFault::Liveness => push_liveness(lines, circuit),
         UnrollFault::Limit => push_limit(lines, circuit, "K", frames),
-    }
-}
-
-/// Explains why the circuit, whose file is not rejected, is not unrolled for so many frames. Out of memory has no
-/// explanation. Linear in the file.
-pub fn explain_unroll(
-    alloc: Global,
-    circuit: &[u8],
-    frames: u32,
-    fault: UnrollFault,
-) -> Result<Explanation, Memory>
-    ensures memory { fault ≡ UnrollFault.Memory → IfOk result (λ lines. lines ≡ []) }
-    ensures explained { fault ≢ UnrollFault.Memory → IfOk result (λ lines. lines ≢ []) }
-{
-    let mut lines = Explanation::new(alloc);
-    match fault {
-        UnrollFault::Memory => Ok(lines),
-        _ => {
-            push_fault(&mut lines, circuit, frames, fault)?;
-            lines.or_nothing_found()
-        }
     }
 }

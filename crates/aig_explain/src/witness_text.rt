@@ -46,7 +46,6 @@ enum Cause {
     NoRun,
     OfAbc,
     Assignments,
-    Circuit,
     Justice,
     Several,
     SeveralWitnesses,
@@ -158,9 +157,6 @@ fn is_bound(line: &[u8]) -> bool {
 }
 
 fn cause_of_status(line: &[u8]) -> Option<Cause> {
-    if line.starts_with(b"aag ") || line.starts_with(b"aig ") {
-        return Some(Cause::Circuit);
-    }
     if is_bound(line) {
         return Some(Cause::Bound);
     }
@@ -280,15 +276,24 @@ impl<'a> WrongLine<'a> {
         lines.add(format_args!("wanted: {wanted}"))
     }
 
-    /// Adds what is wrong, what is wanted, and what to do.
+    /// Whether it is the first line.
+    pub fn is_first(&self) -> bool {
+        matches!(self.wanted, Wanted::Status)
+    }
+
+    /// Adds what is wrong, and what is wanted.
     pub fn push(&self, lines: &mut Explanation) -> Result<(), Memory> {
         self.push_found(lines)?;
         match self.cause() {
-            Some(Cause::NoNewline) => {}
-            _ => self.push_wanted(lines)?,
+            Some(Cause::NoNewline) => Ok(()),
+            _ => self.push_wanted(lines),
         }
+    }
+
+    /// Adds the cause and what to do, if the cause is known.
+    pub fn push_cause(&self, lines: &mut Explanation) -> Result<(), Memory> {
         match self.cause() {
-            Some(cause) => lines.add(cause.remedy()),
+            Some(cause) => lines.say(cause.remedy()),
             None => Ok(()),
         }
     }
@@ -354,7 +359,6 @@ impl Cause {
                 "it may be a run of ABC's write_cex -a: see \"Witness\" in man aig-formats",
             Cause::Assignments =>
                 "these may be values by name of ABC's write_cex: see \"Witness\" in man aig-formats",
-            Cause::Circuit => "the file is a circuit, and CIRCUIT comes before WITNESS",
             Cause::Justice => "check has no justice properties (j)",
             Cause::Several => "the witness names several properties: keep one of them",
             Cause::SeveralWitnesses =>

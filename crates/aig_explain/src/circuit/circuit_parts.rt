@@ -34,7 +34,7 @@ fn push_definition(lines: &mut Explanation, parts: &Parts<'_>) -> Result<(), Mem
         let place = parts.describe(lines.alloc(), &entry)?;
         let literal = entry.defined.unwrap_or(0);
         lines.add(format_args!("{place}: it defines literal {literal}"))?;
-        lines.add("wanted: an even literal greater than 0")?;
+        lines.say("wanted: an even literal greater than 0")?;
     }
     Ok(())
 }
@@ -57,7 +57,7 @@ fn push_undefined(lines: &mut Explanation, parts: &Parts<'_>, variable: u32) -> 
         let place = parts.describe(lines.alloc(), &entry)?;
         lines.add(format_args!("{place} uses variable {variable} (literal {literal})"))?;
     }
-    lines.add("no input, latch or gate defines it")
+    lines.say("no input, latch or gate defines it")
 }
 
 fn push_reset(lines: &mut Explanation, parts: &Parts<'_>, variable: u32) -> Result<(), Memory> {
@@ -88,7 +88,7 @@ fn push_cycle(lines: &mut Explanation, parts: &Parts<'_>, variable: u32) -> Resu
     }
     let literals = cycle.literals(lines.alloc())?;
     lines.add(format_args!("each of these gates reads the next: {literals}"))?;
-    lines.add("a cycle has to go through a latch")
+    lines.say("a cycle has to go through a latch")
 }
 
 /// Adds what is wrong with a circuit whose tokens are right.

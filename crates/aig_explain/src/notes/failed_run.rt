@@ -1,33 +1,33 @@
 //! What `--explain` prints after a verdict, or after the reason why a run failed: its files, and what a second look at
 //! them shows.
 
-use crate::bench::{explain_bench, explain_reduction};
-use crate::circuit::explain_circuit;
+use crate::bench::push_bench;
 use crate::circuit::parts::{Parts, Sought};
-use crate::cnf::explain_cnf;
+use crate::circuit::push_circuit;
+use crate::cnf::push_cnf;
 use crate::explanation::Explanation;
 use crate::notes::certificate_look::{explain_no_formula, explain_strengthening};
-use crate::notes::look::{
-    MORE_MEMORY, Obstacle, explain_reading, note, note_lines, note_name, read_again,
-};
+use crate::notes::look::{Look, Obstacle, print, print_memory};
 use crate::notes::model_look::explain_model;
-use crate::notes::names_look::{explain_names, explain_property};
+use crate::notes::names_look::{explain_names, explain_property, explain_select};
 use crate::notes::output_look::{explain_output, explain_standard_output};
 use crate::notes::proof_look::{ProofOf, explain_proof};
-use crate::notes::select_look::explain_select;
 use crate::notes::verdict_look::{explain_other, explain_verdict};
 use crate::notes::why_look::explain_why;
-use crate::stimulus::explain_stimulus;
-use crate::unrolling::explain_unroll;
-use crate::witness::explain_witness;
-use aig_base::{Fault, Memory};
+use crate::stimulus::push_stimulus;
+use crate::text_lines::TextLines;
+use crate::unrolling::push_unroll;
+use crate::witness::{frames_of, push_witness};
+use aig_base::{Fault, Memory, SelectFault};
 use aig_bench::BenchFault;
+use aig_certificate::StrengthenFault;
 use aig_cnf::{CnfFault, Goal, Query};
 use aig_files::{Exit, Part, RunFiles};
+use aig_names::NamesFault;
 use aig_run::{RunFault, ScriptFault};
+use aig_sat::{ModelFault, ProofFault};
 use aig_sim::{ReachFault, StimFault, WitnessFault};
 use aig_unroll::UnrollFault;
-use std::alloc::Global;
 use std::env::{self, Env, VarError};
 use std::fs::Files;
 
@@ -57,71 +57,118 @@ pub fn explain<R: Files + AllocGlobal + Print + Eprint>(
     files: &RunFiles<'_>,
     ended: Result<(), Exit>,
 ) {
+    let mut look = Look::new(rt, files);
+    let seen = of_end(&mut look, ended);
+    print(rt, &look.lines);
+    if seen.is_err() {
+        print_memory(rt);
+    }
+}
+
+fn of_end<R: Files + AllocGlobal + Print>(
+    look: &mut Look<'_, R>,
+    ended: Result<(), Exit>,
+) -> Result<(), Memory> {
     match ended {
-        Err(Exit::Run(fault)) => explain_fault(rt, files, fault),
-        Err(Exit::Unread(part)) => of_unread(rt, files, part),
-        Err(Exit::Reported | Exit::NoCommand | Exit::NotText) => {}
-        Ok(()) | Err(Exit::NotConfirmed) => explain_verdict(rt, files),
+        Err(Exit::Run(fault)) if is_memory(fault) => Err(Memory),
+        Err(Exit::Run(fault)) => of_fault(look, fault),
+        Err(Exit::Unread(part)) => of_unread(look, part),
+        Err(Exit::Reported | Exit::NoCommand | Exit::NotText) => Ok(()),
+        Ok(()) | Err(Exit::NotConfirmed) => explain_verdict(look),
     }
 }
 
 /// A file that was not opened, or not read to its end.
-fn of_unread<R: Files + AllocGlobal + Print + Eprint>(rt: &R, files: &RunFiles<'_>, part: Part) {
+fn of_unread<R: Files + AllocGlobal + Print>(
+    look: &mut Look<'_, R>,
+    part: Part,
+) -> Result<(), Memory> {
+    let files = look.files;
     match part {
-        Part::Circuit => of_file(rt, Some(files.circuit)),
-        Part::Stimulus => of_stream(rt, files.run),
-        Part::Script => of_stream(rt, files.script),
-        Part::Witness | Part::Model | Part::Proof => of_file(rt, files.run),
-        Part::StepProof => of_file(rt, files.step),
-        Part::Certificate => of_file(rt, files.certificate),
-        Part::Names => of_file(rt, files.names),
+        Part::Circuit => of_file(look, Some(files.circuit)),
+        Part::Stimulus => of_stream(look, files.run),
+        Part::Script => of_stream(look, files.script),
+        Part::Witness | Part::Model | Part::Proof => of_file(look, files.run),
+        Part::StepProof => of_file(look, files.step),
+        Part::Certificate => of_file(look, files.certificate),
+        Part::Names => of_file(look, files.names),
     }
 }
 
-fn explain_fault<R: Files + AllocGlobal + Print + Eprint>(
-    rt: &R,
-    files: &RunFiles<'_>,
+/// Whether memory ran out.
+fn is_memory(fault: RunFault) -> bool {
+    matches!(
+        fault,
+        RunFault::Memory
+            | RunFault::Circuit(Fault::Memory)
+            | RunFault::Certificate(Fault::Memory)
+            | RunFault::Stimulus(StimFault::Memory)
+            | RunFault::Witness(WitnessFault::Memory)
+            | RunFault::Bench(BenchFault::Memory)
+            | RunFault::Script(ScriptFault::Memory)
+            | RunFault::Unroll(UnrollFault::Memory)
+            | RunFault::Cnf(CnfFault::Memory)
+            | RunFault::Select(SelectFault::Memory)
+            | RunFault::Reach(ReachFault::Memory)
+            | RunFault::Proof(ProofFault::Memory)
+            | RunFault::StepProof(ProofFault::Memory)
+            | RunFault::Model(ModelFault::Memory)
+            | RunFault::Strengthen(StrengthenFault::Memory)
+            | RunFault::Names(NamesFault::Memory)
+    )
+}
+
+/// Why a run failed: a row for each part that refuses. Memory is there.
+fn of_fault<R: Files + AllocGlobal + Print>(
+    look: &mut Look<'_, R>,
     fault: RunFault,
-) {
+) -> Result<(), Memory> {
+    let files = look.files;
     match fault {
-        RunFault::Circuit(fault) => of_circuit(rt, files, fault),
-        RunFault::Stimulus(fault) => of_stimulus(rt, files, fault),
-        RunFault::Witness(fault) => of_witness(rt, files, fault),
-        RunFault::OtherProperty { found, asked } => explain_other(rt, files, found, asked),
-        RunFault::Bench(fault) => of_bench(rt, files, fault),
-        RunFault::Script(fault) => of_script(rt, files, fault),
-        RunFault::Unroll(fault) => of_unroll(rt, files, fault),
-        RunFault::Cnf(fault) => of_cnf(rt, files, fault),
-        RunFault::Select(fault) => explain_select(rt, files.circuit, fault),
-        RunFault::Reach(fault) => of_reach(rt, files, fault),
-        RunFault::Proof(fault) => explain_proof(rt, files, proof_of(files), fault),
-        RunFault::StepProof(fault) => explain_proof(rt, files, ProofOf::Step, fault),
-        RunFault::Model(fault) => explain_model(rt, files, fault),
-        RunFault::Certificate(fault) => of_certificate(rt, files, fault),
-        RunFault::Strengthen(fault) => explain_strengthening(rt, files, fault),
-        RunFault::Names(fault) => explain_names(rt, files, fault),
-        RunFault::Property(fault) => explain_property(rt, files.circuit, fault),
-        RunFault::Why(fault) => explain_why(rt, files, fault),
-        RunFault::Shell => {}
-        RunFault::Output => of_output(rt, files),
-        RunFault::Memory => note(rt, MORE_MEMORY),
+        RunFault::Circuit(fault) => of_circuit(look, Some(files.circuit), fault),
+        RunFault::Certificate(fault) => of_circuit(look, files.certificate, fault),
+        RunFault::Stimulus(StimFault::Io) => of_stream(look, files.run),
+        RunFault::Stimulus(fault) => of_run(look, |lines, circuit, run| {
+            push_stimulus(lines, circuit, run, fault)
+        }),
+        RunFault::Witness(fault) => of_run(look, |lines, circuit, run| {
+            push_witness(lines, circuit, run, fault)
+        }),
+        RunFault::OtherProperty { found, asked } => explain_other(look, found, asked),
+        RunFault::Bench(fault) => of_run(look, |lines, circuit, run| {
+            push_bench(lines, circuit, rows_of(files, run), fault)
+        }),
+        RunFault::Script(_) => of_stream(look, files.script),
+        RunFault::Unroll(fault) => look.of_file(files.circuit, |lines, circuit| {
+            push_unroll(lines, circuit, files.frames, fault)
+        }),
+        RunFault::Cnf(fault) if files.certificate.is_some() => explain_no_formula(look, fault),
+        RunFault::Cnf(fault) => look.of_file(files.circuit, |lines, circuit| {
+            push_cnf(lines, circuit, query_of(files), fault)
+        }),
+        RunFault::Select(fault) => explain_select(look, fault),
+        RunFault::Reach(fault) => of_reach(look, fault),
+        RunFault::Proof(fault) => explain_proof(look, proof_of(files), fault),
+        RunFault::StepProof(fault) => explain_proof(look, ProofOf::Step, fault),
+        RunFault::Model(fault) => explain_model(look, fault),
+        RunFault::Strengthen(fault) => explain_strengthening(look, fault),
+        RunFault::Names(_) => explain_names(look),
+        RunFault::Property(fault) => explain_property(look, fault),
+        RunFault::Why(fault) => explain_why(look, fault),
+        RunFault::Output => of_output(look),
+        RunFault::Shell | RunFault::Memory => Ok(()),
     }
 }
 
-fn of_circuit<R: Files + AllocGlobal + Eprint>(rt: &R, files: &RunFiles<'_>, fault: Fault) {
-    match fault {
-        Fault::Memory => note(rt, MORE_MEMORY),
-        Fault::Io => of_file(rt, Some(files.circuit)),
-        _ => of_circuit_text(rt, files.circuit, fault),
-    }
-}
-
-fn of_certificate<R: Files + AllocGlobal + Eprint>(rt: &R, files: &RunFiles<'_>, fault: Fault) {
-    match (fault, files.certificate) {
-        (Fault::Memory, _) => note(rt, MORE_MEMORY),
-        (Fault::Io, name) => of_file(rt, name),
-        (_, Some(name)) => of_circuit_text(rt, name, fault),
-        (_, None) => {}
+fn of_circuit<R: Files + AllocGlobal>(
+    look: &mut Look<'_, R>,
+    name: Option<&str>,
+    fault: Fault,
+) -> Result<(), Memory> {
+    match (name, fault) {
+        (_, Fault::Io) => of_file(look, name),
+        (Some(name), _) => look.of_file(name, |lines, file| push_circuit(lines, file, fault)),
+        (None, _) => Ok(()),
     }
 }
 
@@ -134,63 +181,28 @@ fn proof_of(files: &RunFiles<'_>) -> ProofOf {
     }
 }
 
-fn of_circuit_text<R: Files + AllocGlobal + Eprint>(rt: &R, name: &str, fault: Fault) {
-    note_name(rt, name);
-    match read_again(rt, name) {
-        Ok(file) => note_lines(rt, explain_circuit(rt.alloc(), file.as_slice(), fault)),
-        Err(obstacle) => obstacle.explain(rt),
-    }
-}
-
-fn of_stimulus<R: Files + AllocGlobal + Print + Eprint>(
-    rt: &R,
-    files: &RunFiles<'_>,
-    fault: StimFault,
-) {
-    match fault {
-        StimFault::Memory => note(rt, MORE_MEMORY),
-        StimFault::Io => of_stream(rt, files.run),
-        _ => of_two_files(rt, files, RunFault::Stimulus(fault)),
-    }
-}
-
-fn of_witness<R: Files + AllocGlobal + Eprint>(rt: &R, files: &RunFiles<'_>, fault: WitnessFault) {
-    match fault {
-        WitnessFault::Memory => note(rt, MORE_MEMORY),
-        _ => of_two_files(rt, files, RunFault::Witness(fault)),
-    }
-}
-
-fn of_bench<R: Files + AllocGlobal + Eprint>(rt: &R, files: &RunFiles<'_>, fault: BenchFault) {
-    match fault {
-        BenchFault::Memory => note(rt, MORE_MEMORY),
-        _ => of_two_files(rt, files, RunFault::Bench(fault)),
-    }
-}
-
 /// A stimulus or a witness, which depends on the circuit.
-fn of_two_files<R: Files + AllocGlobal + Eprint>(rt: &R, files: &RunFiles<'_>, fault: RunFault) {
-    let Some(name) = files.run else {
-        return;
+fn of_run<
+    R: Files + AllocGlobal,
+    F: FnOnce(&mut Explanation, &[u8], &[u8]) -> Result<(), Memory> + Drop,
+>(look: &mut Look<'_, R>, push: F) -> Result<(), Memory>
+    requires { F.IsAlwaysCallable push }
+{
+    let Some(name) = look.files.run else {
+        return Ok(());
     };
-    note_name(rt, name);
-    let circuit = read_again(rt, files.circuit);
-    match read_again(rt, name) {
-        Ok(file) => note_lines(
-            rt,
-            explanation_of(
-                rt.alloc(),
-                files,
-                bytes_of(&circuit),
-                file.as_slice(),
-                fault,
-            ),
-        ),
-        Err(obstacle) => obstacle.explain(rt),
+    let circuit = look.bytes(look.files.circuit);
+    if let Some(run) = look.read(name)? {
+        let before = look.lines.len();
+        push(&mut look.lines, bytes_of(&circuit), run.as_slice())?;
+        look.or_nothing_found(before)?;
     }
-    if let Err(obstacle) = &circuit {
-        note_name(rt, files.circuit);
-        obstacle.explain(rt);
+    match circuit {
+        Ok(_) => Ok(()),
+        Err(obstacle) => {
+            look.name(look.files.circuit)?;
+            look.obstacle(obstacle)
+        }
     }
 }
 
@@ -202,86 +214,34 @@ fn bytes_of(file: &Result<Vec<u8>, Obstacle>) -> &[u8] {
     }
 }
 
-fn explanation_of(
-    alloc: Global,
-    files: &RunFiles<'_>,
-    circuit: &[u8],
-    file: &[u8],
-    fault: RunFault,
-) -> Result<Explanation, Memory> {
-    match fault {
-        RunFault::Stimulus(fault) => explain_stimulus(alloc, circuit, file, fault),
-        RunFault::Witness(fault) => explain_witness(alloc, circuit, file, fault),
-        RunFault::Bench(fault) if files.is_witness => explain_reduction(
-            alloc, circuit, file, fault,
-        ),
-        RunFault::Bench(fault) => explain_bench(alloc, circuit, file, fault),
-        _ => Ok(Explanation::new(alloc)),
-    }
-}
-
-fn of_script<R: Files + AllocGlobal + Print + Eprint>(
-    rt: &R,
-    files: &RunFiles<'_>,
-    fault: ScriptFault,
-) {
-    match fault {
-        ScriptFault::Memory => note(rt, MORE_MEMORY),
-        ScriptFault::Io => of_stream(rt, files.script),
+/// How many rows a run gives a bench.
+fn rows_of(files: &RunFiles<'_>, run: &[u8]) -> usize {
+    if files.is_witness {
+        frames_of(run)
+    } else {
+        TextLines::of(run).ended()
     }
 }
 
 /// A file that could not be opened or read.
-fn of_file<R: Files + AllocGlobal + Eprint>(rt: &R, name: Option<&str>) {
-    let _is_explained = explain_reading(rt, name);
+fn of_file<R: Files + AllocGlobal>(
+    look: &mut Look<'_, R>,
+    name: Option<&str>,
+) -> Result<(), Memory> {
+    let _is_explained = look.unread(name)?;
+    Ok(())
 }
 
 /// Either the file could not be read, or standard output could not be written to. The second look at the file says
 /// which.
-fn of_stream<R: Files + AllocGlobal + Print + Eprint>(rt: &R, name: Option<&str>) {
-    if !explain_reading(rt, name) {
-        explain_standard_output(rt);
-    }
-}
-
-fn of_unroll<R: Files + AllocGlobal + Eprint>(rt: &R, files: &RunFiles<'_>, fault: UnrollFault) {
-    match fault {
-        UnrollFault::Memory => note(rt, MORE_MEMORY),
-        _ => of_unroll_text(rt, files, fault),
-    }
-}
-
-fn of_unroll_text<R: Files + AllocGlobal + Eprint>(
-    rt: &R,
-    files: &RunFiles<'_>,
-    fault: UnrollFault,
-) {
-    note_name(rt, files.circuit);
-    match read_again(rt, files.circuit) {
-        Ok(file) => note_lines(
-            rt,
-            explain_unroll(rt.alloc(), file.as_slice(), files.frames, fault),
-        ),
-        Err(obstacle) => obstacle.explain(rt),
-    }
-}
-
-fn of_cnf<R: Files + AllocGlobal + Eprint>(rt: &R, files: &RunFiles<'_>, fault: CnfFault) {
-    match fault {
-        CnfFault::Memory => note(rt, MORE_MEMORY),
-        _ if files.certificate.is_some() => explain_no_formula(rt, files, fault),
-        _ => of_cnf_text(rt, files, fault),
-    }
-}
-
-fn of_cnf_text<R: Files + AllocGlobal + Eprint>(rt: &R, files: &RunFiles<'_>, fault: CnfFault) {
-    note_name(rt, files.circuit);
-    match read_again(rt, files.circuit) {
-        Ok(file) => note_lines(
-            rt,
-            explain_cnf(rt.alloc(), file.as_slice(), query_of(files), fault),
-        ),
-        Err(obstacle) => obstacle.explain(rt),
+fn of_stream<R: Files + AllocGlobal + Print>(
+    look: &mut Look<'_, R>,
+    name: Option<&str>,
+) -> Result<(), Memory> {
+    if look.unread(name)? {
+        Ok(())
+    } else {
+        explain_standard_output(look)
     }
 }
 
@@ -299,78 +259,71 @@ fn query_of(files: &RunFiles<'_>) -> Query {
     }
 }
 
-fn of_reach<R: Files + AllocGlobal + Eprint>(rt: &R, files: &RunFiles<'_>, fault: ReachFault) {
-    note_name(rt, files.circuit);
-    match fault {
-        ReachFault::Property => {
-            note(rt, "the circuit has no bad state property at this position");
-            note(
-                rt,
-                "positions count from 0: aig info CIRCUIT prints the number of properties",
-            );
-        }
-        ReachFault::NoRun if files.certificate.is_some() => {
-            note(
-                rt,
-                "no frame of the run that the model names breaks a claim",
-            );
-            note(
-                rt,
-                "it has to be of the formula of aig cnf --certificate for the same P, CERTIFICATE and CIRCUIT",
-            );
-        }
+/// What a run lacks, and where it has to be from.
+fn lacks(files: &RunFiles<'_>) -> [&'static str; 2] {
+    if files.certificate.is_some() {
+        [
+            "no frame of the run that the model names breaks a claim",
+            "it has to be of the formula of aig cnf --certificate for the same P, CERTIFICATE and CIRCUIT",
+        ]
+    } else if files.frames > 0 {
         // A model has a number of frames.
-        ReachFault::NoRun if files.frames > 0 => {
-            note(
-                rt,
-                "no frame of the run that the model names reaches the property",
-            );
-            note(
-                rt,
-                "it has to be of the formula of aig cnf for the same K, P and CIRCUIT",
-            );
-        }
-        ReachFault::NoRun => {
-            note(
-                rt,
-                "no frame of the stimulus reaches the property, or a constraint was not 1 before",
-            );
-            note(rt, "aig sim CIRCUIT STIM prints the run");
-            note_free_latches(rt, files.circuit);
-        }
-        ReachFault::Memory => note(rt, MORE_MEMORY),
+        [
+            "no frame of the run that the model names reaches the property",
+            "it has to be of the formula of aig cnf for the same K, P and CIRCUIT",
+        ]
+    } else {
+        [
+            "no frame of the stimulus reaches the property, or a constraint was not 1 before",
+            "aig sim CIRCUIT STIM prints the run",
+        ]
     }
+}
+
+fn of_reach<R: Files + AllocGlobal>(
+    look: &mut Look<'_, R>,
+    fault: ReachFault,
+) -> Result<(), Memory> {
+    look.name(look.files.circuit)?;
+    if fault == ReachFault::Property {
+        look.say("the circuit has no bad state property at this position")?;
+        return look.say("positions count from 0: aig info CIRCUIT prints the number of properties");
+    }
+    for line in lacks(look.files) {
+        look.say(line)?;
+    }
+    if look.files.certificate.is_none() && look.files.frames == 0 {
+        push_free_latches(look)?;
+    }
+    Ok(())
 }
 
 /// A run over a stimulus starts its uninitialised latches at x, which may hide that it reaches the property.
-fn note_free_latches<R: Files + AllocGlobal + Eprint>(rt: &R, circuit: &str) {
-    let Ok(file) = read_again(rt, circuit) else {
-        return;
+fn push_free_latches<R: Files + AllocGlobal>(look: &mut Look<'_, R>) -> Result<(), Memory> {
+    let Ok(file) = look.bytes(look.files.circuit) else {
+        return Ok(());
     };
-    let Some(parts) = Parts::of(file.as_slice()) else {
-        return;
-    };
-    let count = parts.count(Sought::Uninitialised);
-    if count > 0 {
-        note_lines(rt, free_latches(rt.alloc(), count));
+    let count = Parts::of(file.as_slice()).map_or(0, |parts| parts.count(Sought::Uninitialised));
+    if count == 0 {
+        return Ok(());
     }
-}
-
-fn free_latches(alloc: Global, count: u64) -> Result<Explanation, Memory> {
-    let mut lines = Explanation::new(alloc);
-    lines.add(format_args!("uninitialised latches, which start at x in this run: {count}"))?;
-    lines.add(
-        "aig witness --model takes a run with their values from a solver's model of aig cnf",
-    )?;
-    Ok(lines)
+    look.lines.add(format_args!("uninitialised latches, which start at x in this run: {count}"))?;
+    look.say("aig witness --model takes a run with their values from a solver's model of aig cnf")
 }
 
 /// A file of an option, or standard output, could not be written to. In bench, standard output is the script's part.
-fn of_output<R: Files + AllocGlobal + Print + Eprint>(rt: &R, files: &RunFiles<'_>) {
-    explain_output(rt, files.kept.circuit, files.kept.stimulus);
-    explain_output(rt, files.kept.stimulus, files.kept.circuit);
-    explain_output(rt, files.map, Some(files.circuit));
-    if files.kept.is_empty() {
-        explain_standard_output(rt);
+fn of_output<R: Files + AllocGlobal + Print>(look: &mut Look<'_, R>) -> Result<(), Memory> {
+    let RunFiles {
+        circuit,
+        kept,
+        map,
+        ..
+    } = *look.files;
+    explain_output(look, kept.circuit, kept.stimulus)?;
+    explain_output(look, kept.stimulus, kept.circuit)?;
+    explain_output(look, map, Some(circuit))?;
+    if kept.is_empty() {
+        explain_standard_output(look)?;
     }
+    Ok(())
 }

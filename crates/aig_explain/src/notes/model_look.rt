@@ -1,34 +1,29 @@
 //! What `--explain` prints of a solver's model that is refused.
 
-use crate::explanation::Explanation;
-use crate::notes::known_file::KnownFile;
-use crate::notes::look::{MORE_MEMORY, Seen, note, note_lines, note_name, read_again, walk_again};
+use crate::kind::Kind;
+use crate::notes::look::{Look, Seen};
 use crate::notes::proof_look::push_word;
 use crate::notes::proof_walk::{Goal, Spelling, Walk, number_of};
 use crate::unrolling::{variables_of_step, variables_within};
 use aig_bytes::Memory;
-use aig_files::RunFiles;
+use aig_files::{Part, RunFiles};
 use aig_sat::ModelFault;
-use std::alloc::Global;
 use std::fs::Files;
 
-/// Explains on standard error why the model of a run is refused.
-pub fn explain_model<R: Files + AllocGlobal + Eprint>(
-    rt: &R,
-    files: &RunFiles<'_>,
+/// Explains why the model of a run is refused.
+pub fn explain_model<R: Files + AllocGlobal>(
+    look: &mut Look<'_, R>,
     fault: ModelFault,
-) {
+) -> Result<(), Memory> {
+    let Some(name) = look.files.run else {
+        return Ok(());
+    };
+    look.name(name)?;
     match fault {
-        ModelFault::Memory => note(rt, MORE_MEMORY),
-        ModelFault::Text(at) => {
-            if let Some(name) = files.run {
-                explain_text(rt, files, name, at);
-            }
-        }
-        ModelFault::Unsatisfiable => explain_answer(rt, files, unsatisfiable(files)),
-        ModelFault::Unknown => {
-            explain_answer(rt, files, "the solver gave up before it found an answer");
-        }
+        ModelFault::Memory => Ok(()),
+        ModelFault::Text(at) => explain_text(look, name, at),
+        ModelFault::Unsatisfiable => say_answer(look, unsatisfiable(look.files)),
+        ModelFault::Unknown => say_answer(look, "the solver gave up before it found an answer"),
     }
 }
 
@@ -50,64 +45,50 @@ fn formula_of(files: &RunFiles<'_>) -> &'static str {
     }
 }
 
-fn explain_answer<R: AllocGlobal + Eprint>(rt: &R, files: &RunFiles<'_>, why: &str) {
-    if let Some(name) = files.run {
-        note_name(rt, name);
-    }
-    note(rt, why);
-    note(rt, formula_of(files));
+fn say_answer<R: Files + AllocGlobal>(look: &mut Look<'_, R>, why: &str) -> Result<(), Memory> {
+    look.say(why)?;
+    look.say(formula_of(look.files))
 }
 
-fn explain_text<R: Files + AllocGlobal + Eprint>(
-    rt: &R,
-    files: &RunFiles<'_>,
+fn explain_text<R: Files + AllocGlobal>(
+    look: &mut Look<'_, R>,
     name: &str,
     at: u64,
-) {
-    note_name(rt, name);
-    let known = match walk_again(rt, name, Goal::Byte(at), Some(Spelling::Text)) {
-        Ok(seen) => {
-            note_lines(rt, lines_of(rt.alloc(), &seen));
-            explain_variable(rt, files, &seen.walk);
-            other_kind(&seen)
-        }
-        Err(obstacle) => {
-            obstacle.explain(rt);
-            None
-        }
-    };
+) -> Result<(), Memory> {
+    let mut known = None;
+    if let Some(seen) = look.walk(name, Goal::Byte(at), Some(Spelling::Text))? {
+        push_word(&mut look.lines, &seen.walk)?;
+        look.say(why(&seen.walk))?;
+        push_variable(look, &seen.walk)?;
+        known = other_kind(&seen);
+    }
     match known {
-        Some(known) => {
-            let (what, remedy) = known.in_place_of_model();
-            note(rt, what);
-            note(rt, remedy);
-        }
-        None => note(rt, formula_of(files)),
+        Some(known) => known.push(&mut look.lines, Part::Model),
+        None => look.say(formula_of(look.files)),
     }
 }
 
 // The word that is refused may be of a variable that the formula does not have.
-fn explain_variable<R: Files + AllocGlobal + Eprint>(rt: &R, files: &RunFiles<'_>, walk: &Walk) {
+fn push_variable<R: Files + AllocGlobal>(
+    look: &mut Look<'_, R>,
+    walk: &Walk,
+) -> Result<(), Memory> {
+    let files = look.files;
     // The variables of a certificate's formula are counted with the certificate's own.
     if !is_literal(walk) || files.certificate.is_some() {
-        return;
+        return Ok(());
     }
-    let Ok(circuit) = read_again(rt, files.circuit) else {
-        return;
+    let Ok(circuit) = look.bytes(files.circuit) else {
+        return Ok(());
     };
     let within = variables_within(circuit.as_slice(), files.frames);
     let of_step = variables_of_step(circuit.as_slice(), files.frames);
-    if let (Some(within), Some(of_step)) = (within, of_step)
-        && within < number_of(&walk.word)
-    {
-        note_lines(rt, variables(rt.alloc(), within, of_step));
+    match (within, of_step) {
+        (Some(within), Some(of_step)) if within < number_of(&walk.word) => look.lines.add(
+            format_args!("the formula has {within} variables, and that of --step {of_step}"),
+        ),
+        _ => Ok(()),
     }
-}
-
-fn variables(alloc: Global, within: u64, of_step: u64) -> Result<Explanation, Memory> {
-    let mut lines = Explanation::new(alloc);
-    lines.add(format_args!("the formula has {within} variables, and that of --step {of_step}"))?;
-    Ok(lines)
 }
 
 // Whether the word that is refused is a literal that may stand there.
@@ -116,18 +97,12 @@ fn is_literal(walk: &Walk) -> bool {
 }
 
 // A file that begins with a solver's answer may be a model, and one with words after its 0 need not be a proof.
-fn other_kind(seen: &Seen) -> Option<KnownFile> {
+fn other_kind(seen: &Seen) -> Option<Kind> {
     match seen.known {
-        Some(KnownFile::Answer | KnownFile::Lrat) => None,
+        Some(Kind::Answer | Kind::Lrat) => None,
+        Some(Kind::Frat) => Some(Kind::MaybeProof),
         known => known,
     }
-}
-
-fn lines_of(alloc: Global, seen: &Seen) -> Result<Explanation, Memory> {
-    let mut lines = Explanation::new(alloc);
-    push_word(&mut lines, &seen.walk)?;
-    lines.add(why(&seen.walk))?;
-    Ok(lines)
 }
 
 fn why(walk: &Walk) -> &'static str {

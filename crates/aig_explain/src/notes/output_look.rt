@@ -1,6 +1,7 @@
 //! A second look at what a run could not write to: standard output, or the file of an option.
 
-use crate::notes::look::{explain_error, note, note_name};
+use crate::notes::look::Look;
+use aig_bytes::Memory;
 use aig_files::{is_free, is_one, is_one_new, leads_to, name_beside, parts_of};
 use std::fs::{self, FileType, Files, Metadata, OpenOptions};
 use std::io::{self, ErrorKind, Write};
@@ -14,22 +15,22 @@ enum Output {
     Other,
 }
 
-/// Prints why a write to standard output may have failed.
-pub fn explain_standard_output<R: Files + AllocGlobal + Print + Eprint>(rt: &R) {
-    match standard_output(rt) {
-        Output::Pipe => note(
-            rt,
+/// Adds why a write to standard output may have failed.
+pub fn explain_standard_output<R: Files + AllocGlobal + Print>(
+    look: &mut Look<'_, R>,
+) -> Result<(), Memory> {
+    match standard_output(look.rt) {
+        Output::Pipe => look.say(
             "standard output is a pipe: its reader may have ended before it had everything, as head does",
         ),
-        Output::File => note(
-            rt,
+        Output::File => look.say(
             "standard output is a file: its disk may be full, or the file at a limit (ulimit -f, a quota)",
         ),
-        Output::Other => match write_nothing(rt) {
-            Ok(()) => note(rt, "standard output can be written to now"),
+        Output::Other => match write_nothing(look.rt) {
+            Ok(()) => look.say("standard output can be written to now"),
             Err(error) => {
-                note(rt, "standard output is closed or full:");
-                explain_error(rt, error);
+                look.say("standard output is closed or full:")?;
+                look.error(error)
             }
         },
     }
@@ -60,26 +61,23 @@ fn write_nothing<P: Print>(rt: &P) -> io::Result<()> {
 
 /// Prints why the file of an option may not have been written, if the option is given. No other argument may name the
 /// same file, as `other` could.
-pub fn explain_output<R: Files + AllocGlobal + Eprint>(
-    rt: &R,
+pub fn explain_output<R: Files + AllocGlobal>(
+    look: &mut Look<'_, R>,
     name: Option<&str>,
     other: Option<&str>,
-) {
+) -> Result<(), Memory> {
     let Some(name) = name else {
-        return;
+        return Ok(());
     };
-    note_name(rt, name);
-    if is_same(rt, name, other) {
-        note(rt, "two arguments name this file: choose another name");
-    } else if takes_name(rt, name, other) {
-        note(
-            rt,
-            "its new file would take the name of another argument: choose another name",
-        );
+    look.name(name)?;
+    if is_same(look.rt, name, other) {
+        look.say("two arguments name this file: choose another name")
+    } else if takes_name(look.rt, name, other) {
+        look.say("its new file would take the name of another argument: choose another name")
     } else if name.is_empty() || name.ends_with('/') {
-        note(rt, "this is not the name of a file");
+        look.say("this is not the name of a file")
     } else {
-        explain_named(rt, name);
+        explain_named(look, name)
     }
 }
 
@@ -105,43 +103,39 @@ fn is_same_new<R: Files>(rt: &R, new: &str, other: Option<&str>) -> bool {
     }
 }
 
-fn explain_named<R: Files + AllocGlobal + Eprint>(rt: &R, name: &str) {
-    match fs::metadata(rt, name) {
-        Ok(metadata) => explain_existing(rt, name, &metadata),
-        Err(error) if error.kind() != ErrorKind::NotFound => explain_error(rt, error),
-        Err(_) if !is_free(rt, name) => note(
-            rt,
+fn explain_named<R: Files + AllocGlobal>(look: &mut Look<'_, R>, name: &str) -> Result<(), Memory> {
+    match fs::metadata(look.rt, name) {
+        Ok(metadata) => explain_existing(look, name, &metadata),
+        Err(error) if error.kind() != ErrorKind::NotFound => look.error(error),
+        Err(_) if !is_free(look.rt, name) => look.say(
             "it is a link to a file that does not exist: create that file, or name it",
         ),
-        Err(_) => explain_free(rt, name),
+        Err(_) => explain_free(look, name),
     }
 }
 
-fn explain_existing<R: Files + AllocGlobal + Eprint>(rt: &R, name: &str, file: &Metadata) {
+fn explain_existing<R: Files + AllocGlobal>(
+    look: &mut Look<'_, R>,
+    name: &str,
+    file: &Metadata,
+) -> Result<(), Memory> {
+    let rt = look.rt;
     if file.is_dir() {
-        note(rt, "it is a folder: name a file");
+        look.say("it is a folder: name a file")
     } else if leads_to(rt, "/dev/stdout", file) || leads_to(rt, "/dev/stderr", file) {
-        note(
-            rt,
-            "standard output or standard error goes to it: name another file",
-        );
+        look.say("standard output or standard error goes to it: name another file")
     } else if !file.is_file() {
-        note(
-            rt,
+        look.say(
             "it is a pipe or a device, which aig does not open again: it may be full, or without a reader",
-        );
+        )
     } else if are_streams_unknown(rt) {
-        note(
-            rt,
+        look.say(
             "it may be standard output or standard error: without /dev the system does not say; name a new file",
-        );
+        )
     } else if is_of_another(rt, file) {
-        note(
-            rt,
-            "it has another owner, whom only root may give a file: name another file",
-        );
+        look.say("it has another owner, whom only root may give a file: name another file")
     } else {
-        explain_old(rt, name);
+        explain_old(look, name)
     }
 }
 
@@ -159,33 +153,32 @@ fn is_of_another<R: Files>(rt: &R, file: &Metadata) -> bool {
 }
 
 /// A file that the new one is to replace. To open it does not change it.
-fn explain_old<R: Files + AllocGlobal + Eprint>(rt: &R, name: &str) {
-    match OpenOptions::new().write(true).open(rt, name) {
-        Ok(_) => explain_beside(rt, name),
-        Err(error) => explain_error(rt, error),
+fn explain_old<R: Files + AllocGlobal>(look: &mut Look<'_, R>, name: &str) -> Result<(), Memory> {
+    match OpenOptions::new().write(true).open(look.rt, name) {
+        Ok(_) => explain_beside(look, name),
+        Err(error) => look.error(error),
     }
 }
 
 /// A name that is free. Its folder has to be there.
-fn explain_free<R: Files + AllocGlobal + Eprint>(rt: &R, name: &str) {
-    match fs::metadata(rt, parts_of(name).0) {
-        Ok(_) => explain_beside(rt, name),
-        Err(error) => explain_error(rt, error),
+fn explain_free<R: Files + AllocGlobal>(look: &mut Look<'_, R>, name: &str) -> Result<(), Memory> {
+    match fs::metadata(look.rt, parts_of(name).0) {
+        Ok(_) => explain_beside(look, name),
+        Err(error) => look.error(error),
     }
 }
 
 /// The new file may be there already. Else a second look does not show why it could not be written.
-fn explain_beside<R: Files + AllocGlobal + Eprint>(rt: &R, name: &str) {
-    match name_of_new(rt, name) {
-        Some(new) if !is_free(rt, new.as_str()) => {
-            note_name(rt, new.as_str());
-            note(
-                rt,
-                "it exists, as after a run that was killed: rename it or remove it",
-            );
+fn explain_beside<R: Files + AllocGlobal>(
+    look: &mut Look<'_, R>,
+    name: &str,
+) -> Result<(), Memory> {
+    match name_of_new(look.rt, name) {
+        Some(new) if !is_free(look.rt, new.as_str()) => {
+            look.name(new.as_str())?;
+            look.say("it exists, as after a run that was killed: rename it or remove it")
         }
-        _ => note(
-            rt,
+        _ => look.say(
             "nothing is wrong with it now: if it was not written, check the permissions and the space of its folder",
         ),
     }

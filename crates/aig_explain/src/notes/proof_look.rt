@@ -2,14 +2,12 @@
 
 use crate::circuit::parts::shortened;
 use crate::explanation::Explanation;
-use crate::notes::known_file::KnownFile;
-use crate::notes::look::{
-    MORE_MEMORY, Seen, explain_reading, note, note_lines, note_name, read_again, walk_again,
-};
+use crate::kind::Kind;
+use crate::notes::look::{Look, Seen};
 use crate::notes::proof_walk::{Goal, Spelling, Spot, Step, Walk};
 use crate::unrolling::{variables_of_step, variables_within};
 use aig_bytes::Memory;
-use aig_files::RunFiles;
+use aig_files::Part;
 use aig_sat::ProofFault;
 use std::alloc::Global;
 use std::fs::Files;
@@ -27,53 +25,43 @@ pub enum ProofOf {
     Certificate,
 }
 
-/// Explains on standard error why a proof is refused.
-pub fn explain_proof<R: Files + AllocGlobal + Eprint>(
-    rt: &R,
-    files: &RunFiles<'_>,
+/// Explains why a proof is refused.
+pub fn explain_proof<R: Files + AllocGlobal>(
+    look: &mut Look<'_, R>,
     about: ProofOf,
     fault: ProofFault,
-) {
+) -> Result<(), Memory> {
     let name = match about {
-        ProofOf::Runs | ProofOf::Alive | ProofOf::Certificate => files.run,
-        ProofOf::Step => files.step,
+        ProofOf::Runs | ProofOf::Alive | ProofOf::Certificate => look.files.run,
+        ProofOf::Step => look.files.step,
     };
-    match fault {
-        ProofFault::Memory => note(rt, MORE_MEMORY),
-        ProofFault::Io => {
-            let _is_explained = explain_reading(rt, name);
+    match (name, fault) {
+        (_, ProofFault::Io) => {
+            let _is_explained = look.unread(name)?;
+            Ok(())
         }
-        _ => {
-            if let Some(name) = name {
-                explain_steps(rt, files, about, name, fault);
-            }
-        }
+        (Some(name), _) => explain_steps(look, about, name, fault),
+        (None, _) => Ok(()),
     }
 }
 
-fn explain_steps<R: Files + AllocGlobal + Eprint>(
-    rt: &R,
-    files: &RunFiles<'_>,
+fn explain_steps<R: Files + AllocGlobal>(
+    look: &mut Look<'_, R>,
     about: ProofOf,
     name: &str,
     fault: ProofFault,
-) {
-    note_name(rt, name);
-    note(rt, why(fault));
-    let known = match walk_again(rt, name, goal_of(fault), None) {
-        Ok(seen) => {
-            note_lines(rt, lines_of(rt.alloc(), &seen, fault));
-            if let ProofFault::Step { .. } = fault {
-                explain_variables(rt, files, about, &seen);
-            }
-            seen.known
+) -> Result<(), Memory> {
+    look.name(name)?;
+    look.say(why(fault))?;
+    let mut known = None;
+    if let Some(seen) = look.walk(name, goal_of(fault), None)? {
+        push_seen(&mut look.lines, &seen.walk, fault)?;
+        if let ProofFault::Step { .. } = fault {
+            push_variables(look, about, &seen)?;
         }
-        Err(obstacle) => {
-            obstacle.explain(rt);
-            None
-        }
-    };
-    note_cause(rt, about, fault, known);
+        known = seen.known;
+    }
+    say_cause(look, about, fault, known)
 }
 
 fn why(fault: ProofFault) -> &'static str {
@@ -93,23 +81,22 @@ fn goal_of(fault: ProofFault) -> Goal {
     }
 }
 
-fn lines_of(alloc: Global, seen: &Seen, fault: ProofFault) -> Result<Explanation, Memory> {
-    let mut lines = Explanation::new(alloc);
-    let walk = &seen.walk;
+fn push_seen(lines: &mut Explanation, walk: &Walk, fault: ProofFault) -> Result<(), Memory> {
     match fault {
         ProofFault::Text { .. } => {
-            push_word(&mut lines, walk)?;
-            if !walk.is_first_word() {
-                push_step(&mut lines, walk)?;
+            push_word(lines, walk)?;
+            if walk.is_first_word() {
+                Ok(())
+            } else {
+                push_step(lines, walk)
             }
         }
-        ProofFault::Step { .. } => push_step(&mut lines, walk)?,
+        ProofFault::Step { .. } => push_step(lines, walk),
         _ => {
             let steps = walk.step.number;
-            lines.add(format_args!("its number of steps: {steps}"))?;
+            lines.add(format_args!("its number of steps: {steps}"))
         }
     }
-    Ok(lines)
 }
 
 /// Adds a line for the word that is refused, or the end of the file.
@@ -156,63 +143,50 @@ fn push_step(lines: &mut Explanation, walk: &Walk) -> Result<(), Memory> {
 
 // The step that is refused may name a variable that the formula does not have. A proof may have such variables, but one
 // about another formula has them too.
-fn explain_variables<R: Files + AllocGlobal + Eprint>(
-    rt: &R,
-    files: &RunFiles<'_>,
+fn push_variables<R: Files + AllocGlobal>(
+    look: &mut Look<'_, R>,
     about: ProofOf,
     seen: &Seen,
-) {
+) -> Result<(), Memory> {
     let greatest = seen.walk.step.greatest;
     if greatest == 0 || seen.known.is_some() {
-        return;
+        return Ok(());
     }
-    if let Some(variables) = variables_of(rt, files, about)
-        && variables < greatest
-    {
-        note_lines(rt, over(rt.alloc(), variables, greatest));
+    match variables_of(look, about) {
+        Some(variables) if variables < greatest => look.lines.add(format_args!(
+            "the formula has {variables} variables, and this step names variable {greatest}"
+        )),
+        _ => Ok(()),
     }
 }
 
 // How many variables the formula has.
-fn variables_of<R: Files + AllocGlobal>(
-    rt: &R,
-    files: &RunFiles<'_>,
-    about: ProofOf,
-) -> Option<u64> {
-    let Ok(circuit) = read_again(rt, files.circuit) else {
-        return None;
-    };
+fn variables_of<R: Files + AllocGlobal>(look: &Look<'_, R>, about: ProofOf) -> Option<u64> {
+    let circuit = look.bytes(look.files.circuit).ok()?;
     match about {
-        ProofOf::Runs => variables_within(circuit.as_slice(), files.frames),
-        ProofOf::Step => variables_of_step(circuit.as_slice(), files.frames),
+        ProofOf::Runs => variables_within(circuit.as_slice(), look.files.frames),
+        ProofOf::Step => variables_of_step(circuit.as_slice(), look.files.frames),
         // They are those of another circuit.
         ProofOf::Alive | ProofOf::Certificate => None,
     }
 }
 
-fn over(alloc: Global, variables: u64, greatest: u64) -> Result<Explanation, Memory> {
-    let mut lines = Explanation::new(alloc);
-    lines.add(format_args!(
-        "the formula has {variables} variables, and this step names variable {greatest}"
-    ))?;
-    Ok(lines)
-}
-
-fn note_cause(rt: &impl Eprint, about: ProofOf, fault: ProofFault, known: Option<KnownFile>) {
+fn say_cause<R: Files + AllocGlobal>(
+    look: &mut Look<'_, R>,
+    about: ProofOf,
+    fault: ProofFault,
+    known: Option<Kind>,
+) -> Result<(), Memory> {
     match (known, fault) {
-        (Some(known), _) => {
-            let (what, remedy) = known.in_place_of_proof();
-            note(rt, what);
-            note(rt, remedy);
-        }
-        (None, ProofFault::Text { .. }) => note(rt, "have the solver write DRAT, to its end"),
+        (Some(known), _) => known.push(&mut look.lines, Part::Proof),
+        (None, ProofFault::Text { .. }) => look.say("have the solver write DRAT, to its end"),
         (None, _) => {
-            note(rt, formula_of(about));
-            if let ProofOf::Certificate = about {
-                note(
-                    rt,
+            look.say(formula_of(about))?;
+            match about {
+                ProofOf::Certificate => look.say(
                     "or the certificate is wrong: give a solver's model to aig witness --certificate --model to see which claim fails",
-                );
+                ),
+                _ => Ok(()),
             }
         }
     }

@@ -2,54 +2,57 @@
 
 use crate::circuit::parts::shortened;
 use crate::explanation::Explanation;
-use crate::notes::look::{note_lines, note_name, read_again};
+use crate::notes::look::Look;
 use aig_base::{Circuit, Kind, Memory, PropertySection};
-use aig_files::{Judged, RunFiles};
+use aig_files::Judged;
 use aig_names::position_of;
 use aig_run::read_circuit;
-use std::alloc::Global;
 use std::fs::Files;
 
-/// Says on standard error which property a verdict is about, by its position and its name. A file that a second look
-/// does not show, such as a pipe, is passed over: the verdict is printed already.
-pub fn explain_verdict<R: Files + AllocGlobal + Eprint>(rt: &R, files: &RunFiles<'_>) {
-    match files.judged {
-        Some(Judged::Named(text)) => name_property(rt, files.circuit, text.as_bytes()),
-        Some(Judged::OfWitness) => name_of_witness(rt, files),
-        None => {}
+/// Says which property a verdict is about, by its position and its name. A file that a second look does not show, such
+/// as a pipe, is passed over: the verdict is printed already.
+pub fn explain_verdict<R: Files + AllocGlobal>(look: &mut Look<'_, R>) -> Result<(), Memory> {
+    match look.files.judged {
+        Some(Judged::Named(text)) => name_property(look, text.as_bytes()),
+        Some(Judged::OfWitness) => name_of_witness(look),
+        None => Ok(()),
     }
 }
 
-fn name_of_witness<R: Files + AllocGlobal + Eprint>(rt: &R, files: &RunFiles<'_>) {
-    let Some(name) = files.run else {
-        return;
+fn name_of_witness<R: Files + AllocGlobal>(look: &mut Look<'_, R>) -> Result<(), Memory> {
+    let Some(name) = look.files.run else {
+        return Ok(());
     };
-    let Ok(witness) = read_again(rt, name) else {
-        return;
+    let Ok(witness) = look.bytes(name) else {
+        return Ok(());
     };
     // Its second line has the position of the property.
-    if let Some(line) = witness.as_slice().split(|byte| *byte == b'\n').nth(1) {
-        name_property(rt, files.circuit, line);
-    }
-}
-
-fn name_property<R: Files + AllocGlobal + Eprint>(rt: &R, circuit: &str, text: &[u8]) {
-    if let Ok(file) = read_again(rt, circuit) {
-        note_lines(rt, property_line(rt.alloc(), file.as_slice(), text));
+    match witness.as_slice().split(|byte| *byte == b'\n').nth(1) {
+        Some(line) => name_property(look, line),
+        None => Ok(()),
     }
 }
 
 /// The line of the property that a text names; none if the circuit does not have it.
-fn property_line(alloc: Global, file: &[u8], text: &[u8]) -> Result<Explanation, Memory> {
-    let mut lines = Explanation::new(alloc);
-    let Ok(circuit) = read_circuit(alloc, file) else {
-        return Ok(lines);
+fn name_property<R: Files + AllocGlobal>(
+    look: &mut Look<'_, R>,
+    text: &[u8],
+) -> Result<(), Memory> {
+    let Some(circuit) = circuit_of(look) else {
+        return Ok(());
     };
     let Ok(position) = position_of(&circuit, PropertySection::Bad, text) else {
-        return Ok(lines);
+        return Ok(());
     };
-    push_named(&mut lines, "property:", Some(&circuit), position)?;
-    Ok(lines)
+    push_named(&mut look.lines, "property:", Some(&circuit), position)
+}
+
+/// The circuit, unless a second look does not show it.
+fn circuit_of<R: Files + AllocGlobal>(look: &Look<'_, R>) -> Option<Circuit> {
+    let Ok(file) = look.bytes(look.files.circuit) else {
+        return None;
+    };
+    read_circuit(look.rt.alloc(), file.as_slice()).ok()
 }
 
 /// Adds a line with a property: its position, and its name if the circuit is known and gives it one.
@@ -72,46 +75,24 @@ fn push_named(
     }
 }
 
-/// Explains on standard error that a witness is of another property than the one that `check` is asked for.
-pub fn explain_other<R: Files + AllocGlobal + Eprint>(
-    rt: &R,
-    files: &RunFiles<'_>,
+/// Explains that a witness is of another property than the one that `check` is asked for.
+pub fn explain_other<R: Files + AllocGlobal>(
+    look: &mut Look<'_, R>,
     found: u32,
     asked: u32,
-) {
-    let Some(name) = files.run else {
-        return;
+) -> Result<(), Memory> {
+    let Some(name) = look.files.run else {
+        return Ok(());
     };
-    note_name(rt, name);
-    let circuit = circuit_of(rt, files.circuit);
-    note_lines(rt, other_lines(rt.alloc(), circuit.as_ref(), found, asked));
-}
-
-/// The circuit, unless a second look does not show it.
-fn circuit_of<R: Files + AllocGlobal>(rt: &R, name: &str) -> Option<Circuit> {
-    let Ok(file) = read_again(rt, name) else {
-        return None;
-    };
-    match read_circuit(rt.alloc(), file.as_slice()) {
-        Ok(circuit) => Some(circuit),
-        Err(_) => None,
-    }
-}
-
-fn other_lines(
-    alloc: Global,
-    circuit: Option<&Circuit>,
-    found: u32,
-    asked: u32,
-) -> Result<Explanation, Memory> {
-    let mut lines = Explanation::new(alloc);
+    look.name(name)?;
+    let circuit = circuit_of(look);
+    let lines = &mut look.lines;
     push_named(
-        &mut lines,
+        lines,
         "line 2 names the bad state property",
-        circuit,
+        circuit.as_ref(),
         found,
     )?;
-    push_named(&mut lines, "--property names", circuit, asked)?;
-    lines.add(format_args!("aig check --property b{found} checks this witness"))?;
-    Ok(lines)
+    push_named(lines, "--property names", circuit.as_ref(), asked)?;
+    lines.add(format_args!("aig check --property b{found} checks this witness"))
 }

@@ -1,0 +1,310 @@
+//! What kind of file it is that is given in the place of another, and what to do with it: a row of `FIRST`, or of
+//! `Kind::of`, for each kind, and a row of `Kind::remedy` for each place that wants something of its own.
+
+use crate::explanation::Explanation;
+use crate::notes::proof_walk::is_blank;
+use aig_bytes::Memory;
+use aig_files::Part;
+
+/// What a file is.
+#[derive(Clone, Copy, PartialEq, Eq)]
+pub enum Kind {
+    Empty,
+    ByteOrderMark,
+    Gzip,
+    Circuit,
+    /// A format of ABC's own.
+    OfAbc,
+    Witness,
+    Stimulus,
+    Verilog,
+    Blif,
+    Formula,
+    /// What a solver prints: its answer, and a model.
+    Answer,
+    Frat,
+    Lrat,
+    VeriPb,
+    /// What may be a proof: a model in another form begins as one in FRAT does.
+    MaybeProof,
+    CrLf,
+}
+
+/// The first words of what solvers print.
+const ANSWERS: [&[u8]; 8] = [
+    b"s",
+    b"v",
+    b"SAT",
+    b"SATISFIABLE",
+    b"UNSAT",
+    b"UNSATISFIABLE",
+    b"UNKNOWN",
+    b"INDETERMINATE",
+];
+
+fn is_word(word: &[u8], other: &[u8]) -> bool {
+    word == other
+}
+
+// What begins with this word.
+fn of_word(word: &[u8]) -> Option<Kind> {
+    if word.ends_with(b"\r") {
+        Some(Kind::CrLf)
+    } else if is_word(word, b"p") {
+        Some(Kind::Formula)
+    } else if ANSWERS.iter().any(|answer| is_word(word, answer)) {
+        Some(Kind::Answer)
+    } else if is_word(word, b"o") {
+        Some(Kind::Frat)
+    } else if is_word(word, b"pseudo-Boolean") {
+        Some(Kind::VeriPb)
+    } else {
+        None
+    }
+}
+
+// A step of FRAT as text begins with `a` and a number; one of LRAT has a `d` after its number, or hints after its 0.
+fn of_step(line: &[u8]) -> Option<Kind> {
+    let mut is_first = true;
+    let mut is_after_zero = false;
+    for word in line.split(|byte| is_blank(*byte)) {
+        if word.is_empty() {
+            continue;
+        }
+        if is_first && is_word(word, b"a") {
+            return Some(Kind::Frat);
+        }
+        if is_after_zero || (!is_first && is_word(word, b"d")) {
+            return Some(Kind::Lrat);
+        }
+        is_after_zero = is_word(word, b"0");
+        is_first = false;
+    }
+    None
+}
+
+// The first number of the binary form.
+fn first_number(numbers: &[u8]) -> u64 {
+    let mut number = 0u64;
+    let mut power = 1u64;
+    for byte in numbers {
+        number = number.saturating_add(power.saturating_mul(u64::from(byte % 128)));
+        power = power.saturating_mul(128);
+        if *byte < 128 {
+            break;
+        }
+    }
+    number
+}
+
+// Whether each list of numbers, which a zero byte ends, begins with one of these letters.
+fn begin_with(lists: &[u8], letters: &[u8]) -> bool {
+    lists.split(|byte| *byte == 0).all(|list| list
+        .first()
+        .is_some_and(|letter| letters.contains(letter)))
+}
+
+// Whether these lists are steps of LRAT: after each addition there is one more list, its hints, and its first number is
+// greater than that of the addition before. One addition alone could be a broken step of DRAT.
+fn are_of_lrat(lists: &[u8]) -> bool {
+    let mut additions: u64 = 0;
+    let mut last = 0;
+    let mut is_hints = false;
+    for list in lists.split(|byte| *byte == 0) {
+        if is_hints {
+            is_hints = false;
+            continue;
+        }
+        match list {
+            [b'a', numbers @ ..] if first_number(numbers) > last => {
+                last = first_number(numbers);
+                additions = additions.saturating_add(1);
+                is_hints = true;
+            }
+            [b'd', ..] => {}
+            _ => return false,
+        }
+    }
+    additions > 1
+}
+
+// What a proof in a binary form is, by its steps that are whole in a block. Steps of FRAT have more letters than those
+// of DRAT, and each of LRAT has hints where DRAT has a letter.
+fn of_binary(block: &[u8]) -> Option<Kind> {
+    let end = block.iter().rposition(|byte| *byte == 0)?;
+    let lists = block.get(..end)?;
+    if begin_with(lists, b"ad") {
+        None
+    } else if begin_with(lists, b"oadlfr") {
+        Some(Kind::Frat)
+    } else if are_of_lrat(lists) {
+        Some(Kind::Lrat)
+    } else {
+        None
+    }
+}
+
+// The first line that is no comment.
+fn first_line(block: &[u8]) -> &[u8] {
+    for line in block.split(|byte| *byte == b'\n') {
+        if !line.is_empty() && !line.starts_with(b"c") {
+            return line;
+        }
+    }
+    &[]
+}
+
+fn first_word(line: &[u8]) -> &[u8] {
+    line.split(|byte| is_blank(*byte)).next().unwrap_or(line)
+}
+
+// What has this first line.
+fn of_line(line: &[u8]) -> Option<Kind> {
+    let known = of_word(first_word(line));
+    if known.is_some() {
+        return known;
+    }
+    if line.ends_with(b"\r") {
+        return Some(Kind::CrLf);
+    }
+    of_step(line)
+}
+
+// Whether these bytes have the word in them.
+fn has_word(bytes: &[u8], word: &[u8]) -> bool {
+    !word.is_empty() && bytes.windows(word.len()).any(|part| part == word)
+}
+
+// Whether a line begins with the word.
+fn has_line(bytes: &[u8], word: &[u8]) -> bool {
+    bytes
+        .split(|byte| *byte == b'\n')
+        .any(|line| line.trim_ascii_start().starts_with(word))
+}
+
+// Whether each line is one of a stimulus.
+fn has_values(file: &[u8]) -> bool {
+    file.iter()
+        .all(|byte| matches!(byte, b'0' | b'1' | b'x' | b'\n'))
+}
+
+/// The first bytes of files, and what they are then.
+const FIRST: [(&[u8], Kind); 7] = [
+    (b"\xef\xbb\xbf", Kind::ByteOrderMark),
+    (b"\x1f\x8b", Kind::Gzip),
+    (b"aag ", Kind::Circuit),
+    (b"aig ", Kind::Circuit),
+    (b"aig2", Kind::OfAbc),
+    (b"aag2", Kind::OfAbc),
+    (b"1\nb", Kind::Witness),
+];
+
+impl Kind {
+    /// What a file is that has these bytes, or begins with them, if it is known.
+    pub fn of(bytes: &[u8]) -> Option<Kind> {
+        if bytes.is_empty() {
+            return Some(Kind::Empty);
+        }
+        for (first, kind) in FIRST {
+            if bytes.starts_with(first) {
+                return Some(kind);
+            }
+        }
+        if has_values(bytes) {
+            Some(Kind::Stimulus)
+        } else if has_word(bytes, b"endmodule") {
+            Some(Kind::Verilog)
+        } else if has_line(bytes, b".model") {
+            Some(Kind::Blif)
+        } else if first_line(bytes).starts_with(b"p cnf ") {
+            Some(Kind::Formula)
+        } else {
+            None
+        }
+    }
+
+    /// What a file is that begins with these bytes, and is refused at this word as a proof or a model.
+    pub fn at_word(bytes: &[u8], word: &[u8]) -> Option<Kind> {
+        match Kind::of(bytes) {
+            // Lines of values may be numbers too.
+            None | Some(Kind::Stimulus) if bytes.contains(&0) => of_binary(bytes),
+            None | Some(Kind::Stimulus) => match of_line(first_line(bytes)) {
+                None => of_word(word),
+                known => known,
+            },
+            known => known,
+        }
+    }
+
+    /// Adds what the file is, and what to do with it where another file is wanted.
+    pub fn push(self, lines: &mut Explanation, wanted: Part) -> Result<(), Memory> {
+        lines.say(self.what())?;
+        lines.say(self.remedy(wanted))
+    }
+
+    /// What the file is.
+    fn what(self) -> &'static str {
+        match self {
+            Kind::Empty => "the file is empty",
+            Kind::ByteOrderMark =>
+                "the file begins with a byte-order mark, three bytes that an editor added",
+            Kind::Gzip => "the file is compressed with gzip",
+            Kind::Circuit => "the file is a circuit",
+            Kind::OfAbc => "the file is in a format of ABC's own (write_aiger -c)",
+            Kind::Witness => "the file is a witness",
+            Kind::Stimulus => "the file is a stimulus",
+            Kind::Verilog => "the file is Verilog",
+            Kind::Blif => "the file is BLIF",
+            Kind::Formula => "the file is a CNF formula",
+            Kind::Answer => "the file is what a solver prints: its answer, or a model",
+            Kind::Frat => "the file is a proof in FRAT",
+            Kind::Lrat => "the file is a proof in LRAT: its steps have numbers and hints",
+            Kind::VeriPb => "the file is a proof of VeriPB",
+            Kind::MaybeProof => "the file may be a solver's proof",
+            Kind::CrLf => "lines end with CR LF",
+        }
+    }
+
+    /// What to do with it where another file is wanted.
+    fn remedy(self, wanted: Part) -> &'static str {
+        match (self, wanted) {
+            (Kind::Empty, _) =>
+                "write the file again: the command that should write it may have failed",
+            (Kind::ByteOrderMark, _) => "save the file without it, or: tail -c +4 FILE > NEW",
+            (Kind::Gzip, Part::Circuit) => "zcat FILE | aig COMMAND .. /dev/stdin",
+            (Kind::Gzip, _) => "zcat FILE > NEW, and name the new file",
+            (Kind::CrLf, _) => "only LF ends a line: tr -d '\\r' < FILE > NEW",
+            (Kind::Circuit, Part::Proof) =>
+                "the circuit comes first: aig refute --frames K CIRCUIT PROOF",
+            (Kind::Circuit, Part::Model) =>
+                "--model names what the solver printed, and CIRCUIT the circuit",
+            (Kind::Circuit, Part::Witness) => "CIRCUIT comes before WITNESS",
+            (Kind::Circuit, _) => "CIRCUIT comes before STIM",
+            (Kind::Verilog | Kind::Blif, Part::Circuit) =>
+                "convert it to AIGER, with write_aiger of yosys or ABC",
+            (Kind::OfAbc, Part::Circuit) => "write it with write_aiger, without -c",
+            (Kind::Witness, Part::Circuit) => "the circuit comes first: aig check CIRCUIT WITNESS",
+            (Kind::Witness, Part::Stimulus) =>
+                "aig wave --witness CIRCUIT WITNESS, or aig check CIRCUIT WITNESS",
+            (Kind::Stimulus, Part::Circuit) => "the circuit comes first: aig sim CIRCUIT STIM",
+            (Kind::Formula, Part::Circuit) => "name the circuit: aig reads no formula",
+            (Kind::Formula, Part::Witness) =>
+                "run a solver on it: aig witness --model makes a witness of a model",
+            (Kind::Formula, Part::Proof | Part::Model) =>
+                "run a solver on it, and name the file that the solver writes",
+            (Kind::Answer, Part::Proof) =>
+                "a proof is a file of its own, as in: cadical FORMULA PROOF",
+            (Kind::Frat, Part::Proof) =>
+                "aig reads DRAT (cadical without --frat); to make DRAT of it see \"Proof\" in man aig-formats",
+            (Kind::Lrat, Part::Proof) =>
+                "aig reads DRAT, one step on the first line: have the solver write DRAT (cadical without --lrat)",
+            (Kind::VeriPb, _) => "aig reads DRAT: have the solver write DRAT",
+            (Kind::MaybeProof, _) =>
+                "aig refute checks a proof; --model names what the solver printed",
+            (_, Part::Proof | Part::Model) => "name the file that the solver writes",
+            (_, Part::Stimulus) => "name a stimulus: see \"Stimulus\" in man aig-formats",
+            (_, Part::Witness) => "name a witness: see \"Witness\" in man aig-formats",
+            (_, _) => "see \"Files of other tools\" in man aig-formats",
+        }
+    }
+}
