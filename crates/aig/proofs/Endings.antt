@@ -20,30 +20,30 @@ use Rattle.aig.specs.Ends.{Answers, AreConfirmed, ChecksWitness, Ends, ForSomeTe
 use Rattle.aig.specs.Ends.{end_of_verdict, unread, writes}
 
 -- what holds of the bytes that were read holds of those that the file had left
-pub of_whole : (left : Option (List ℕ)) (bytes : List ℕ) → IfSome left (λ xs. bytes ≡ xs) → (Q : List ℕ → Type 0) → Q bytes
+pub of_whole : {T : Type 0} (left : Option T) (bytes : T) → IfSome left (λ xs. bytes ≡ xs) → (Q : T → Type 0) → Q bytes
     → IfSome left Q
 of_whole None bytes whole Q q = tt
 of_whole (Some xs) bytes whole Q q = subst Q whole q
 
 -- the bytes of a slice of what was read are those too
-pub slice_whole : (left : Option (List ℕ)) (bytes items : List ℕ) → bytes ≡ items → IfSome left (λ xs. items ≡ xs)
+pub slice_whole : {T : Type 0} (left : Option T) (bytes items : T) → bytes ≡ items → IfSome left (λ xs. items ≡ xs)
     → IfSome left (λ xs. bytes ≡ xs)
 slice_whole None bytes items is whole = tt
 slice_whole (Some xs) bytes items is whole = is ∙ whole
 
 -- what holds of all bytes holds of those that the file had left
-pub of_any : (left : Option (List ℕ)) (Q : List ℕ → Type 0) → ((xs : List ℕ) → Q xs) → IfSome left Q
+pub of_any : {T : Type 0} (left : Option T) (Q : T → Type 0) → ((xs : T) → Q xs) → IfSome left Q
 of_any None Q q = tt
 of_any (Some xs) Q q = q xs
 
 -- the same of two files
-pub of_both : (left other : Option (List ℕ)) (bytes claims : List ℕ) → IfSome left (λ xs. bytes ≡ xs)
-    → IfSome other (λ ys. claims ≡ ys) → (Q : List ℕ → List ℕ → Type 0) → Q bytes claims
+pub of_both : {S T : Type 0} (left : Option S) (other : Option T) (bytes : S) (claims : T) → IfSome left (λ xs. bytes ≡ xs)
+    → IfSome other (λ ys. claims ≡ ys) → (Q : S → T → Type 0) → Q bytes claims
     → IfSome left (λ xs. IfSome other (λ ys. Q xs ys))
 of_both left other bytes claims whole whole_other Q q =
     of_whole left bytes whole (λ xs. IfSome other (λ ys. Q xs ys)) (of_whole other claims whole_other (Q bytes) q)
 
-pub of_any_two : (left other : Option (List ℕ)) (Q : List ℕ → List ℕ → Type 0) → ((xs ys : List ℕ) → Q xs ys)
+pub of_any_two : {S T : Type 0} (left : Option S) (other : Option T) (Q : S → T → Type 0) → ((xs : S) (ys : T) → Q xs ys)
     → IfSome left (λ xs. IfSome other (λ ys. Q xs ys))
 of_any_two left other Q q =
     of_any left (λ xs. IfSome other (λ ys. Q xs ys)) (λ xs. of_any other (Q xs) (q xs))

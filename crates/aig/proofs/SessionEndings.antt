@@ -1,14 +1,15 @@
 -- How a session ends, from how `run_shell` does.
 use Rattle.std.proofs.Common.{◌⊎◌, inl, inr, ℕ, List, [], Result, Ok, Err, refl}
 use Rattle.std.specs.Prelude.{Bool}
+use Rattle.aig_run.specs.declared.given.Given.{Given}
 use Rattle.aig_run.specs.declared.run_fault.RunFault.{RunFault}
-use Rattle.aig_shell.specs.Conversation.{Begun, EndsShell, Passes}
+use Rattle.aig_shell.specs.Conversation.{EndsShell, Passes}
 use Rattle.aig.specs.Ends.{Answers, writes}
 use Rattle.aig.specs.Sessions.{HoldsSession}
 
-pub session_answers : {Y X Z : Type 0} (passes : Passes Y X Z) (person : Bool) (file : List ℕ) (begun : Begun)
-    (answer : Result (Unit {0}) RunFault) → EndsShell passes person file begun answer → Answers (HoldsSession file begun) answer
-session_answers passes person file begun (Ok done) (raw, is, (start, rows, pair, begins, at, ended)) =
-    writes ended.text (raw, is, (start, rows, pair, begins, at, person, ended.input, ended.calls, ended.quits, ended.talk))
-session_answers passes person file begun (Err fault) (inl (refused, nothing)) = writes [] (inl (refused, refl))
-session_answers passes person file begun (Err fault) (inr (is, failed)) = writes [] (inr is)
+pub session_answers : {Y X Z : Type 0} (passes : Passes Y X Z) (person : Bool) (file : List ℕ) (given : Given (List ℕ))
+    (answer : Result (Unit {0}) RunFault) → EndsShell passes person file given answer → Answers (HoldsSession file given) answer
+session_answers passes person file given (Ok done) (raw, is, (run, pair, begins, at, ended)) =
+    writes ended.text (raw, is, (run, pair, begins, at, person, ended.input, ended.calls, ended.quits, ended.talk))
+session_answers passes person file given (Err fault) (inl (refused, nothing)) = writes [] (inl (refused, refl))
+session_answers passes person file given (Err fault) (inr (is, failed)) = writes [] (inr is)

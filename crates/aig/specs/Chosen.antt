@@ -14,6 +14,7 @@ use Rattle.aig_cnf.specs.declared.query.Goal.{Goal}
 use Rattle.aig_cnf.specs.declared.query.Goal.TheVariants as goals
 use Rattle.aig_cnf.specs.declared.query.Query.{Query}
 use Rattle.aig_why.specs.declared.command.Span.{Span}
+use Rattle.aig.specs.GivenFiles.{IsWitness}
 use Rattle.aig.specs.declared.command.Command.{Command}
 use Rattle.aig.specs.declared.command.Command.TheVariants as commands
 
@@ -78,8 +79,7 @@ HoldsOptions matches (commands.CertifiedModelWitness property circuit certificat
     HoldsProperty matches circuit property
 HoldsOptions matches (commands.RefuteCertified property circuit certificate proof) =
     HoldsProperty matches circuit property
-HoldsOptions matches (commands.Why name span circuit stimulus) =
-    (first_value (found_of matches) (codes "of") ≡ Some name.now) × HoldsSpan matches span
-HoldsOptions matches (commands.WhyWitness name span circuit witness) =
+HoldsOptions matches (commands.Why name span circuit given) =
     (option_map (λ text. text.now) name ≡ first_value (found_of matches) (codes "of")) × HoldsSpan matches span
+    × (name ≡ None → IsWitness given)
 HoldsOptions matches _ = ⊤

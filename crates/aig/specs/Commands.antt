@@ -23,9 +23,10 @@ use Rattle.aig_commands.specs.Toaig.{Converts}
 use Rattle.aig_commands.specs.Unroll.{UnrollsKept}
 use Rattle.aig_commands.specs.Wave.{DumpsRun, WritesWave}
 use Rattle.aig_commands.specs.Witness.{WritesWitness}
-use Rattle.aig_why.specs.Why.{WritesWhy, WritesWhyWitness}
+use Rattle.aig_why.specs.Why.{WritesWhy}
 use Rattle.aig_files.specs.declared.exit.Exit.{Exit}
 use Rattle.aig.specs.Ends.{ChecksWitness, Ends, EndsSelectingNamed, ForSomeText, end_of, end_of_verdict}
+use Rattle.aig.specs.GivenFiles.{given_left}
 use Rattle.aig.specs.Sessions.{EndsSession}
 use Rattle.aig.specs.declared.command.Command.{Command}
 use Rattle.aig.specs.declared.command.Command.TheVariants as commands
@@ -87,12 +88,9 @@ EndsAsMeant left (commands.CertifiedModelWitness property circuit certificate mo
 EndsAsMeant left (commands.RefuteCertified property circuit certificate proof) result =
     IfSome (left circuit) (λ file. IfSome (left certificate) (λ claims.
     Ends end_of (OfCertified purposes.Formula file property claims RefutesInduction) result))
-EndsAsMeant left (commands.Why name span circuit stimulus) result =
-    IfSome (left circuit) (λ file. IfSome (left stimulus) (λ text.
-    Ends end_of (OfFile file (WritesWhy text name.now span)) result))
-EndsAsMeant left (commands.WhyWitness name span circuit witness) result =
-    IfSome (left circuit) (λ file. IfSome (left witness) (λ text.
-    Ends end_of (OfFile file (WritesWhyWitness text (option_copied name) span)) result))
+EndsAsMeant left (commands.Why name span circuit given) result =
+    IfSome (left circuit) (λ file. IfSome (given_left left given) (λ run.
+    Ends end_of (OfFile file (WritesWhy run (option_copied name) span)) result))
 EndsAsMeant left (commands.Reduce circuit witness) result =
     IfSome (left circuit) (λ file. IfSome (left witness)
     (λ text. Ends end_of_verdict (OfFile file (Reduces text)) result))

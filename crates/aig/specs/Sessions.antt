@@ -2,41 +2,33 @@
 -- say.
 use Rattle.std.specs.Prelude.{◌≡◌, ◌⊎◌, ℕ, List, [], Bool, Option, IfSome, Result, Ok, Err}
 use Rattle.aig_parts.specs.declared.raw.Raw.{Raw}
-use Rattle.aig_parts.specs.declared.ternary.Tern.{Tern}
 use Rattle.aig_bench.specs.BenchState.{CircuitAndRows}
 use Rattle.aig_run.specs.Command.{IsFileOf}
+use Rattle.aig_run.specs.Given.{IsGiven, ReadRun}
+use Rattle.aig_run.specs.declared.given.Given.{Given}
 use Rattle.aig_run.specs.declared.run_fault.RunFault.{RunFault}
 use Rattle.aig_run.specs.declared.run_fault.RunFault.TheVariants as run_faults
-use Rattle.aig_shell.specs.Conversation as begun
-use Rattle.aig_shell.specs.Conversation.{Begun, Begins, RefusesFiles, Talk}
+use Rattle.aig_shell.specs.Conversation.{RefusesFiles, Talk}
 use Rattle.aig_shell.specs.Files.{Call}
 use Rattle.aig_shell.specs.Session.{BeginsAt, first_state}
 use Rattle.aig_files.specs.declared.exit.Exit.{Exit}
 use Rattle.aig.specs.Ends.{Ends, end_of}
-use Rattle.aig.specs.declared.sessions.GivenFile.{GivenFile}
-use Rattle.aig.specs.declared.sessions.GivenFile.TheVariants as files
+use Rattle.aig.specs.GivenFiles.{given_left}
 
 -- all that a session over a circuit and a run writes for some lines, with a prompt or without one
-abbrev pub IsSomeTalk : Raw → Begun → List ℕ → Type 0
-IsSomeTalk raw begun text =
-    (start : List Tern) × (rows : List (List Tern)) × (pair : CircuitAndRows) × Begins raw begun start rows
-    × BeginsAt raw start rows pair
+abbrev pub IsSomeTalk : Raw → Given (List ℕ) → List ℕ → Type 0
+IsSomeTalk raw given text =
+    (run : ReadRun) × (pair : CircuitAndRows) × IsGiven raw given run × BeginsAt raw run.start run.rows pair
     × (person : Bool) × (input : List ℕ) × (calls : List Call) × (quits : Bool)
     × Talk person (first_state raw pair) input text calls quits
 
 -- A session is written; or the circuit or the run is refused, and nothing is written; or a line is not read, or an
 -- answer not written.
-abbrev pub HoldsSession : List ℕ → Begun → Result (Unit {0}) RunFault → List ℕ → Type 0
-HoldsSession file begun (Ok done) bytes = (raw : Raw) × IsFileOf file raw × IsSomeTalk raw begun bytes
-HoldsSession file begun (Err fault) bytes = (RefusesFiles file begun fault × (bytes ≡ [])) ⊎ (fault ≡ run_faults.Shell)
+abbrev pub HoldsSession : List ℕ → Given (List ℕ) → Result (Unit {0}) RunFault → List ℕ → Type 0
+HoldsSession file given (Ok done) bytes = (raw : Raw) × IsFileOf file raw × IsSomeTalk raw given bytes
+HoldsSession file given (Err fault) bytes = (RefusesFiles file given fault × (bytes ≡ [])) ⊎ (fault ≡ run_faults.Shell)
 
 -- `shell` ends so for the bytes of its files
-abbrev pub EndsSession : {F : Type 0} → (F → Option (List ℕ)) → F → GivenFile F → Result (Unit {0}) Exit → Type 0
-EndsSession left circuit files.Nothing result =
-    IfSome (left circuit) (λ file. Ends end_of (HoldsSession file begun.nothing) result)
-EndsSession left circuit (files.Stimulus stimulus) result =
-    IfSome (left circuit) (λ file. IfSome (left stimulus)
-    (λ text. Ends end_of (HoldsSession file (begun.stimulus text)) result))
-EndsSession left circuit (files.Witness witness) result =
-    IfSome (left circuit) (λ file. IfSome (left witness)
-    (λ text. Ends end_of (HoldsSession file (begun.witness text)) result))
+abbrev pub EndsSession : {F : Type 0} → (F → Option (List ℕ)) → F → Given F → Result (Unit {0}) Exit → Type 0
+EndsSession left circuit given result =
+    IfSome (left circuit) (λ file. IfSome (given_left left given) (λ run. Ends end_of (HoldsSession file run) result))

@@ -3,15 +3,16 @@ ghost use Rattle.std.specs.Prelude.{IfOk};
 ghost use Rattle.aig.specs.Chosen.{HoldsOptions};
 
 use crate::command::{Command, Selection};
+use crate::given_file::is_witness;
 use crate::named_files::{open_certificate, open_circuit, open_file, open_named};
 use crate::options::{format_of, frames_of, kept_of, section_of, span_of};
 use crate::properties::{
     open_circuit_and_properties, open_circuit_and_property, open_circuit_and_query,
     open_circuit_and_reached,
 };
-use crate::sessions::GivenFile;
 use aig_cli::{has_flag, subcommand_of, text_of};
 use aig_files::{Exit, Part, Source, open};
+use aig_run::Given;
 use aig_terminal::{Terminal, Tracked};
 use clap::ArgMatches;
 use std::fs::Files;
@@ -122,20 +123,20 @@ fn open_shell<'m, 't, R: Files + AllocGlobal + Clock + Eprint>(
     Ok(Command::Shell { circuit, given })
 }
 
-/// Opens the file of the run that a session begins with, if one is named.
+/// Opens the file of the run that is given with a circuit, if one is named.
 fn open_given<'t, R: Files + AllocGlobal + Clock + Eprint>(
     terminal: &'t Terminal<'t, R>,
     matches: &ArgMatches<'_>,
-) -> Result<GivenFile<Source<Tracked<'t, R, R::File>>>, Exit> {
+) -> Result<Given<Source<Tracked<'t, R, R::File>>>, Exit> {
     if text_of(matches, "STIM").is_none() {
-        return Ok(GivenFile::Nothing);
+        return Ok(Given::Nothing);
     }
     if has_flag(matches, "witness") {
         let witness = open_named(terminal, matches, "STIM", Part::Witness)?;
-        Ok(GivenFile::Witness(witness))
+        Ok(Given::Witness(witness))
     } else {
         let stimulus = open_named(terminal, matches, "STIM", Part::Stimulus)?;
-        Ok(GivenFile::Stimulus(stimulus))
+        Ok(Given::Stimulus(stimulus))
     }
 }
 
@@ -425,23 +426,14 @@ fn open_why<'m, 't, R: Files + AllocGlobal + Clock + Eprint>(
     let name = text_of(matches, "of");
     let span = span_of(matches);
     let circuit = open_circuit(terminal, matches)?;
-    if has_flag(matches, "witness") {
-        let witness = open_named(terminal, matches, "STIM", Part::Witness)?;
-        return Ok(Command::WhyWitness {
-            name,
-            span,
-            circuit,
-            witness,
-        });
-    }
-    let Some(name) = name else {
+    let given = open_given(terminal, matches)?;
+    if name.is_none() && !is_witness(&given) {
         return Err(Exit::NoCommand);
-    };
-    let stimulus = open_named(terminal, matches, "STIM", Part::Stimulus)?;
+    }
     Ok(Command::Why {
         name,
         span,
         circuit,
-        stimulus,
+        given,
     })
 }

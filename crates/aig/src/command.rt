@@ -5,15 +5,16 @@ use crate::certificates::{certified_model_witness, cnf_certified, refute_certifi
 use crate::circuits::{
     cnf, cnf_alive, info, info_names, select, select_named, toaig, unroll, unroll_and_map,
 };
-use crate::sessions::{GivenFile, shell};
+use crate::sessions::shell;
 use crate::simulations::{bench, sim, wave};
 use crate::solvers::{model_witness, refute, refute_alive, refute_step};
-use crate::why::{why, why_witness};
+use crate::why::why;
 use crate::witnesses::{check, reduce, wave_witness, witness};
 use aig_base::PropertySection;
 use aig_cnf::Query;
 use aig_files::{Exit, Kept};
 use aig_format::Format;
+use aig_run::Given;
 use aig_terminal::Terminal;
 use aig_why::Span;
 use std::fs::{Files, Metadata};
@@ -64,7 +65,7 @@ pub enum Command<'a, F> {
     /// `shell`: the answers to the lines of standard input.
     Shell {
         circuit: F,
-        given: GivenFile<F>,
+        given: Given<F>,
     },
     /// `unroll`: a circuit unrolled for some frames.
     Unroll {
@@ -156,19 +157,12 @@ pub enum Command<'a, F> {
         circuit: F,
         witness: F,
     },
-    /// `why`: why literals have their values in the run over a stimulus.
+    /// `why`: why literals have their values in the run that is given, by default those of the property of its witness.
     Why {
-        name: &'a str,
-        span: Span,
-        circuit: F,
-        stimulus: F,
-    },
-    /// `why --witness`: the same in the run of a witness, by default of its property.
-    WhyWitness {
         name: Option<&'a str>,
         span: Span,
         circuit: F,
-        witness: F,
+        given: Given<F>,
     },
     /// `strengthen`: a circuit that is strengthened by a certificate.
     Strengthen {
@@ -287,14 +281,8 @@ impl<F: Read + Drop> Command<'_, F> {
                 name,
                 span,
                 circuit,
-                stimulus,
-            } => why(terminal, name, span, circuit, stimulus),
-            Command::WhyWitness {
-                name,
-                span,
-                circuit,
-                witness,
-            } => why_witness(terminal, name, span, circuit, witness),
+                given,
+            } => why(terminal, name, span, circuit, given),
             Command::Strengthen {
                 property,
                 to,

@@ -7,6 +7,7 @@ mod chosen;
 mod circuits;
 mod command;
 mod ended;
+mod given_file;
 mod kept;
 mod looked_at;
 mod named_files;

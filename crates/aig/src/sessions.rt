@@ -1,29 +1,21 @@
 //! `shell`: a session over the terminal of its user.
-ghost use Rattle.std.specs.Prelude.{IfSome};
-ghost use Rattle.aig_shell.specs.Conversation as begun;
-ghost use Rattle.aig_shell.specs.Conversation.{begun_of};
+ghost use Rattle.aig_run.specs.Given.{given_text};
 ghost use Rattle.aig.specs.Ends.{Ends, end_of};
 ghost use Rattle.aig.specs.Sessions.{EndsSession, HoldsSession};
 
 use crate::ended::ended;
+use crate::given_file::{read_given_file, text_of_given};
 use crate::kept::{Failure, keep_texts};
 use aig_base::Std;
 use aig_files::{Exit, Kept, Part, Unwritten, output, read_whole};
-use aig_shell::{FileText, Given, Keep, Reason, Unkept, run_shell};
+use aig_run::Given;
+use aig_shell::{FileText, Keep, Reason, Unkept, run_shell};
 use aig_terminal::Terminal;
 use std::fs::Files;
 use std::io::{ErrorKind, Read};
 use std::os::fd::AsFd;
 use std::str;
 use std::time::Clock;
-
-/// The run that a session begins with, in a file.
-#[derive(Drop)]
-pub enum GivenFile<F> {
-    Nothing,
-    Stimulus(F),
-    Witness(F),
-}
 
 /// Files that a session writes.
 #[derive(Drop)]
@@ -106,77 +98,28 @@ where
 pub fn shell<R: Files + AllocGlobal + Print + Eprint + Clock + Input, F: Read + Drop>(
     terminal: &Terminal<'_, R>,
     circuit: F,
-    given: GivenFile<F>,
+    given: Given<F>,
 ) -> Result<(), Exit>
 where
     R::File: AsFd,
     ensures ends { EndsSession F.remaining circuit given result }
 {
-    match given {
-        GivenFile::Nothing => begin(terminal, circuit),
-        GivenFile::Stimulus(stimulus) => begin_with_stimulus(terminal, circuit, stimulus),
-        GivenFile::Witness(witness) => begin_with_witness(terminal, circuit, witness),
-    }
-}
-
-/// Begins with no frames.
-fn begin<R: Files + AllocGlobal + Print + Eprint + Clock + Input, F: Read + Drop>(
-    terminal: &Terminal<'_, R>,
-    circuit: F,
-) -> Result<(), Exit>
-where
-    R::File: AsFd,
-    ensures { IfSome (F.remaining circuit) (λ file. Ends end_of (HoldsSession file begun.nothing) result) }
-{
     let circuit = read_whole(terminal.alloc(), circuit, Part::Circuit)?;
-    answer(terminal, circuit.as_slice(), Given::Nothing)
-}
-
-/// Begins with the rows of a stimulus.
-fn begin_with_stimulus<R: Files + AllocGlobal + Print + Eprint + Clock + Input, F: Read + Drop>(
-    terminal: &Terminal<'_, R>,
-    circuit: F,
-    stimulus: F,
-) -> Result<(), Exit>
-where
-    R::File: AsFd,
-    ensures { IfSome (F.remaining circuit) (λ file. IfSome (F.remaining stimulus) (λ text.
-        Ends end_of (HoldsSession file (begun.stimulus text)) result)) }
-{
-    let circuit = read_whole(terminal.alloc(), circuit, Part::Circuit)?;
-    let stimulus = read_whole(terminal.alloc(), stimulus, Part::Stimulus)?;
+    let given = read_given_file(terminal.alloc(), given)?;
     let file = circuit.as_slice();
-    let text = stimulus.as_slice();
-    answer(terminal, file, Given::Stimulus(text))
-}
-
-/// Begins with the run of a witness.
-fn begin_with_witness<R: Files + AllocGlobal + Print + Eprint + Clock + Input, F: Read + Drop>(
-    terminal: &Terminal<'_, R>,
-    circuit: F,
-    witness: F,
-) -> Result<(), Exit>
-where
-    R::File: AsFd,
-    ensures { IfSome (F.remaining circuit) (λ file. IfSome (F.remaining witness) (λ text.
-        Ends end_of (HoldsSession file (begun.witness text)) result)) }
-{
-    let circuit = read_whole(terminal.alloc(), circuit, Part::Circuit)?;
-    let witness = read_whole(terminal.alloc(), witness, Part::Witness)?;
-    let file = circuit.as_slice();
-    let text = witness.as_slice();
-    answer(terminal, file, Given::Witness(text))
+    let run = text_of_given(&given);
+    answer(terminal, file, run)
 }
 
 /// Answers the lines.
 fn answer<R: Files + AllocGlobal + Print + Eprint + Clock + Input>(
     terminal: &Terminal<'_, R>,
     circuit: &[u8],
-    given: Given<'_>,
+    given: Given<&[u8]>,
 ) -> Result<(), Exit>
 where
     R::File: AsFd,
-    ensures { Ends end_of (HoldsSession circuit.now (begun_of given.entry)) result }
+    ensures { Ends end_of (HoldsSession circuit.now (given_text given.entry)) result }
 {
     // The line that says how far a run is would stand between a person's lines.
     terminal.end();

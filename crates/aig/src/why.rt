@@ -1,50 +1,35 @@
-//! The command `why`, over a stimulus or of a witness.
+//! The command `why`.
 ghost use Rattle.std.specs.Prelude.{◌≡◌, IfSome, option_copied};
 ghost use Rattle.aig_run.specs.Command.{OfFile};
-ghost use Rattle.aig_why.specs.Why.{WritesWhy, WritesWhyWitness};
+ghost use Rattle.aig_why.specs.Why.{WritesWhy};
 ghost use Rattle.aig.specs.Ends.{Ends, end_of};
+ghost use Rattle.aig.specs.GivenFiles.{given_left};
 
 use crate::ended::ended;
+use crate::given_file::{read_given_file, text_of_given};
 use aig_files::{Exit, Part, output, read_whole};
+use aig_run::Given;
 use aig_why::Span;
 use std::io::Read;
 
-/// Writes why the literals that a name means have their values in the run over a stimulus.
+/// Writes why the literals that a name means have their values in the run that is given; without a name, those of the
+/// property of its witness.
 pub fn why<R: AllocGlobal + Print, F: Read + Drop>(
-    rt: &R,
-    name: &str,
-    span: Span,
-    circuit: F,
-    stimulus: F,
-) -> Result<(), Exit>
-    ensures ends { IfSome (F.remaining circuit) (λ file. IfSome (F.remaining stimulus) (λ text.
-        Ends end_of (OfFile file (WritesWhy text name.now span)) result)) }
-{
-    let circuit = read_whole(rt.alloc(), circuit, Part::Circuit)?;
-    let stimulus = read_whole(rt.alloc(), stimulus, Part::Stimulus)?;
-    let file = circuit.as_slice();
-    let text = stimulus.as_slice();
-    let mut out = output(rt);
-    ended(aig_why::why(rt.alloc(), file, text, name.as_bytes(), span, &mut out))
-}
-
-/// Writes the same of the run of a witness; without a name, of its property.
-pub fn why_witness<R: AllocGlobal + Print, F: Read + Drop>(
     rt: &R,
     name: Option<&str>,
     span: Span,
     circuit: F,
-    witness: F,
+    given: Given<F>,
 ) -> Result<(), Exit>
-    ensures ends { IfSome (F.remaining circuit) (λ file. IfSome (F.remaining witness) (λ text.
-        Ends end_of (OfFile file (WritesWhyWitness text (option_copied name.entry) span)) result)) }
+    ensures ends { IfSome (F.remaining circuit) (λ file. IfSome (given_left F.remaining given) (λ run.
+        Ends end_of (OfFile file (WritesWhy run (option_copied name.entry) span)) result)) }
 {
     let circuit = read_whole(rt.alloc(), circuit, Part::Circuit)?;
-    let witness = read_whole(rt.alloc(), witness, Part::Witness)?;
+    let given = read_given_file(rt.alloc(), given)?;
     let file = circuit.as_slice();
-    let text = witness.as_slice();
+    let run = text_of_given(&given);
     let mut out = output(rt);
-    ended(aig_why::why_witness(rt.alloc(), file, text, bytes_of(name), span, &mut out))
+    ended(aig_why::why(rt.alloc(), file, run, bytes_of(name), span, &mut out))
 }
 
 /// Returns the bytes of a name if there is one.

@@ -1,4 +1,5 @@
 pub mod CircuitFiles
 pub mod Files
 pub mod Flushes
+pub mod GivenRuns
 pub mod Written

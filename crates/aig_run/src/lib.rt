@@ -1,8 +1,9 @@
-//! What every run of a command has: the files of a circuit and its stimulus, an answer after a flush, and why it is
-//! refused.
+//! What every run of a command has: the files of a circuit and of the run that is given with it, an answer after a
+//! flush, and why it is refused.
 #![tactic(auto)]
 
 mod circuit_file;
+mod given;
 mod output;
 mod property;
 mod run_fault;
@@ -11,6 +12,7 @@ mod stimulus_file;
 mod why_fault;
 
 pub use circuit_file::read_circuit;
+pub use given::{Given, GivenRun, read_given};
 pub use output::{as_output, flushed};
 pub use property::position_in;
 pub use run_fault::RunFault;

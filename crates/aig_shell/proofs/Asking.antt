@@ -1,5 +1,5 @@
 -- What `why` answers, and when it has no answer.
-use Rattle.std.proofs.Common.{◌≡◌, ◌≢◌, ℕ, [], List, length, map, replicate, Option, None, Result, Ok, Err, slice_get}
+use Rattle.std.proofs.Common.{◌≡◌, ◌≢◌, ℕ, [], List, length, map, replicate, Option, None, Some, Result, Ok, Err, slice_get}
 use Rattle.std.proofs.Common.{refl, sym, ap, subst, ◌∙◌}
 use Rattle.std.specs.Prelude.{IsErrAnd}
 use Rattle.std.proofs.lemmas.List.{length-map}
@@ -125,7 +125,7 @@ module _ (session : Session) (s : SessionState) (h : IsIn session s) where
 
   pub property_answered : (name literals : List ℕ) (t k : ℕ) (text : List ℕ)
       → IsFirstReached (own_circuit session) (start_of session.run.bench.pair.circuit) session.run.bench.pair.rows None t k
-      → IsQuestion session.run.bench.pair.circuit k None name literals
+      → IsQuestion session.run.bench.pair.circuit None (Some k) name literals
       → Explains (own_circuit session) (run_of session.run.bench.pair) name literals t text
       → Answers s why_first text [] (calm s)
   property_answered name literals t k text reached (l, at, are, called) e = (

@@ -3,6 +3,7 @@ use Rattle.std.proofs.Common.{◌≡◌, ◌⊎◌, inl, inr, ℕ, ◌+◌, ◌*
 use Rattle.std.proofs.Common.{Some, Result, Ok, Err, refl, sym, ap, subst, ◌∙◌, arith}
 use Rattle.std.specs.Prelude.{None, IfOk, IfErr, OnOk, OnErr}
 use Rattle.std.proofs.lemmas.List.{append-nil}
+use Rattle.std.proofs.lemmas.Result.{IfErr-weaker, IfOk-weaker}
 use Rattle.aig_bytes.specs.Bytes.{before, after, IsAtEnd, IsBeginning}
 use Rattle.aig_bytes.specs.Flow.{Flow, flow}
 use Rattle.aig_bytes.proofs.WriteLemmas.{after-nil}
@@ -12,15 +13,17 @@ use Rattle.aig_parts.specs.declared.ternary.Tern.{Tern}
 use Rattle.aig_bench.specs.declared.bench.fault.BenchFault.{BenchFault}
 use Rattle.aig_bench.specs.declared.bench.fault.BenchFault.TheVariants as benches
 use Rattle.aig_run.specs.Command.{Got, IsFileOf}
+use Rattle.aig_run.specs.Given.{IsGiven, ReadRun}
 use Rattle.aig_run.specs.Flushed.{IsFlushed, flushes, fails}
+use Rattle.aig_run.specs.declared.given.Given.{Given}
 use Rattle.aig_run.specs.declared.run_fault.RunFault.{RunFault}
 use Rattle.aig_run.specs.declared.run_fault.RunFault.TheVariants as run_faults
 use Rattle.aig_shell.specs.declared.conversation.Conversation.{Conversation}
 use Rattle.aig_shell.specs.declared.session.Session.{Session}
 use Rattle.aig_shell.specs.declared.talk.Line.{Line}
 use Rattle.aig_shell.specs.declared.talk.Talker.{Talker}
-use Rattle.aig_shell.specs.Conversation.{Begun, Passes, Ended, BreaksDown, Begins, BeginsSession, EndsShell}
-use Rattle.aig_shell.specs.Conversation.{HoldsSession, IsAt, OpensSession, RefusesFiles, RefusesRows, RefusesText}
+use Rattle.aig_shell.specs.Conversation.{Passes, Ended, BreaksDown, BeginsSession, EndsShell}
+use Rattle.aig_shell.specs.Conversation.{HoldsSession, IsAt, OpensSession, RefusesFiles, RefusesRows}
 use Rattle.aig_shell.specs.Files.{Call}
 use Rattle.aig_shell.specs.Session.{BeginsAt, IsIn, IsSession, first_state}
 use Rattle.aig_shell.specs.State.{SessionState}
@@ -113,16 +116,16 @@ module _ {Y X Z : Type 0} (left : Y → Option (List ℕ)) (read_failures : Y �
 
 module _ {Y X Z : Type 0} (left : Y → Option (List ℕ)) (read_failures : Y → ℕ) (written : X → Option (List ℕ)) (failures : X → ℕ)
     (calls : Z → Option (List Call)) (reader reader' : Y) (files files' : Z) (old mid new : X)
-    (person : Bool) (file : List ℕ) (begun : Begun) where
+    (person : Bool) (file : List ℕ) (given : Given (List ℕ)) where
   -- the flush after a session
   pub shell_flushed : (done result : Result (Unit {0}) RunFault)
-      → EndsShell (passes_of (flow left read_failures reader reader') (flow written failures old mid) calls files files') person file begun done
+      → EndsShell (passes_of (flow left read_failures reader reader') (flow written failures old mid) calls files files') person file given done
       → IsFlushed (flow written failures mid new) run_faults.Shell done result
-      → EndsShell (passes_of (flow left read_failures reader reader') (flow written failures old new) calls files files') person file begun result
-  shell_flushed (Ok x) result (raw, is, (start, rows, pair, begins, at, e)) (flushes same count) =
-      (raw, is, (start, rows, pair, begins, at, ended_on left read_failures written failures calls reader reader' files files' old mid new same person _ count e))
-  shell_flushed (Ok x) result (raw, is, (start, rows, pair, begins, at, e)) (fails same count) =
-      inr (refl, inl (raw, is, (start, rows, pair, begins, at, ended_breaks left read_failures written failures calls reader reader' files files' old mid new same person _ count e)))
+      → EndsShell (passes_of (flow left read_failures reader reader') (flow written failures old new) calls files files') person file given result
+  shell_flushed (Ok x) result (raw, is, (run, pair, given, at, e)) (flushes same count) =
+      (raw, is, (run, pair, given, at, ended_on left read_failures written failures calls reader reader' files files' old mid new same person _ count e))
+  shell_flushed (Ok x) result (raw, is, (run, pair, given, at, e)) (fails same count) =
+      inr (refl, inl (raw, is, (run, pair, given, at, ended_breaks left read_failures written failures calls reader reader' files files' old mid new same person _ count e)))
   shell_flushed (Err fault) result (inl (refused, (reads, got, keeps))) (flushes same count) =
       inl (refused, (reads, record { got = same ∙ got.got; count = count ∙ got.count }, keeps))
   shell_flushed (Err fault) result (inl (refused, (reads, got, keeps))) (fails same count) =
@@ -135,10 +138,10 @@ module _ {Y X Z : Type 0} (left : Y → Option (List ℕ)) (read_failures : Y �
           kept = keeps;
         }),
       )
-  shell_flushed (Err fault) result (inr (is_shell, inl (raw, is, (start, rows, pair, begins, at, b)))) (flushes same count) =
-      inr (is_shell, inl (raw, is, (start, rows, pair, begins, at, broken_on left read_failures written failures calls reader reader' files files' old mid new same person _ count b)))
-  shell_flushed (Err fault) result (inr (is_shell, inl (raw, is, (start, rows, pair, begins, at, b)))) (fails same count) =
-      inr (refl, inl (raw, is, (start, rows, pair, begins, at, broken_breaks left read_failures written failures calls reader reader' files files' old mid new same person _ count b)))
+  shell_flushed (Err fault) result (inr (is_shell, inl (raw, is, (run, pair, given, at, b)))) (flushes same count) =
+      inr (is_shell, inl (raw, is, (run, pair, given, at, broken_on left read_failures written failures calls reader reader' files files' old mid new same person _ count b)))
+  shell_flushed (Err fault) result (inr (is_shell, inl (raw, is, (run, pair, given, at, b)))) (fails same count) =
+      inr (refl, inl (raw, is, (run, pair, given, at, broken_breaks left read_failures written failures calls reader reader' files files' old mid new same person _ count b)))
   shell_flushed (Err fault) result (inr (is_shell, inr o)) (flushes same count) =
       inr (
         is_shell,
@@ -162,13 +165,13 @@ module _ {Y X Z : Type 0} (left : Y → Option (List ℕ)) (read_failures : Y �
 
   -- no call fails fewer times than before
   more_failures : (done : Result (Unit {0}) RunFault)
-      → EndsShell (passes_of (flow left read_failures reader reader') (flow written failures old mid) calls files files') person file begun done
+      → EndsShell (passes_of (flow left read_failures reader reader') (flow written failures old mid) calls files files') person file given done
       → failures old ≤ failures mid
-  more_failures (Ok x) (raw, is, (start, rows, pair, begins, at, e)) =
+  more_failures (Ok x) (raw, is, (run, pair, given, at, e)) =
       let c : failures mid ≡ failures old = e.got.count in omega (arith, c)
   more_failures (Err fault) (inl (refused, (reads, got, keeps))) =
       let c : failures mid ≡ failures old = got.count in omega (arith, c)
-  more_failures (Err fault) (inr (is_shell, inl (raw, is, (start, rows, pair, begins, at, b)))) =
+  more_failures (Err fault) (inr (is_shell, inl (raw, is, (run, pair, given, at, b)))) =
       elim b.failed [
         | inl (more, unfailed) ↦ (let c : failures mid ≡ failures old = unfailed in omega (arith, c))
         | inr more ↦ (let c : failures old < failures mid = more in omega (arith, c))
@@ -177,7 +180,7 @@ module _ {Y X Z : Type 0} (left : Y → Option (List ℕ)) (read_failures : Y �
       let more : failures old < failures mid = o.failed in omega (arith, more)
 
   pub shell_unfailed : (done result : Result (Unit {0}) RunFault)
-      → EndsShell (passes_of (flow left read_failures reader reader') (flow written failures old mid) calls files files') person file begun done
+      → EndsShell (passes_of (flow left read_failures reader reader') (flow written failures old mid) calls files files') person file given done
       → IsFlushed (flow written failures mid new) run_faults.Shell done result → failures new ≡ failures old
       → failures new ≡ failures mid
   shell_unfailed done result e (flushes same count) all = count
@@ -243,27 +246,22 @@ begins_session raw start given_start rows (Err e) same a b c = tt
 begins_session raw start given_start rows (Ok s) same a b c =
     (a, subst (λ (v : List Tern). BeginsAt raw v rows s.run.bench.pair) same b, c)
 
-pub opens : (file : List ℕ) (begun kind : Begun) (raw : Raw) (start : List Tern) (rows : List (List Tern)) (r : Result Session RunFault)
-    → begun ≡ kind → IsFileOf file raw → Begins raw kind start rows → IfOk r (BeginsSession raw start rows)
-    → IfOk r (OpensSession file begun)
-opens file begun kind raw start rows (Err e) same is begins h = tt
-opens file begun kind raw start rows (Ok s) same is begins h =
-    subst (λ (g : Begun). OpensSession file g s) (sym same) (raw, is, (start, rows, begins, h))
+module _ (file : List ℕ) (given : Given (List ℕ)) (raw : Raw) (run : ReadRun) (is : IsFileOf file raw) (begins : IsGiven raw given run)
+    (r : Result Session RunFault) where
+  pub opens : IfOk r (BeginsSession raw run.start run.rows) → IfOk r (OpensSession file given)
+  opens h = IfOk-weaker r _ _ (λ session b. (raw, is, (run, begins, b))) h
 
-pub refuses : (file : List ℕ) (begun kind : Begun) (raw : Raw) (start : List Tern) (rows : List (List Tern)) (r : Result Session RunFault)
-    → begun ≡ kind → IsFileOf file raw → Begins raw kind start rows → IfErr r (RefusesRows raw rows) → IfErr r (RefusesFiles file begun)
-refuses file begun kind raw start rows (Ok s) same is begins h = tt
-refuses file begun kind raw start rows (Err e) same is begins h =
-    subst (λ (g : Begun). RefusesFiles file g e) (sym same) (inr (raw, is, inr (start, rows, begins, h)))
+  pub refuses : IfErr r (RefusesRows raw run.rows) → IfErr r (RefusesFiles file given)
+  refuses h = IfErr-weaker r _ _ (λ fault f. inr (raw, is, inr (run, begins, f))) h
 
 -- ---- the session of lines
 
-module _ {Y X Z : Type 0} (passes : Passes Y X Z) (person : Bool) (file : List ℕ) (begun : Begun) where
+module _ {Y X Z : Type 0} (passes : Passes Y X Z) (person : Bool) (file : List ℕ) (given : Given (List ℕ)) where
   pub holds_session : (Ends : Passes Y X Z → Bool → SessionState → Type 0) (session : Session) (c : Conversation) (t : Talker)
-      → OpensSession file begun session → c.session ≡ session → c.has_warned ≡ false → t.conversation ≡ c → t.has_prompt ≡ person
+      → OpensSession file given session → c.session ≡ session → c.has_warned ≡ false → t.conversation ≡ c → t.has_prompt ≡ person
       → HoldsLine [] t.line → ((s : SessionState) → IsAt t.conversation s → HoldsLine [] t.line → Ends passes t.has_prompt s)
-      → (raw : Raw) × IsFileOf file raw × HoldsSession passes person raw begun Ends
-  holds_session Ends session c t (raw, is, (start, rows, begins, (sound, at, inside))) same calm talks prompts line ends =
+      → (raw : Raw) × IsFileOf file raw × HoldsSession passes person raw given Ends
+  holds_session Ends session c t (raw, is, (run, begins, (sound, at, inside))) same calm talks prompts line ends =
       let state = first_state raw session.run.bench.pair in
       let of_session : IsAt c state
       = record {
@@ -274,8 +272,7 @@ module _ {Y X Z : Type 0} (passes : Passes Y X Z) (person : Bool) (file : List �
         raw,
         is,
         (
-          start,
-          rows,
+          run,
           session.run.bench.pair,
           begins,
           at,
@@ -284,10 +281,10 @@ module _ {Y X Z : Type 0} (passes : Passes Y X Z) (person : Bool) (file : List �
       )
 
 module _ {Y X Z : Type 0} (left : Y → Option (List ℕ)) (read_failures : Y → ℕ) (written : X → Option (List ℕ)) (failures : X → ℕ)
-    (calls : Z → Option (List Call)) (reader : Y) (files : Z) (out : X) (person : Bool) (file : List ℕ) (begun : Begun) where
+    (calls : Z → Option (List Call)) (reader : Y) (files : Z) (out : X) (person : Bool) (file : List ℕ) (given : Given (List ℕ)) where
   -- nothing passes before a refusal
-  pub shell_refused : (fault : RunFault) → RefusesFiles file begun fault
-      → EndsShell (passes_of (flow left read_failures reader reader) (flow written failures out out) calls files files) person file begun (Err fault)
+  pub shell_refused : (fault : RunFault) → RefusesFiles file given fault
+      → EndsShell (passes_of (flow left read_failures reader reader) (flow written failures out out) calls files files) person file given (Err fault)
   shell_refused fault h = inl (h, (refl, record { got = sym (after-nil (written out)); count = refl }, refl))
 
 -- ---- the end of the input

@@ -9,20 +9,17 @@ use Rattle.aig_parts.specs.Limits.{cell_limit}
 use Rattle.aig_parts.specs.declared.fault.Fault.{Fault}
 use Rattle.aig_parts.specs.declared.raw.Raw.{Raw}
 use Rattle.aig_parts.specs.declared.ternary.Tern.{Tern}
-use Rattle.aig_base.specs.Value.{start_of}
 use Rattle.aig_bench.specs.BenchState.{CircuitAndRows}
 use Rattle.aig_bench.specs.declared.bench.fault.BenchFault.TheVariants as benches
-use Rattle.aig_run.specs.Command.{IsFileOf, RefusesCircuit, RefusesStimulus, Got}
+use Rattle.aig_run.specs.Command.{IsFileOf, RefusesCircuit, Got}
+use Rattle.aig_run.specs.Given.{IsGiven, ReadRun, RefusesGiven}
+use Rattle.aig_run.specs.declared.given.Given.{Given}
 use Rattle.aig_run.specs.declared.run_fault.RunFault.{RunFault}
 use Rattle.aig_run.specs.declared.run_fault.RunFault.TheVariants as run_faults
-use Rattle.aig_sim.specs.StimulusText.{SpellsRows}
-use Rattle.aig_sim.specs.WitnessText.{Witness, SpellsWitness, IsAdmitted, HasWitnessFault}
 use Rattle.aig_shell.specs.declared.conversation.Conversation.{Conversation}
 use Rattle.aig_shell.specs.declared.conversation.Next.{Next}
 use Rattle.aig_shell.specs.declared.conversation.Next.TheVariants as next
 use Rattle.aig_shell.specs.declared.session.Session.{Session}
-use Rattle.aig_shell.specs.declared.shell.Given.{Given}
-use Rattle.aig_shell.specs.declared.shell.Given.TheVariants as given
 use Rattle.aig_shell.specs.declared.refusal.Refusal.{Refusal}
 use Rattle.aig_shell.specs.declared.refusal.Refusal.TheVariants as refusals
 use Rattle.aig_shell.specs.Answers.{AnswersRequest, EndsAt, IsRefusal, LineAnswer, WordsAnswer, IsUnsaved, calm}
@@ -186,30 +183,6 @@ pub record BreaksDown {Y X Z : Type 0} (passes : Passes Y X Z) (person : Bool) (
 abbrev pub NothingPasses : {Y X Z : Type 0} → Passes Y X Z → Type 0
 NothingPasses passes = (passes.reader.new ≡ passes.reader.old) × Got passes.out [] × (passes.files_after ≡ passes.files)
 
--- the run that a session begins with: none, or that of the text of a stimulus or of a witness
-pub data Begun : Type 0 where
-  nothing : Begun
-  stimulus : (text : List ℕ) → Begun
-  witness : (text : List ℕ) → Begun
-
-abbrev pub begun_of : Given → Begun
-begun_of given.Nothing = nothing
-begun_of (given.Stimulus text) = stimulus text.now
-begun_of (given.Witness text) = witness text.now
-
--- the start and the rows of the run
-abbrev pub Begins : Raw → Begun → List Tern → List (List Tern) → Type 0
-Begins raw nothing start rows = (start ≡ start_of raw) × (rows ≡ [])
-Begins raw (stimulus text) start rows = SpellsRows (length raw.inputs) text rows × (start ≡ start_of raw)
-Begins raw (witness text) start rows =
-    (w : Witness) × SpellsWitness raw text w × IsAdmitted raw w × (start ≡ w.start) × (rows ≡ w.rows)
-
--- the text of the run is refused with this fault
-abbrev pub RefusesText : Raw → Begun → RunFault → Type 0
-RefusesText raw (stimulus text) (run_faults.Stimulus fault) = RefusesStimulus (length raw.inputs) text fault
-RefusesText raw (witness text) (run_faults.Witness fault) = HasWitnessFault raw text fault
-RefusesText raw begun _ = ⊥
-
 -- the rows are too many for the circuit, or memory is wanting
 abbrev pub RefusesRows : Raw → List (List Tern) → RunFault → Type 0
 RefusesRows raw rows (run_faults.Bench benches.Limit) = cell_limit < (raw.max_var + 1) * length rows
@@ -217,17 +190,16 @@ RefusesRows raw rows (run_faults.Bench benches.Memory) = Unit {0}
 RefusesRows raw rows run_faults.Memory = Unit {0}
 RefusesRows raw rows _ = ⊥
 
--- the run is refused with this fault
-abbrev pub RefusesRun : Raw → Begun → RunFault → Type 0
-RefusesRun raw begun fault =
-    RefusesText raw begun fault
-    ⊎ ((start : List Tern) × (rows : List (List Tern)) × Begins raw begun start rows × RefusesRows raw rows fault)
+-- the run that is given is refused with this fault
+abbrev pub RefusesRun : Raw → Given (List ℕ) → RunFault → Type 0
+RefusesRun raw given fault =
+    RefusesGiven raw given fault ⊎ ((run : ReadRun) × IsGiven raw given run × RefusesRows raw run.rows fault)
 
 -- the circuit is refused with this fault, or its run
-abbrev pub RefusesFiles : List ℕ → Begun → RunFault → Type 0
-RefusesFiles file begun fault =
+abbrev pub RefusesFiles : List ℕ → Given (List ℕ) → RunFault → Type 0
+RefusesFiles file given fault =
     ((why : Fault) × (fault ≡ run_faults.Circuit why) × RefusesCircuit file why)
-    ⊎ ((raw : Raw) × IsFileOf file raw × RefusesRun raw begun fault)
+    ⊎ ((raw : Raw) × IsFileOf file raw × RefusesRun raw given fault)
 
 -- a write or a flush fails, and nothing passes
 pub record OnlyFails {Y X Z : Type 0} (passes : Passes Y X Z) : Type 0 where
@@ -242,26 +214,26 @@ BeginsSession raw start rows session =
     IsSession session × BeginsAt raw start rows session.run.bench.pair
     × IsIn session (first_state raw session.run.bench.pair)
 
--- the session of a circuit's file and its run
-abbrev pub OpensSession : List ℕ → Begun → Session → Type 0
-OpensSession file begun session =
+-- the session of a circuit's file and the run that is given
+abbrev pub OpensSession : List ℕ → Given (List ℕ) → Session → Type 0
+OpensSession file given session =
     (raw : Raw) × IsFileOf file raw
-    × ((start : List Tern) × (rows : List (List Tern)) × Begins raw begun start rows
-    × BeginsSession raw start rows session)
+    × ((run : ReadRun) × IsGiven raw given run × BeginsSession raw run.start run.rows session)
 
--- a session over a circuit that a run begins
-abbrev pub HoldsSession : {Y X Z : Type 0} → Passes Y X Z → Bool → Raw → Begun
+-- a session over a circuit that begins with the run that is given
+abbrev pub HoldsSession : {Y X Z : Type 0} → Passes Y X Z → Bool → Raw → Given (List ℕ)
     → ((Passes Y X Z) → Bool → SessionState → Type 0) → Type 0
-HoldsSession passes person raw begun Ends =
-    (start : List Tern) × (rows : List (List Tern)) × (pair : CircuitAndRows) × Begins raw begun start rows
-    × BeginsAt raw start rows pair × Ends passes person (first_state raw pair)
+HoldsSession passes person raw given Ends =
+    (run : ReadRun) × (pair : CircuitAndRows) × IsGiven raw given run × BeginsAt raw run.start run.rows pair
+    × Ends passes person (first_state raw pair)
 
 -- How `shell` ends: all that is read is answered; or the circuit or its run is refused, and nothing passes; or a read
 -- or a write fails, be it a flush after a refusal.
-abbrev pub EndsShell : {Y X Z : Type 0} → Passes Y X Z → Bool → List ℕ → Begun → Result (Unit {0}) RunFault → Type 0
-EndsShell passes person file begun (Ok done) =
-    (raw : Raw) × IsFileOf file raw × HoldsSession passes person raw begun Ended
-EndsShell passes person file begun (Err fault) =
-    (RefusesFiles file begun fault × NothingPasses passes)
+abbrev pub EndsShell : {Y X Z : Type 0} → Passes Y X Z → Bool → List ℕ → Given (List ℕ) → Result (Unit {0}) RunFault
+    → Type 0
+EndsShell passes person file given (Ok done) =
+    (raw : Raw) × IsFileOf file raw × HoldsSession passes person raw given Ended
+EndsShell passes person file given (Err fault) =
+    (RefusesFiles file given fault × NothingPasses passes)
     ⊎ ((fault ≡ run_faults.Shell)
-    × (((raw : Raw) × IsFileOf file raw × HoldsSession passes person raw begun BreaksDown) ⊎ OnlyFails passes))
+    × (((raw : Raw) × IsFileOf file raw × HoldsSession passes person raw given BreaksDown) ⊎ OnlyFails passes))

@@ -26,4 +26,4 @@ mod topic;
 mod written;
 
 pub use keeper::{FileText, Keep, Reason, Unkept};
-pub use shell::{Given, run_shell};
+pub use shell::run_shell;

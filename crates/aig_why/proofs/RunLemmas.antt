@@ -1,5 +1,5 @@
 -- What the command returns for a run, from what its parts return.
-use Rattle.std.proofs.Common.{◌≡◌, ◌≢◌, ℕ, ◌+◌, ◌*◌, ◌<◌, ◌≤◌, List, [], ◌∷◌, ◌++◌, length, map, replicate, All}
+use Rattle.std.proofs.Common.{◌≡◌, ◌≢◌, inl, inr, ℕ, ◌+◌, ◌*◌, ◌<◌, ◌≤◌, List, [], ◌∷◌, ◌++◌, length, map, replicate, All}
 use Rattle.std.proofs.Common.{Contains, Option, None, Some, Err, refl, sym, ap, ◌∙◌, subst, arith}
 use Rattle.std.proofs.lemmas.List.{length-map}
 use Rattle.std.specs.Prelude.{IfSome}
@@ -18,20 +18,20 @@ use Rattle.aig_parts.specs.declared.ternary.Tern.{Tern}
 use Rattle.aig_reduce.proofs.Resets.{latches_length}
 use Rattle.aig_reduce.specs.Resets.{HasOtherResets}
 use Rattle.aig_run.proofs.Files.{MeansNoFault}
+use Rattle.aig_run.proofs.GivenRuns.{given_no_circuit}
+use Rattle.aig_run.specs.declared.given.Given.{Given}
 use Rattle.aig_run.specs.declared.run_fault.RunFault.{RunFault}
 use Rattle.aig_run.specs.declared.run_fault.RunFault.TheVariants as run_faults
 use Rattle.aig_signals.specs.Names.{literals_of}
 use Rattle.aig_signals.specs.declared.text.Naming.{Naming}
-use Rattle.aig_sim.specs.StimulusText.{SpellsRows}
-use Rattle.aig_sim.specs.WitnessText.{Witness, SpellsWitness, IsAdmitted}
 use Rattle.aig_why.proofs.TextLemmas.{latch_literals}
-use Rattle.aig_why.specs.Why.{IsFrame, least_frame, RefusesRun, Run, run_of, WritesWhy, WritesWhyWitness}
+use Rattle.aig_why.specs.Why.{IsFrame, least_frame, RefusesRun, Run, run_of, WritesWhy}
 use Rattle.aig_why.specs.declared.command.Span.{Span}
 use Rattle.aig_why.specs.declared.question.Question.{Question}
 use Rattle.aig_why.specs.Named.{IsNamingOf, NamesNothing}
 
 -- no bench is made
-pub bench_refused : (raw : Raw) (run : Run) (property : ℕ) (name : Option (List ℕ)) (span : Span) (fault : BenchFault)
+pub bench_refused : (raw : Raw) (run : Run) (property : Option ℕ) (name : Option (List ℕ)) (span : Span) (fault : BenchFault)
     → fault ≢ benches.Width → (fault ≡ benches.Limit → cell_limit < (raw.max_var + 1) * length run.rows)
     → RefusesRun raw run property name span (run_faults.Bench fault)
 bench_refused raw run property name span benches.Width other over = absurd (other refl)
@@ -58,33 +58,11 @@ module _ (raw other : Raw) (r : HasOtherResets raw other) where
   asked_with None h = tt
   asked_with (Some q) h = defined_with q.literals h
 
--- what it returns for the run over a stimulus
-module _ (raw : Raw) (stimulus name : List ℕ) (span : Span) (rows : List (List Tern)) (spelled : SpellsRows (length raw.inputs) stimulus rows) where
-  abbrev pub ByResets : Run
-  ByResets = record { start = start_of raw; rows = rows }
-
-  pub refuses_why : (fault : RunFault) → RefusesRun raw ByResets 0 (Some name) span fault → WritesWhy stimulus name span raw (Err fault) []
-  refuses_why (run_faults.Stimulus fault) h = absurd h
-  refuses_why fault h = (rows, spelled, (h, refl))
-
--- for the run of a witness
-module _ (raw : Raw) (text : List ℕ) (name : Option (List ℕ)) (span : Span) (w : Witness) (spelled : SpellsWitness raw text w)
-    (admitted : IsAdmitted raw w) where
-  abbrev pub OfWitness : Run
-  OfWitness = record { start = w.start; rows = w.rows }
-
-  pub refuses_witness : (fault : RunFault) → RefusesRun raw OfWitness w.property name span fault
-      → WritesWhyWitness text name span raw (Err fault) []
-  refuses_witness (run_faults.Witness fault) h = absurd h
-  refuses_witness fault h = (w, spelled, admitted, (h, refl))
-
 -- it returns no fault of a circuit file where there is a circuit
-pub why_no_circuit : (raw : Raw) (stimulus name : List ℕ) (span : Span) → MeansNoFault (WritesWhy stimulus name span) raw
-why_no_circuit raw stimulus name span fault bytes (rows, spelled, (h, none)) = h
-
-pub witness_no_circuit : (raw : Raw) (text : List ℕ) (name : Option (List ℕ)) (span : Span)
-    → MeansNoFault (WritesWhyWitness text name span) raw
-witness_no_circuit raw text name span fault bytes (w, spelled, admitted, (h, none)) = h
+pub why_no_circuit : (raw : Raw) (given : Given (List ℕ)) (name : Option (List ℕ)) (span : Span)
+    → MeansNoFault (WritesWhy given name span) raw
+why_no_circuit raw given name span fault bytes (inl h, none) = given_no_circuit raw given fault h
+why_no_circuit raw given name span fault bytes (inr (run, is, h), none) = h
 
 -- the cells of a run on a bench
 module _ (raw : Raw) (pair : CircuitAndRows) (n : Naming) (of : IsNamingOf raw pair n) where

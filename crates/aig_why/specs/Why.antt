@@ -1,7 +1,7 @@
 -- What `aig why` writes (our own choice).
 -- Example: with depth 3 at frame 10 the least frame is 7.
 use Rattle.std.specs.Prelude.{◌≡◌, ◌≢◌, ℕ, ◌+◌, ◌-◌, ◌*◌, ◌<◌, ◌≤◌, List, [], ◌∷◌, ◌++◌, length, All, Option, None}
-use Rattle.std.specs.Prelude.{Some, Result, Ok, Err, slice_get}
+use Rattle.std.specs.Prelude.{Some, Result, Ok, Err, slice_get, ◌⊎◌, ⊤}
 use Rattle.aig_base.specs.Sections.{IsLatchLiteral}
 use Rattle.aig_base.specs.Value.{start_of}
 use Rattle.aig_parts.specs.Limits.{cell_limit}
@@ -12,14 +12,13 @@ use Rattle.aig_bench.specs.declared.bench.fault.BenchFault.TheVariants as benche
 use Rattle.aig_bench.specs.BenchState.{CircuitAndRows}
 use Rattle.aig_causes.specs.Causes.{Moment, Sources}
 use Rattle.aig_causes.specs.Explanation.{ComesDown, LineState, named_at}
-use Rattle.aig_run.specs.Command.{RefusesStimulus}
+use Rattle.aig_run.specs.Given.{IsGiven, ReadRun, RefusesGiven}
+use Rattle.aig_run.specs.declared.given.Given.{Given}
 use Rattle.aig_run.specs.declared.run_fault.RunFault.{RunFault}
 use Rattle.aig_run.specs.declared.run_fault.RunFault.TheVariants as run_faults
 use Rattle.aig_run.specs.declared.why_fault.WhyFault.TheVariants as why_faults
 use Rattle.aig_signals.specs.Lookup.{Means, Unknown}
 use Rattle.aig_signals.specs.Names.{first_name}
-use Rattle.aig_sim.specs.StimulusText.{SpellsRows}
-use Rattle.aig_sim.specs.WitnessText.{Witness, SpellsWitness, IsAdmitted, HasWitnessFault}
 use Rattle.aig_why.specs.Lines.{AreFrameTexts, AreLastTexts, IsAskedText}
 use Rattle.aig_why.specs.declared.command.Span.{Span}
 
@@ -31,6 +30,10 @@ pub record Run : Type 0 where
 -- the run of a bench
 abbrev pub run_of : CircuitAndRows → Run
 run_of p = record { start = start_of p.circuit; rows = p.rows }
+
+-- a run that was read
+abbrev pub run_read : ReadRun → Run
+run_read r = record { start = r.start; rows = r.rows }
 
 -- the run at one of its frames
 abbrev pub at : Run → ℕ → Moment
@@ -64,60 +67,53 @@ pub record IsExplanation (raw : Raw) (run : Run) (name literals : List ℕ) (t l
   pub last_are : AreLastTexts raw (at run f) (named_at asked frames).latches last
   pub text_is : text ≡ first ++ (lines ++ last)
 
--- what is asked for: what a name means, or, where none is given, a bad state property by its first name
-abbrev pub IsQuestion : Raw → ℕ → Option (List ℕ) → List ℕ → List ℕ → Type 0
-IsQuestion raw property None name literals =
+-- What is asked for: what a name means, or, where none is given, the bad state property of the run by its first name.
+abbrev pub IsQuestion : Raw → Option (List ℕ) → Option ℕ → List ℕ → List ℕ → Type 0
+IsQuestion raw (Some given) property name literals = (name ≡ given) × Means raw given literals
+IsQuestion raw None (Some property) name literals =
     (l : ℕ) × (slice_get raw.bad property ≡ Some l) × (literals ≡ l ∷ []) × (name ≡ first_name raw Bad property)
-IsQuestion raw property (Some given) name literals = (name ≡ given) × Means raw given literals
+IsQuestion raw None None name literals = ⊥
 
-abbrev pub IsNoQuestion : Raw → Option (List ℕ) → Type 0
-IsNoQuestion raw None = ⊥
-IsNoQuestion raw (Some given) = Unknown raw given
+-- nothing is: nothing has the name, or there is neither a name nor a property
+abbrev pub IsNoQuestion : Raw → Option (List ℕ) → Option ℕ → Type 0
+IsNoQuestion raw (Some given) property = Unknown raw given
+IsNoQuestion raw None (Some property) = ⊥
+IsNoQuestion raw None None = ⊤
 
 -- a bench has room for the cells of the run
 abbrev pub IsWithinCells : Raw → Run → Type 0
 IsWithinCells raw run = (raw.max_var + 1) * length run.rows ≤ cell_limit
 
 -- the first fault after those of the files: too many cells; no such name; no such frame
-abbrev pub RefusesRun : Raw → Run → ℕ → Option (List ℕ) → Span → RunFault → Type 0
+abbrev pub RefusesRun : Raw → Run → Option ℕ → Option (List ℕ) → Span → RunFault → Type 0
 RefusesRun raw run property name span (run_faults.Bench benches.Limit) =
     cell_limit < (raw.max_var + 1) * length run.rows
 RefusesRun raw run property name span (run_faults.Bench benches.Memory) = Unit {0}
-RefusesRun raw run property name span (run_faults.Why why_faults.Name) = IsWithinCells raw run × IsNoQuestion raw name
+RefusesRun raw run property name span (run_faults.Why why_faults.Name) =
+    IsWithinCells raw run × IsNoQuestion raw name property
 RefusesRun raw run property name span (run_faults.Why why_faults.Frame) =
-    IsWithinCells raw run × ((shown : List ℕ) × (literals : List ℕ) × IsQuestion raw property name shown literals)
+    IsWithinCells raw run × ((shown : List ℕ) × (literals : List ℕ) × IsQuestion raw name property shown literals)
     × ((t : ℕ) → IsFrame span.frame (length run.rows) t → ⊥)
 RefusesRun raw run property name span run_faults.Memory = Unit {0}
 RefusesRun raw run property name span _ = ⊥
 
 -- the text explains what is asked for, at the frame that is asked for
-pub record ExplainsRun (raw : Raw) (run : Run) (property : ℕ) (name : Option (List ℕ)) (span : Span)
+pub record ExplainsRun (raw : Raw) (run : Run) (property : Option ℕ) (name : Option (List ℕ)) (span : Span)
     (text : List ℕ) : Type 0 where
   pub cells : IsWithinCells raw run
   pub shown : List ℕ
   pub literals : List ℕ
-  pub question : IsQuestion raw property name shown literals
+  pub question : IsQuestion raw name property shown literals
   pub t : ℕ
   pub frame : IsFrame span.frame (length run.rows) t
   pub explanation : IsExplanation raw run shown literals t (least_frame span.depth t) text
 
--- what the command returns and writes for a run; without a name it explains the property
-abbrev pub WritesRun : Raw → Run → ℕ → Option (List ℕ) → Span → Result (Unit {0}) RunFault → List ℕ → Type 0
-WritesRun raw run property name span (Ok done) written = ExplainsRun raw run property name span written
-WritesRun raw run property name span (Err fault) written = RefusesRun raw run property name span fault × (written ≡ [])
-
--- what `aig why --of NAME` returns and writes for a stimulus of a circuit
-abbrev pub WritesWhy : List ℕ → List ℕ → Span → Raw → Result (Unit {0}) RunFault → List ℕ → Type 0
-WritesWhy stimulus name span raw (Err (run_faults.Stimulus fault)) written =
-    RefusesStimulus (length raw.inputs) stimulus fault × (written ≡ [])
-WritesWhy stimulus name span raw answer written =
-    (rows : List (List Tern)) × SpellsRows (length raw.inputs) stimulus rows
-    × WritesRun raw (record { start = start_of raw; rows = rows }) 0 (Some name) span answer written
-
--- what `aig why --witness` returns and writes for a witness of a circuit
-abbrev pub WritesWhyWitness : List ℕ → Option (List ℕ) → Span → Raw → Result (Unit {0}) RunFault → List ℕ → Type 0
-WritesWhyWitness text name span raw (Err (run_faults.Witness fault)) written =
-    HasWitnessFault raw text fault × (written ≡ [])
-WritesWhyWitness text name span raw answer written =
-    (w : Witness) × SpellsWitness raw text w × IsAdmitted raw w
-    × WritesRun raw (record { start = w.start; rows = w.rows }) w.property name span answer written
+-- What `aig why` returns and writes for the run that is given with a circuit: the lines; or nothing, where that run is
+-- refused, or what is asked of it.
+abbrev pub WritesWhy : Given (List ℕ) → Option (List ℕ) → Span → Raw → Result (Unit {0}) RunFault → List ℕ → Type 0
+WritesWhy given name span raw (Ok done) written =
+    (run : ReadRun) × IsGiven raw given run × ExplainsRun raw (run_read run) run.property name span written
+WritesWhy given name span raw (Err fault) written =
+    (RefusesGiven raw given fault
+    ⊎ ((run : ReadRun) × IsGiven raw given run × RefusesRun raw (run_read run) run.property name span fault))
+    × (written ≡ [])

@@ -8,7 +8,8 @@ ghost use Rattle.aig_parts.specs.Literal.{variable};
 ghost use Rattle.aig_parts.specs.declared.raw.Raw.{Raw};
 ghost use Rattle.aig_base.specs.Sections.{IsDefined};
 ghost use Rattle.aig_run.specs.Command.{CommandEnds, OfFile};
-ghost use Rattle.aig_why.specs.Why.{ExplainsRun, IsFrame, least_frame, RefusesRun, run_of, WritesWhy, WritesWhyWitness};
+ghost use Rattle.aig_run.specs.Given.{given_text};
+ghost use Rattle.aig_why.specs.Why.{ExplainsRun, IsFrame, least_frame, RefusesRun, run_of, WritesWhy};
 ghost use Rattle.aig_why.specs.state.Asked.{IsAskedAs};
 ghost use Rattle.aig_why.specs.Named.{IsNamingOf, NamesNothing};
 
@@ -16,9 +17,9 @@ use crate::lines::text_of;
 use crate::question::Question;
 use crate::run::{Frames, Run};
 use aig_base::{Circuit, Io, Tern, Write, write_all};
-use aig_run::{RunFault, WhyFault, flushed, read_circuit, read_rows};
+use aig_run::{Given, GivenRun, RunFault, WhyFault, flushed, read_circuit, read_given};
 use aig_signals::Naming;
-use aig_sim::{PlaneGrid, Stimulus, Witness, first_states, read_witness};
+use aig_sim::{PlaneGrid, Stimulus};
 use std::alloc::Global;
 
 /// Which frames are explained: one of them, the last where none is named, and so many frames before it, all where no
@@ -67,10 +68,10 @@ fn explain_run(
     requires none { NamesNothing run.now.bench.pair.circuit naming.old }
     requires of { (raw : Raw) × IsNamingOf raw run.now.bench.pair naming.old }
     ensures text { (raw : Raw) → IsNamingOf raw run.now.bench.pair naming.old → raw.latches ≡ run.now.latches.items →
-        (property : ℕ) (name : Option (List ℕ)) → IsAskedAs raw property name (option_copied question.entry) →
+        (property : Option ℕ) (name : Option (List ℕ)) → IsAskedAs raw name property (option_copied question.entry) →
         IfOk result (λ text. ExplainsRun raw (run_of run.now.bench.pair) property name span text.items) }
     ensures fault { (raw : Raw) → IsNamingOf raw run.now.bench.pair naming.old →
-        (property : ℕ) (name : Option (List ℕ)) → IsAskedAs raw property name (option_copied question.entry) →
+        (property : Option ℕ) (name : Option (List ℕ)) → IsAskedAs raw name property (option_copied question.entry) →
         IfErr result (RefusesRun raw (run_of run.now.bench.pair) property name span) }
 {
     let Some(question) = question else {
@@ -95,12 +96,12 @@ fn explain(
     requires width { rows.width ≡ length circuit.inputs }
     requires range { IfSome (option_copied question) (λ q. All (λ l. variable l ≤ circuit.max_var) q.literals) }
     requires defined { IfSome (option_copied question) (λ q. All (λ l. IsDefined circuit (variable l)) q.literals) }
-    ensures text { (property : ℕ) (name : Option (List ℕ))
-        → IsAskedAs circuit property name (option_copied question.entry) →
+    ensures text { (property : Option ℕ) (name : Option (List ℕ))
+        → IsAskedAs circuit name property (option_copied question.entry) →
         IfOk result (λ text. ExplainsRun circuit (record { start = start.now; rows = rows.rows }) property name span
         text.items) }
-    ensures fault { (property : ℕ) (name : Option (List ℕ))
-        → IsAskedAs circuit property name (option_copied question.entry) →
+    ensures fault { (property : Option ℕ) (name : Option (List ℕ))
+        → IsAskedAs circuit name property (option_copied question.entry) →
         IfErr result (RefusesRun circuit (record { start = start.now; rows = rows.rows }) property name span) }
 {
     let mut naming = Naming::new(alloc, &circuit)?;
@@ -108,43 +109,25 @@ fn explain(
     explain_run(alloc, &run, &mut naming, question, span)
 }
 
-/// The lines for the run of a circuit over a stimulus.
-fn explain_stimulus(
+/// The lines for the run that is given with a circuit.
+fn explain_given(
     alloc: Global,
     circuit: Circuit,
-    stimulus: &[u8],
-    name: &[u8],
-    span: Span,
-) -> Result<Vec<u8>, RunFault>
-    ensures text { IfOk result (λ text. WritesWhy stimulus.now name.now span circuit (Ok tt) text.items) }
-    ensures fault { IfErr result (λ fault. WritesWhy stimulus.now name.now span circuit (Err fault) []) }
-{
-    circuit.facts();
-    let rows = read_rows(alloc, &circuit, stimulus)?;
-    let start = first_states(alloc, &circuit)?;
-    let question = Question::new(alloc, &circuit, 0, Some(name))?;
-    explain(alloc, circuit, &start, rows, question.as_ref(), span)
-}
-
-/// The lines for the run of a witness of a circuit.
-fn explain_witness(
-    alloc: Global,
-    circuit: Circuit,
-    witness: &[u8],
+    given: Given<&[u8]>,
     name: Option<&[u8]>,
     span: Span,
 ) -> Result<Vec<u8>, RunFault>
-    ensures text { IfOk result (λ text. WritesWhyWitness witness.now (option_copied name.entry) span circuit (Ok tt)
-        text.items) }
-    ensures fault { IfErr result (λ fault. WritesWhyWitness witness.now (option_copied name.entry) span circuit
+    ensures text { IfOk result (λ text. WritesWhy (given_text given.entry) (option_copied name.entry) span circuit
+        (Ok tt) text.items) }
+    ensures fault { IfErr result (λ fault. WritesWhy (given_text given.entry) (option_copied name.entry) span circuit
         (Err fault) []) }
 {
-    let Witness {
+    let GivenRun {
         property,
         start,
         rows,
-    } = read_witness(alloc, &circuit, witness)?;
-    let question = Question::new(alloc, &circuit, property, name)?;
+    } = read_given(alloc, &circuit, given)?;
+    let question = Question::new(alloc, &circuit, name, property)?;
     explain(alloc, circuit, &start, rows, question.as_ref(), span)
 }
 
@@ -159,73 +142,39 @@ fn write_text<W: Write>(text: &[u8], out: &mut W) -> Result<(), RunFault>
     }
 }
 
-/// Reads a circuit, and writes the lines for its run over a stimulus, without a flush at the end.
+/// Reads a circuit, and writes the lines for its run, without a flush at the end.
 fn read_and_explain<W: Write>(
     alloc: Global,
     circuit: &[u8],
-    stimulus: &[u8],
-    name: &[u8],
-    span: Span,
-    out: &mut W,
-) -> Result<(), RunFault>
-    ensures { CommandEnds (flow W.written W.failures out.old out.new) RunFault.Output
-        (OfFile circuit.now (WritesWhy stimulus.now name.now span)) result }
-{
-    let circuit = read_circuit(alloc, circuit)?;
-    let text = explain_stimulus(alloc, circuit, stimulus, name, span)?;
-    write_text(&text, out)
-}
-
-/// Reads a circuit, and writes the lines for the run of its witness, without a flush at the end.
-fn read_and_explain_witness<W: Write>(
-    alloc: Global,
-    circuit: &[u8],
-    witness: &[u8],
+    given: Given<&[u8]>,
     name: Option<&[u8]>,
     span: Span,
     out: &mut W,
 ) -> Result<(), RunFault>
     ensures { CommandEnds (flow W.written W.failures out.old out.new) RunFault.Output
-        (OfFile circuit.now (WritesWhyWitness witness.now (option_copied name.entry) span)) result }
+        (OfFile circuit.now (WritesWhy (given_text given.entry) (option_copied name.entry) span)) result }
 {
     let circuit = read_circuit(alloc, circuit)?;
-    let text = explain_witness(alloc, circuit, witness, name, span)?;
+    let text = explain_given(alloc, circuit, given, name, span)?;
     write_text(&text, out)
 }
 
-/// The command `why --of NAME`: writes why the literals that a name means are what they are at a frame of the run over
-/// a stimulus, from the start by the resets, in lines of which each is right by itself. It flushes the writer before it
-/// returns.
+/// The command `why`: writes why the literals that a name means are what they are at a frame of the run that is given,
+/// in lines of which each is right by itself. Without a name it explains the property of the witness that is given,
+/// whatever the verdict on that; without a witness nothing is asked for then, and `WhyFault::Name` is the answer. It
+/// flushes the writer before it returns.
 pub fn why<W: Write>(
     alloc: Global,
     circuit: &[u8],
-    stimulus: &[u8],
-    name: &[u8],
-    span: Span,
-    out: &mut W,
-) -> Result<(), RunFault>
-    ensures ends { CommandEnds (flow W.written W.failures out.old out.new) RunFault.Output
-        (OfFile circuit.now (WritesWhy stimulus.now name.now span)) result }
-    ensures flushed { W.failures out.new ≡ W.failures out.old → W.is_flushed out.new }
-{
-    let done = read_and_explain(alloc, circuit, stimulus, name, span, out);
-    flushed(done, out, RunFault::Output)
-}
-
-/// The command `why --witness`: the same for the run of a witness, from its own start, whatever its verdict. Without a
-/// name it explains the witness's property.
-pub fn why_witness<W: Write>(
-    alloc: Global,
-    circuit: &[u8],
-    witness: &[u8],
+    given: Given<&[u8]>,
     name: Option<&[u8]>,
     span: Span,
     out: &mut W,
 ) -> Result<(), RunFault>
     ensures ends { CommandEnds (flow W.written W.failures out.old out.new) RunFault.Output
-        (OfFile circuit.now (WritesWhyWitness witness.now (option_copied name.entry) span)) result }
+        (OfFile circuit.now (WritesWhy (given_text given.entry) (option_copied name.entry) span)) result }
     ensures flushed { W.failures out.new ≡ W.failures out.old → W.is_flushed out.new }
 {
-    let done = read_and_explain_witness(alloc, circuit, witness, name, span, out);
+    let done = read_and_explain(alloc, circuit, given, name, span, out);
     flushed(done, out, RunFault::Output)
 }

@@ -1,5 +1,5 @@
 //! What is asked for.
-ghost use Rattle.std.specs.Prelude.{◌≡◌, ◌<◌, ◌≤◌, All, length, option_copied, IfNone, IfOk, IfSome, None};
+ghost use Rattle.std.specs.Prelude.{◌≡◌, ◌<◌, ◌≤◌, All, length, option_copied, IfNone, IfOk, IfSome, None, Some};
 ghost use Rattle.aig_parts.specs.Literal.{variable};
 ghost use Rattle.aig_base.specs.Sections.{IsDefined};
 ghost use Rattle.aig_signals.specs.Lookup.{Means, Unknown};
@@ -44,7 +44,7 @@ impl Question {
     /// A bad state property, by its first name.
     pub fn of_property(alloc: Global, circuit: &Circuit, property: u32) -> Result<Question, Memory>
         requires { property < length circuit.now.bad }
-        ensures question { IfOk result (λ q. IsQuestion circuit.now property None q.name q.literals) }
+        ensures question { IfOk result (λ q. IsQuestion circuit.now None (Some property) q.name q.literals) }
         ensures range { IfOk result (λ q. All (λ l. variable l ≤ circuit.now.max_var) q.literals) }
         ensures defined { IfOk result (λ q. All (λ l. IsDefined circuit.now (variable l)) q.literals) }
     {
@@ -59,15 +59,15 @@ impl Question {
         })
     }
 
-    /// What a name means, none where it means none; without a name the property.
+    /// What a name means, none where it means none; without a name the property, if there is one.
     pub(crate) fn new(
         alloc: Global,
         circuit: &Circuit,
-        property: u32,
         name: Option<&[u8]>,
+        property: Option<u32>,
     ) -> Result<Option<Question>, Memory>
-        requires { option_copied name ≡ None → property < length circuit.now.bad }
-        ensures asked { IfOk result (IsAskedAs circuit.now property (option_copied name.entry)) }
+        requires { IfSome property (λ p. p < length circuit.now.bad) }
+        ensures asked { IfOk result (IsAskedAs circuit.now (option_copied name.entry) property) }
         ensures range { IfOk result (λ found. IfSome found
             (λ q. All (λ l. variable l ≤ circuit.now.max_var) q.literals)) }
         ensures defined { IfOk result (λ found. IfSome found
@@ -75,7 +75,10 @@ impl Question {
     {
         match name {
             Some(name) => Question::of_name(alloc, circuit, name),
-            None => Ok(Some(Question::of_property(alloc, circuit, property)?)),
+            None => match property {
+                Some(property) => Ok(Some(Question::of_property(alloc, circuit, property)?)),
+                None => Ok(None),
+            },
         }
     }
 }

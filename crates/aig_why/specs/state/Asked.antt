@@ -4,7 +4,7 @@ use Rattle.aig_parts.specs.declared.raw.Raw.{Raw}
 use Rattle.aig_why.specs.Why.{IsNoQuestion, IsQuestion}
 use Rattle.aig_why.specs.declared.question.Question.{Question}
 
--- a name and literals; none where the given name means nothing
-abbrev pub IsAskedAs : Raw → ℕ → Option (List ℕ) → Option Question → Type 0
-IsAskedAs raw property name None = IsNoQuestion raw name
-IsAskedAs raw property name (Some q) = IsQuestion raw property name q.name q.literals
+-- a name and literals; none where nothing is asked for
+abbrev pub IsAskedAs : Raw → Option (List ℕ) → Option ℕ → Option Question → Type 0
+IsAskedAs raw name property None = IsNoQuestion raw name property
+IsAskedAs raw name property (Some q) = IsQuestion raw name property q.name q.literals

@@ -1,26 +1,28 @@
-use Rattle.std.proofs.Common.{ℕ, List, Option, IfSome, subst}
+use Rattle.std.proofs.Common.{ℕ, List, Option, subst}
+use Rattle.std.specs.Prelude.{option_copied}
 use Rattle.aig_why.specs.Why.{WritesWhy}
 use Rattle.aig_run.specs.Command.{OfFile}
+use Rattle.aig_run.specs.Given.{given_text}
 use Rattle.aig_terminal.specs.declared.part.Part.TheVariants as parts
 use Rattle.aig.specs.Ends.{Answers, Ends, as_meant, end_of}
-use Rattle.aig.proofs.Endings.{answers, of_any, of_whole, slice_whole, ends_unread}
+use Rattle.aig.specs.GivenFiles.{given_left, given_part}
+use Rattle.aig.proofs.Endings.{answers, ends_unread, of_any_two, of_both, slice_whole}
 use Rattle.aig.proofs.why.why.Goals as goal
 
 pub returns : goal.returns
 returns g c =
     let file = c.as_slice-file.result.now in
-    let text = c.as_slice-text.result.now in
+    let run = given_text c.text_of_given-run.result in
     record {
       ends =
-          of_whole (g.F.Read.remaining c.args.circuit) file
+          of_both (g.F.Read.remaining c.args.circuit) (given_left g.F.Read.remaining c.args.given) file run
           (slice_whole (g.F.Read.remaining c.args.circuit) _ _ c.as_slice-file.ensures.value c.in_ok-circuit.ensures.whole)
-          (λ xs. IfSome (g.F.Read.remaining c.args.stimulus) (λ ys. Ends end_of (OfFile xs (WritesWhy ys c.args.name.now c.args.span)) c.ended.result))
-          (of_whole (g.F.Read.remaining c.args.stimulus) text
-          (slice_whole (g.F.Read.remaining c.args.stimulus) _ _ c.as_slice-text.ensures.value c.in_ok-stimulus.ensures.whole)
-          (λ ys. Ends end_of (OfFile file (WritesWhy ys c.args.name.now c.args.span)) c.ended.result)
+          (slice_whole (given_left g.F.Read.remaining c.args.given) _ _ c.text_of_given-run.ensures c.in_ok-given.ensures.whole)
+          (λ file run. Ends end_of (OfFile file (WritesWhy run (option_copied c.args.name) c.args.span)) c.ended.result)
           (as_meant c.why.result
-          (subst (λ (name : List ℕ). Answers (OfFile file (WritesWhy text name c.args.span)) c.why.result) c.as_bytes.ensures.value
-          (answers _ (OfFile file (WritesWhy text c.as_bytes.result.now c.args.span)) c.why.result c.why.ensures.ends)) c.ended.ensures));
+          (subst (λ (name : Option (List ℕ)). Answers (OfFile file (WritesWhy run name c.args.span)) c.why.result) c.bytes_of.ensures
+          (answers _ (OfFile file (WritesWhy run (option_copied c.bytes_of.result) c.args.span)) c.why.result c.why.ensures.ends))
+          c.ended.ensures);
     }
 
 pub returns-in_err-circuit : goal.returns-in_err-circuit
@@ -28,19 +30,17 @@ returns-in_err-circuit g c =
     let r = c.from_residual in
     record {
       ends =
-          of_any (g.F.Read.remaining c.args.circuit)
-          (λ xs. IfSome (g.F.Read.remaining c.args.stimulus) (λ ys. Ends end_of (OfFile xs (WritesWhy ys c.args.name.now c.args.span)) r.result))
-          (λ xs. of_any (g.F.Read.remaining c.args.stimulus) (λ ys. Ends end_of (OfFile xs (WritesWhy ys c.args.name.now c.args.span)) r.result)
-          (λ ys. (ends_unread r.result c.in_err-circuit.field-0.0 parts.Circuit c.in_err-circuit.ensures.fails r.ensures.1)));
+          of_any_two (g.F.Read.remaining c.args.circuit) (given_left g.F.Read.remaining c.args.given)
+          (λ file run. Ends end_of (OfFile file (WritesWhy run (option_copied c.args.name) c.args.span)) r.result)
+          (λ file run. ends_unread r.result c.in_err-circuit.field-0.0 parts.Circuit c.in_err-circuit.ensures.fails r.ensures.1);
     }
 
-pub returns-in_err-stimulus : goal.returns-in_err-stimulus
-returns-in_err-stimulus g c =
-    let r = c.from_residual-in_err-stimulus in
+pub returns-in_err-given : goal.returns-in_err-given
+returns-in_err-given g c =
+    let r = c.from_residual-in_err-given in
     record {
       ends =
-          of_any (g.F.Read.remaining c.args.circuit)
-          (λ xs. IfSome (g.F.Read.remaining c.args.stimulus) (λ ys. Ends end_of (OfFile xs (WritesWhy ys c.args.name.now c.args.span)) r.result))
-          (λ xs. of_any (g.F.Read.remaining c.args.stimulus) (λ ys. Ends end_of (OfFile xs (WritesWhy ys c.args.name.now c.args.span)) r.result)
-          (λ ys. (ends_unread r.result c.in_err-stimulus.field-0.0 parts.Stimulus c.in_err-stimulus.ensures.fails r.ensures.1)));
+          of_any_two (g.F.Read.remaining c.args.circuit) (given_left g.F.Read.remaining c.args.given)
+          (λ file run. Ends end_of (OfFile file (WritesWhy run (option_copied c.args.name) c.args.span)) r.result)
+          (λ file run. ends_unread r.result c.in_err-given.field-0.0 (given_part c.args.given) c.in_err-given.ensures.fails r.ensures.1);
     }
