@@ -9,6 +9,7 @@ pub mod InfoLemmas
 pub mod KeptFiles
 pub mod ModelWitnesses
 pub mod NamedRuns
+pub mod Questions
 pub mod Reductions
 pub mod Refutations
 pub mod Replays

@@ -8,6 +8,7 @@ pub mod GoesWell
 pub mod Info
 pub mod ModelWitness
 pub mod Names
+pub mod Questions
 pub mod Reduce
 pub mod Refute
 pub mod Select

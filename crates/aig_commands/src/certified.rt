@@ -9,16 +9,9 @@ ghost use Rattle.aig_commands.specs.state.Extended.{IsExtensionOf};
 
 use aig_base::{Circuit, Fault};
 use aig_certificate::{StrengthenFault, strengthened};
-use aig_cnf::{CnfFault, Goal, Query};
+use aig_cnf::CnfFault;
 use aig_run::{RunFault, read_circuit};
 use std::alloc::Global;
-
-/// The formula for a strengthened circuit: its one bad state property is kept by the starts and by each step.
-pub(crate) const ONE_FORMULA: Query = Query {
-    goal: Goal::Induction,
-    frames: 1,
-    property: 0,
-};
 
 /// A circuit's file, the position of one of its bad state properties, and the file of a certificate for it.
 #[derive(Clone, Copy)]

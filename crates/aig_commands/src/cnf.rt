@@ -1,22 +1,19 @@
-//! `cnf`: the formula that a bad state is reached within some frames, with `--step` that of an induction step, with
-//! `--certificate` that of an induction over a circuit that is strengthened by a certificate.
+//! `cnf`: the formula of a question about a circuit.
 ghost use Rattle.std.specs.Prelude.{◌≡◌, IfErr};
 ghost use Rattle.aig_bytes.specs.Bytes.{Writes};
 ghost use Rattle.aig_bytes.specs.Flow.{flow};
 ghost use Rattle.aig_cnf.specs.CnfText.{cnf_text};
-ghost use Rattle.aig_run.specs.Command.{CommandEnds, OfFile};
-ghost use Rattle.aig_commands.specs.Certified.{OfCertified};
-ghost use Rattle.aig_commands.specs.Cnf.{WritesAsked, WritesCertified, WritesFormula};
-ghost use Rattle.aig_commands.specs.declared.certified.Purpose.TheVariants as purposes;
+ghost use Rattle.aig_run.specs.Command.{CommandEnds};
+ghost use Rattle.aig_commands.specs.Questions.{WritesFor, WritesQuestion, asked_of};
 
-use crate::certified::{Certified, ONE_FORMULA, Purpose};
+use crate::question::Question;
 use aig_base::{Circuit, Io, Write};
-use aig_cnf::{Formula, Heading, Query};
-use aig_run::{RunFault, flushed, read_circuit};
+use aig_cnf::{Formula, Heading};
+use aig_run::{RunFault, flushed};
 use std::alloc::Global;
 
 /// Writes a formula, and what its variables are.
-pub(crate) fn write_text<W: Write>(
+fn write_text<W: Write>(
     formula: &Formula,
     circuit: &Circuit,
     asked: Heading,
@@ -31,81 +28,56 @@ pub(crate) fn write_text<W: Write>(
     }
 }
 
-/// Makes the formula of a query about a circuit, and writes it.
+/// Makes the formula of a question about a circuit, and writes it.
 fn make_and_write<W: Write>(
     alloc: Global,
     circuit: &mut Circuit,
-    query: Query,
-    asked: Heading,
+    question: Question<'_>,
     out: &mut W,
 ) -> Result<(), RunFault>
     ensures { CommandEnds (flow W.written W.failures out.old out.new) RunFault.Output
-        (WritesAsked asked query circuit.old) result }
+        (WritesFor (asked_of question.entry) circuit.old) result }
 {
-    let formula = Formula::of(alloc, circuit, query)?;
-    write_text(&formula, circuit, asked, out)
+    let formula = question.formula(alloc, circuit)?;
+    write_text(&formula, circuit, question.heading(), out)
 }
 
 /// Reads a circuit and writes the formula, without a flush at the end.
 fn read_and_write<W: Write>(
     alloc: Global,
     file: &[u8],
-    query: Query,
+    question: Question<'_>,
     out: &mut W,
 ) -> Result<(), RunFault>
     ensures { CommandEnds (flow W.written W.failures out.old out.new) RunFault.Output
-        (OfFile file.now (WritesFormula query)) result }
+        (WritesQuestion (asked_of question.entry) file.now) result }
 {
-    let mut circuit = read_circuit(alloc, file)?;
-    make_and_write(alloc, &mut circuit, query, Heading::Runs(query), out)
+    let mut circuit = question.circuit(alloc, file)?;
+    make_and_write(alloc, &mut circuit, question, out)
 }
 
-/// The command `cnf`: reads a circuit and writes the formula of a query about it in DIMACS, with comment lines that say
-/// what was asked for and what its variables are. Some assignment satisfies the formula of `Goal::Within` exactly where
-/// there is a confirmed witness of at most so many frames (`law_of_formula` of `aig_laws`). Where neither it nor the
-/// one of `Goal::Step` has such an assignment, no run of any length reaches the property (`law_of_induction` of
-/// `aig_refute`). Justice and fairness are ignored. If the file is rejected, or there is no such formula, nothing is
-/// written. It flushes the writer before it returns.
-pub fn cnf<W: Write>(alloc: Global, file: &[u8], query: Query, out: &mut W) -> Result<(), RunFault>
-    ensures ends { CommandEnds (flow W.written W.failures out.old out.new) RunFault.Output
-        (OfFile file.now (WritesFormula query)) result }
-    ensures flushed { W.failures out.new ≡ W.failures out.old → W.is_flushed out.new }
-{
-    let done = read_and_write(alloc, file, query, out);
-    flushed(done, out, RunFault::Output)
-}
-
-/// Strengthens a circuit and writes the formula, without a flush at the end.
-fn strengthen_and_write<W: Write>(
+/// The command `cnf`: reads a circuit and writes the formula of a question about it in DIMACS, with comment lines that
+/// say what was asked for and what its variables are. If a file is rejected, or there is no such formula, nothing is
+/// written. Justice and fairness are ignored. It flushes the writer before it returns.
+///
+/// - Some assignment satisfies the formula of `Question::Within` exactly where there is a confirmed witness of at most
+///   so many frames (`law_of_formula` of `aig_laws`).
+/// - Where neither it nor the one of `Question::Step` has such an assignment, no run of any length reaches the property
+///   (`law_of_induction` of `aig_refute`).
+/// - Some assignment satisfies the one of `Question::Alive` exactly where some run from a start that the resets allow
+///   keeps all constraints at each of the first so many frames (`law_of_last` of `aig_laws`). Properties are ignored.
+/// - Where none satisfies the one of `Question::Certified`, no run of any length of the circuit reaches the property
+///   (`law_of_one_formula` and `law_of_extension` of `aig_refute`).
+pub fn cnf<W: Write>(
     alloc: Global,
-    certified: Certified<'_>,
-    out: &mut W,
-) -> Result<(), RunFault>
-    ensures { CommandEnds (flow W.written W.failures out.old out.new) RunFault.Output
-        (OfCertified purposes.Formula certified.entry.circuit.now certified.entry.property
-        certified.entry.certificate.now
-        (WritesCertified certified.entry.property)) result }
-{
-    let mut circuit = certified.strengthened(alloc, Purpose::Formula)?;
-    let asked = Heading::Certified(certified.property);
-    make_and_write(alloc, &mut circuit, ONE_FORMULA, asked, out)
-}
-
-/// The command `cnf --certificate`: reads a circuit and a certificate, and writes the formula of the induction over one
-/// frame for the strengthened circuit (`aig_certificate::strengthened`). Where no assignment satisfies it, no run of
-/// any length of the circuit reaches the property (`law_of_one_formula` and `law_of_extension` of `aig_refute`). If a
-/// file is rejected, or there is no such formula, nothing is written. It flushes the writer before it returns.
-pub fn cnf_certified<W: Write>(
-    alloc: Global,
-    certified: Certified<'_>,
+    file: &[u8],
+    question: Question<'_>,
     out: &mut W,
 ) -> Result<(), RunFault>
     ensures ends { CommandEnds (flow W.written W.failures out.old out.new) RunFault.Output
-        (OfCertified purposes.Formula certified.entry.circuit.now certified.entry.property
-        certified.entry.certificate.now
-        (WritesCertified certified.entry.property)) result }
+        (WritesQuestion (asked_of question.entry) file.now) result }
     ensures flushed { W.failures out.new ≡ W.failures out.old → W.is_flushed out.new }
 {
-    let done = strengthen_and_write(alloc, certified, out);
+    let done = read_and_write(alloc, file, question, out);
     flushed(done, out, RunFault::Output)
 }

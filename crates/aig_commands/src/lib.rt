@@ -1,7 +1,6 @@
 //! The commands, from bytes to bytes: a module each, with the call that has its name.
 #![tactic(auto)]
 
-pub mod alive;
 pub mod bench;
 pub mod certified;
 pub mod check;
@@ -10,6 +9,7 @@ mod entries;
 pub mod info;
 pub mod model_witness;
 mod named_run;
+pub mod question;
 pub mod reduce;
 pub mod refute;
 pub mod select;

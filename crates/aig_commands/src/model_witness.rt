@@ -3,20 +3,19 @@
 ghost use Rattle.std.specs.Prelude.{◌≡◌, ◌<◌, ◌≤◌, IfOk, IfErr, OnOk, length};
 ghost use Rattle.aig_bytes.specs.Flow.{flow};
 ghost use Rattle.aig_cnf.specs.Answers.{HasFormula, RefusesFormula};
-ghost use Rattle.aig_cnf.specs.Query.{depth, induction, subject};
-ghost use Rattle.aig_run.specs.Command.{CommandEnds, OfFile};
+ghost use Rattle.aig_cnf.specs.Query.{depth, subject};
+ghost use Rattle.aig_run.specs.Command.{CommandEnds};
 ghost use Rattle.aig_unroll.specs.FrameLiteral.{input_count};
 ghost use Rattle.aig_unroll.specs.Unrollable.{FitsLimits};
-ghost use Rattle.aig_commands.specs.Certified.{OfCertified};
-ghost use Rattle.aig_commands.specs.declared.certified.Purpose.TheVariants as purposes;
 ghost use Rattle.aig_commands.specs.ModelWitness.{RefusesModel, WritesModel, WritesNamed, variable_count};
+ghost use Rattle.aig_commands.specs.Questions.{NamesFor, NamesQuestion, asked_of};
 ghost use Rattle.aig_sat.specs.model.ModelText.{IsModelOf};
 
-use crate::certified::{Certified, ONE_FORMULA, Purpose};
 use crate::named_run::find_named;
+use crate::question::Question;
 use aig_base::{Circuit, Tern, Write};
 use aig_cnf::{CnfFault, Formula, Query};
-use aig_run::{RunFault, flushed, read_circuit};
+use aig_run::{RunFault, flushed};
 use aig_sat::{Assignment, ModelFault, read_model};
 use std::alloc::Global;
 
@@ -95,76 +94,61 @@ fn read_model_and_write<W: Write>(
     )
 }
 
+/// Writes the witness of the run that a model of a question's formula names.
+fn answer<W: Write>(
+    alloc: Global,
+    circuit: &mut Circuit,
+    question: Question<'_>,
+    model: &[u8],
+    out: &mut W,
+) -> Result<(), RunFault>
+    ensures { CommandEnds (flow W.written W.failures out.old out.new) RunFault.Output
+        (NamesFor (asked_of question.entry) model.now circuit.old) result }
+{
+    let query = question.query();
+    match question {
+        Question::Within { .. } => read_model_and_write(alloc, circuit, query, model, out),
+        Question::Step { .. } => read_model_and_write(alloc, circuit, query, model, out),
+        Question::Alive { .. } => Err(RunFault::Cnf(CnfFault::Property)),
+        Question::Certified { .. } => read_model_and_write(alloc, circuit, query, model, out),
+    }
+}
+
 /// The same for a circuit's file, without a flush at the end.
 fn read_and_write<W: Write>(
     alloc: Global,
     file: &[u8],
-    query: Query,
+    question: Question<'_>,
     model: &[u8],
     out: &mut W,
 ) -> Result<(), RunFault>
     ensures { CommandEnds (flow W.written W.failures out.old out.new) RunFault.Output
-        (OfFile file.now (WritesModel query model.now)) result }
+        (NamesQuestion (asked_of question.entry) model.now file.now) result }
 {
-    let mut circuit = read_circuit(alloc, file)?;
-    read_model_and_write(alloc, &mut circuit, query, model, out)
+    let mut circuit = question.circuit(alloc, file)?;
+    answer(alloc, &mut circuit, question, model, out)
 }
 
 /// The command `witness --model`: reads a circuit and a SAT solver's model of the formula that `cnf` writes for a
-/// query. The model names a run: a start, where an uninitialised latch has the value of its variable, for an induction
-/// step each latch; and rows. What no literal names is x. It writes the witness of the first frame at which this run
-/// reaches the property. `check` confirms it, for an induction step only if the resets allow its start: else it is the
-/// run by which the step fails. Nothing is written if the circuit or the model is rejected, there is no such formula,
-/// or no frame reaches the property. One does if the model makes a literal of each clause of the formula of
-/// `Goal::Within` true (`law_of_partial_models` of `aig_laws`). It flushes the writer before it returns.
+/// question. The model names a run: a start, where an uninitialised latch has the value of its variable, for a step or
+/// a certificate each latch; and rows. What no literal names is x. It writes the witness of the first frame at which
+/// this run reaches the property. `check` confirms it, but where it does not start as the resets allow: then it is the
+/// run by which an induction fails. For a certificate it is one of the strengthened circuit, which has one property.
+/// Nothing is written if a file or the model is rejected, there is no such formula, or no frame reaches the property.
+/// One does if the model makes a literal of each clause of the formula of `Question::Within` true
+/// (`law_of_partial_models` of `aig_laws`). A witness is of a property, so for `Question::Alive` there is none, with
+/// the fault `CnfFault::Property`. It flushes the writer before it returns.
 pub fn model_witness<W: Write>(
     alloc: Global,
     file: &[u8],
-    query: Query,
+    question: Question<'_>,
     model: &[u8],
     out: &mut W,
 ) -> Result<(), RunFault>
     ensures ends { CommandEnds (flow W.written W.failures out.old out.new) RunFault.Output
-        (OfFile file.now (WritesModel query model.now)) result }
+        (NamesQuestion (asked_of question.entry) model.now file.now) result }
     ensures flushed { W.failures out.new ≡ W.failures out.old → W.is_flushed out.new }
 {
-    let done = read_and_write(alloc, file, query, model, out);
-    flushed(done, out, RunFault::Output)
-}
-
-/// The same for a strengthened circuit, without a flush at the end.
-fn strengthen_and_write<W: Write>(
-    alloc: Global,
-    certified: Certified<'_>,
-    model: &[u8],
-    out: &mut W,
-) -> Result<(), RunFault>
-    ensures { CommandEnds (flow W.written W.failures out.old out.new) RunFault.Output
-        (OfCertified purposes.Formula certified.entry.circuit.now certified.entry.property
-        certified.entry.certificate.now
-        (WritesModel (induction 1 0) model.now)) result }
-{
-    let mut circuit = certified.strengthened(alloc, Purpose::Formula)?;
-    read_model_and_write(alloc, &mut circuit, ONE_FORMULA, model, out)
-}
-
-/// The command `witness --certificate --model`: reads a circuit, a certificate and a SAT solver's model of the formula
-/// of `cnf --certificate`. The model names a run of the strengthened circuit, of one row where the start fails and of
-/// two where the step does, and it writes the witness of the first frame at which a claim is broken. `check` on the
-/// strengthened circuit confirms it where the resets allow its start. Nothing is written if a file is rejected, there
-/// is no such formula, or no frame breaks a claim. It flushes the writer before it returns.
-pub fn certified_model_witness<W: Write>(
-    alloc: Global,
-    certified: Certified<'_>,
-    model: &[u8],
-    out: &mut W,
-) -> Result<(), RunFault>
-    ensures ends { CommandEnds (flow W.written W.failures out.old out.new) RunFault.Output
-        (OfCertified purposes.Formula certified.entry.circuit.now certified.entry.property
-        certified.entry.certificate.now
-        (WritesModel (induction 1 0) model.now)) result }
-    ensures flushed { W.failures out.new ≡ W.failures out.old → W.is_flushed out.new }
-{
-    let done = strengthen_and_write(alloc, certified, model, out);
+    let done = read_and_write(alloc, file, question, model, out);
     flushed(done, out, RunFault::Output)
 }

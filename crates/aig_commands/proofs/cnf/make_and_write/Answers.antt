@@ -1,27 +1,31 @@
-use Rattle.std.proofs.Common.{[], ap, refl}
-use Rattle.aig_parts.specs.declared.raw.Raw.{Raw}
-use Rattle.aig_cnf.specs.CnfText.{cnf_text}
-use Rattle.aig_commands.specs.Cnf.{WritesAsked}
+use Rattle.std.proofs.Common.{[]}
 use Rattle.aig_bytes.specs.Flow.{flow}
+use Rattle.aig_cnf.specs.CnfText.{cnf_text}
 use Rattle.aig_run.proofs.Files.{answered}
 use Rattle.aig_run.proofs.Written.{got_none, output_ends}
 use Rattle.aig_run.specs.Command.{CommandEnds}
 use Rattle.aig_run.specs.declared.run_fault.RunFault.TheVariants as run_faults
+use Rattle.aig_commands.specs.Questions.{WritesFor, asked_of}
+use Rattle.aig_commands.proofs.Questions.{writes_formula, writes_none}
 use Rattle.aig_commands.proofs.cnf.make_and_write.Goals as goal
 
 pub returns : goal.returns
 returns g c =
     let formula' = c.in_ok-formula.formula in
     let e = c.in_ok-formula.ensures in
+    let asked = asked_of c.args.question in
     output_ends g.W.Write.written g.W.Write.failures c.args.out.now c.write_text.new.out
-    (WritesAsked c.args.asked c.args.query c.args.circuit.now) (cnf_text c.of.new.circuit c.args.asked formula') c.write_text.result
+    (WritesFor asked c.args.circuit.now) (cnf_text c.formula.new.circuit c.heading.result formula') c.write_text.result
     c.write_text.ensures.written c.write_text.ensures.output
-    (e.accepted, (formula', e.formula, ap (λ (raw : Raw). cnf_text raw c.args.asked formula') e.circuit))
+    (writes_formula asked c.args.circuit.now c.formula.new.circuit c.heading.result formula' e.accepted e.formula e.circuit
+    c.heading.ensures)
 
 pub returns-in_err-formula : goal.returns-in_err-formula
 returns-in_err-formula g c =
+    let asked = asked_of c.args.question in
     answered c.from_residual.result (run_faults.Cnf c.in_err-formula.field-0.0)
     (CommandEnds (flow g.W.Write.written g.W.Write.failures c.args.out.now c.args.out.now) run_faults.Output
-    (WritesAsked c.args.asked c.args.query c.args.circuit.now))
+    (WritesFor asked c.args.circuit.now))
     c.from_residual.ensures.1
-    (CommandEnds.writes_all [] (c.in_err-formula.ensures.refused, refl) (got_none g.W.Write.written g.W.Write.failures c.args.out.now))
+    (CommandEnds.writes_all [] (writes_none asked c.args.circuit.now c.in_err-formula.field-0.0 c.in_err-formula.ensures.refused)
+    (got_none g.W.Write.written g.W.Write.failures c.args.out.now))

@@ -1,34 +1,48 @@
 use Rattle.std.proofs.Common.{◌+◌, ap, ◌∙◌, sym}
 use Rattle.aig_bytes.specs.Flow.{flow}
-use Rattle.aig_cnf.specs.declared.query.Goal.TheVariants as goals
 use Rattle.aig_sat.specs.declared.proof.fault.ProofFault.TheVariants as faults
 use Rattle.aig_run.specs.declared.run_fault.RunFault.TheVariants as run_faults
-use Rattle.aig_commands.specs.Refute.{ChecksWithin, answer_line, proof_reads_failed}
-use Rattle.aig_commands.proofs.Refutations.{answer_is, answered_ends, checked_file, fault_is, then_ok}
+use Rattle.aig_commands.specs.Questions.{Says, asked_of}
+use Rattle.aig_commands.specs.Refute.{proof_reads_failed, step_reads_failed}
+use Rattle.aig_commands.proofs.Certificates.{good_answer}
+use Rattle.aig_commands.proofs.Questions.{answered_question, line_of}
+use Rattle.aig_commands.proofs.Refutations.{answer_is, fault_is}
 use Rattle.aig_commands.proofs.refute.refute.Goals as goal
 
-pub returns-clause-unreachable : goal.returns-clause-unreachable
-returns-clause-unreachable g c =
-    then_ok c.write_answer.result (λ found. (found.0, found.1, found.2.1))
-    (checked_file (flow g.W.Write.written g.W.Write.failures c.args.out.now c.write_answer.new.out) (answer_line goals.Within c.args.frames)
-    c.args.file.now (ChecksWithin c.args.frames c.args.property) c.read_and_check-checked.result c.write_answer.result c.read_and_check-checked.ensures.checks
-    c.write_answer.ensures.ends)
+pub returns-clause-says : goal.returns-clause-says
+returns-clause-says g c =
+    good_answer (flow g.W.Write.written g.W.Write.failures c.args.out.now c.write_answer.new.out) (line_of c.query-query.result)
+    c.read_and_check-checked.result c.write_answer.result (Says (asked_of c.args.question) c.args.file.now)
+    c.read_and_check-checked.ensures.says c.write_answer.ensures.ends
 
 pub returns-clause-ends : goal.returns-clause-ends
 returns-clause-ends g c =
-    answered_ends c.args.file.now (ChecksWithin c.args.frames c.args.property) (λ raw fault h. h) (answer_line goals.Within c.args.frames)
-    (flow g.W.Write.written g.W.Write.failures c.args.out.now c.write_answer.new.out) c.read_and_check-checked.result
-    c.write_answer.result c.read_and_check-checked.ensures.checks c.write_answer.ensures.ends
+    answered_question (asked_of c.args.question) c.args.file.now (flow g.W.Write.written g.W.Write.failures c.args.out.now c.write_answer.new.out)
+    c.query-query.result c.query-query.ensures c.read_and_check-checked.result c.write_answer.result c.read_and_check-checked.ensures.checks
+    c.write_answer.ensures.ends
 
 pub returns-clause-reads : goal.returns-clause-reads
 returns-clause-reads g c = λ other.
     c.read_and_check-checked.ensures.reads ∙ ap (λ r. g.R.Read.failures c.args.proof.now + proof_reads_failed r)
-    (sym (answer_is (flow g.W.Write.written g.W.Write.failures c.args.out.now c.write_answer.new.out) (answer_line goals.Within c.args.frames)
+    (sym (answer_is (flow g.W.Write.written g.W.Write.failures c.args.out.now c.write_answer.new.out) (line_of c.query-query.result)
+    c.read_and_check-checked.result c.write_answer.result c.write_answer.ensures.ends other))
+
+pub returns-clause-step : goal.returns-clause-step
+returns-clause-step g c = λ other.
+    c.read_and_check-checked.ensures.step ∙ ap (λ r. g.S.Read.failures c.args.step.now + step_reads_failed r)
+    (sym (answer_is (flow g.W.Write.written g.W.Write.failures c.args.out.now c.write_answer.new.out) (line_of c.query-query.result)
     c.read_and_check-checked.result c.write_answer.result c.write_answer.ensures.ends other))
 
 pub returns-clause-whole : goal.returns-clause-whole
 returns-clause-whole g c = λ is.
     c.read_and_check-checked.ensures.whole
-    (fault_is (flow g.W.Write.written g.W.Write.failures c.args.out.now c.write_answer.new.out) (answer_line goals.Within c.args.frames)
+    (fault_is (flow g.W.Write.written g.W.Write.failures c.args.out.now c.write_answer.new.out) (line_of c.query-query.result)
     c.read_and_check-checked.result c.write_answer.result (run_faults.Proof faults.NoRefutation) c.write_answer.ensures.ends
+    (λ e. let never : ⊥ = cc in never) is)
+
+pub returns-clause-whole_step : goal.returns-clause-whole_step
+returns-clause-whole_step g c = λ is.
+    c.read_and_check-checked.ensures.whole_step
+    (fault_is (flow g.W.Write.written g.W.Write.failures c.args.out.now c.write_answer.new.out) (line_of c.query-query.result)
+    c.read_and_check-checked.result c.write_answer.result (run_faults.StepProof faults.NoRefutation) c.write_answer.ensures.ends
     (λ e. let never : ⊥ = cc in never) is)

@@ -1,4 +1,4 @@
-use Rattle.aig_commands.proofs.refute.check_query.Goals as goal
+use Rattle.aig_commands.proofs.refute.check_formula.Goals as goal
 
 pub returns-clause-checks : goal.returns-clause-checks
 returns-clause-checks g c = (
