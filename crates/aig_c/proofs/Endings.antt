@@ -1,6 +1,6 @@
 -- What a call for C returns, from how the command ended on a writer that was empty.
 use Rattle.std.proofs.Common.{◌≡◌, ℕ, List, [], ◌++◌, Result, Ok, Err, refl, sym, ap, ◌∙◌, subst}
-use Rattle.std.specs.Prelude.{Option, Some, IfErr, OnOk}
+use Rattle.std.specs.Prelude.{Option, Some}
 use Rattle.std.proofs.lemmas.List.{append-nil}
 use Rattle.aig_bytes.specs.Bytes.{before, after, IsAtEnd}
 use Rattle.aig_bytes.specs.Flow.{Flow, flow}
@@ -35,22 +35,6 @@ pub refused : {X T : Type 0} {written : X → Option (List ℕ)} {failures : X �
     → CommandEnds (flow written failures old new) run_faults.Output Means (Err fault) → Refuses Means
 refused Means fault one (CommandEnds.writes_all bytes means all) = (fault, one, (bytes, means))
 refused Means fault one (CommandEnds.breaks_off answer bytes means part) = let no : ⊥ = cc in absurd no
-
--- ---- whatever the answer is
-
-pub done_if_ok : {X : Type 0} {written : X → Option (List ℕ)} {failures : X → ℕ} {old new : X}
-    (Means : Result (Unit {0}) RunFault → List ℕ → Type 0) (bytes : List ℕ) (answer : Result (Unit {0}) RunFault)
-    → written old ≡ Some [] → written new ≡ Some bytes
-    → CommandEnds (flow written failures old new) run_faults.Output Means answer → OnOk answer (Means (Ok tt) bytes)
-done_if_ok Means bytes (Ok _) empty is ends = done Means bytes bytes empty is refl ends
-done_if_ok Means bytes (Err _) empty is ends = tt
-
-pub refused_if_err : {X : Type 0} {written : X → Option (List ℕ)} {failures : X → ℕ} {old new : X}
-    (Means : Result (Unit {0}) RunFault → List ℕ → Type 0) (answer : Result (Unit {0}) RunFault)
-    → CommandEnds (flow written failures old new) run_faults.Output Means answer
-    → IfErr answer (λ fault. status_of fault ≡ 1 → Refuses Means)
-refused_if_err Means (Ok _) ends = tt
-refused_if_err Means (Err fault) ends = λ one. refused Means fault one ends
 
 -- ---- a command that reads the circuit, from a reader that holds a file
 

@@ -1,9 +1,10 @@
 //! What a call returns: its status, and a text in the caller's room.
-ghost use Rattle.std.specs.Prelude.{◌≡◌, ◌≢◌, ◌<◌, ◌≤◌, length, take};
+ghost use Rattle.std.specs.Prelude.{◌≡◌, ◌≢◌, ◌<◌, ◌≤◌, false, length, take, true};
 ghost use Rattle.aig_run.specs.Status.{status_of};
-ghost use Rattle.aig_c.specs.Answers.{format_of, is_confirmed, query_of};
+ghost use Rattle.aig_commands.specs.Questions.{asked_of, by_step, within_frames};
+ghost use Rattle.aig_c.specs.Answers.{format_of, is_confirmed};
 
-use aig_cnf::{Goal, Query};
+use aig_commands::question::Question;
 use aig_format::Format;
 use aig_run::{RunFault, ScriptFault};
 use aig_sim::Verdict;
@@ -87,15 +88,15 @@ pub(crate) fn format(binary: bool) -> Format
     }
 }
 
-/// The query that a call asks about.
-pub(crate) fn query(step: bool, frames: u32, property: u32) -> Query
-    ensures { result ≡ query_of step frames property }
+/// What a call asks of some frames: the step of an induction, or whether a run reaches the property within them.
+pub(crate) fn question(step: bool, frames: u32, property: u32) -> Question<'static>
+    ensures steps { step ≡ true → asked_of result ≡ by_step frames property }
+    ensures within { step ≡ false → asked_of result ≡ within_frames frames property }
 {
-    let goal = if step { Goal::Step } else { Goal::Within };
-    Query {
-        goal,
-        frames,
-        property,
+    if step {
+        Question::Step { frames, property }
+    } else {
+        Question::Within { frames, property }
     }
 }
 

@@ -6,16 +6,65 @@ ghost use Rattle.aig_commands.specs.Alive.{WritesAlive};
 ghost use Rattle.aig_commands.specs.Certified.{OfCertified};
 ghost use Rattle.aig_commands.specs.Cnf.{WritesCertified, WritesFormula};
 ghost use Rattle.aig_commands.specs.ModelWitness.{WritesModel};
+ghost use Rattle.aig_commands.specs.Questions.{NamesQuestion, WritesQuestion, asked_of};
 ghost use Rattle.aig_commands.specs.declared.certified.Purpose.TheVariants as purposes;
 ghost use Rattle.aig_c.specs.Answers.{query_of, Refuses};
 
-use crate::answer::{NO_MEMORY, answer, query, refuse};
+use crate::answer::{NO_MEMORY, answer, question, refuse};
 use aig_base::MemWriter;
-use aig_commands::alive::cnf_alive;
-use aig_commands::certified::Certified;
-use aig_commands::cnf::{cnf, cnf_certified};
-use aig_commands::model_witness::{certified_model_witness, model_witness};
+use aig_commands::cnf::cnf;
+use aig_commands::model_witness::model_witness;
+use aig_commands::question::Question;
 use std::alloc::Global;
+
+/// Writes the formula of a question.
+fn write_formula(
+    alloc: Global,
+    circuit: &[u8],
+    question: Question<'_>,
+    room: &mut [u8],
+    written: &mut usize,
+) -> u8
+    ensures done { result ≡ 0 →
+        WritesQuestion (asked_of question.entry) circuit.now (Ok tt) (take written.new room.new) }
+    ensures refused { result ≡ 1 → Refuses (WritesQuestion (asked_of question.entry) circuit.now) }
+    ensures inside { result ≤ 1 → written.new ≤ length room.old }
+    ensures kept { 1 < result → (room.new ≡ room.old) × (written.new ≡ written.old) }
+    ensures statuses { result ≤ 3 }
+{
+    let Ok(mut out) = MemWriter::new(alloc, room.len()) else {
+        return NO_MEMORY;
+    };
+    match cnf(alloc, circuit, question, &mut out) {
+        Ok(()) => answer(out.bytes(), room, written),
+        Err(fault) => refuse(alloc, fault, room, written),
+    }
+}
+
+/// Writes the witness that a model of the formula of a question names.
+fn write_named(
+    alloc: Global,
+    circuit: &[u8],
+    question: Question<'_>,
+    model: &[u8],
+    room: &mut [u8],
+    written: &mut usize,
+) -> u8
+    ensures done { result ≡ 0 →
+        NamesQuestion (asked_of question.entry) model.now circuit.now (Ok tt) (take written.new room.new) }
+    ensures refused { result ≡ 1 → Refuses (NamesQuestion (asked_of question.entry) model.now circuit.now) }
+    ensures inside { result ≤ 1 → written.new ≤ length room.old }
+    ensures kept { 1 < result → (room.new ≡ room.old) × (written.new ≡ written.old) }
+    ensures statuses { result ≤ 3 }
+{
+    let Ok(mut out) = MemWriter::new(alloc, room.len()) else {
+        return NO_MEMORY;
+    };
+    match model_witness(alloc, circuit, question, model, &mut out) {
+        Ok(()) => answer(out.bytes(), room, written),
+        Err(fault) => refuse(alloc, fault, room, written),
+    }
+}
 
 /// Writes the formula that a run reaches a property within some frames, or with `step` that of an induction step.
 #[unsafe(no_mangle)]
@@ -35,13 +84,8 @@ pub extern "C" fn aig_cnf(
     ensures kept { 1 < result → (room.new ≡ room.old) × (written.new ≡ written.old) }
     ensures statuses { result ≤ 3 }
 {
-    let Ok(mut out) = MemWriter::new(alloc, room.len()) else {
-        return NO_MEMORY;
-    };
-    match cnf(alloc, circuit, query(step, frames, property), &mut out) {
-        Ok(()) => answer(out.bytes(), room, written),
-        Err(fault) => refuse(alloc, fault, room, written),
-    }
+    let question = question(step, frames, property);
+    write_formula(alloc, circuit, question, room, written)
 }
 
 /// Writes the formula that a run keeps all constraints for some frames.
@@ -59,13 +103,8 @@ pub extern "C" fn aig_cnf_alive(
     ensures kept { 1 < result → (room.new ≡ room.old) × (written.new ≡ written.old) }
     ensures statuses { result ≤ 3 }
 {
-    let Ok(mut out) = MemWriter::new(alloc, room.len()) else {
-        return NO_MEMORY;
-    };
-    match cnf_alive(alloc, circuit, frames, &mut out) {
-        Ok(()) => answer(out.bytes(), room, written),
-        Err(fault) => refuse(alloc, fault, room, written),
-    }
+    let question = Question::Alive { frames };
+    write_formula(alloc, circuit, question, room, written)
 }
 
 /// Writes the formula of the induction for a circuit that is strengthened by a certificate.
@@ -86,18 +125,11 @@ pub extern "C" fn aig_cnf_certified(
     ensures kept { 1 < result → (room.new ≡ room.old) × (written.new ≡ written.old) }
     ensures statuses { result ≤ 3 }
 {
-    let Ok(mut out) = MemWriter::new(alloc, room.len()) else {
-        return NO_MEMORY;
-    };
-    let certified = Certified {
-        circuit,
-        property,
+    let question = Question::Certified {
         certificate,
+        property,
     };
-    match cnf_certified(alloc, certified, &mut out) {
-        Ok(()) => answer(out.bytes(), room, written),
-        Err(fault) => refuse(alloc, fault, room, written),
-    }
+    write_formula(alloc, circuit, question, room, written)
 }
 
 /// Writes the witness of the run that a model of the formula of `aig_cnf` names.
@@ -120,19 +152,14 @@ pub extern "C" fn aig_model_witness(
     ensures kept { 1 < result → (room.new ≡ room.old) × (written.new ≡ written.old) }
     ensures statuses { result ≤ 3 }
 {
-    let Ok(mut out) = MemWriter::new(alloc, room.len()) else {
-        return NO_MEMORY;
-    };
-    match model_witness(
+    write_named(
         alloc,
         circuit,
-        query(step, frames, property),
+        question(step, frames, property),
         model,
-        &mut out,
-    ) {
-        Ok(()) => answer(out.bytes(), room, written),
-        Err(fault) => refuse(alloc, fault, room, written),
-    }
+        room,
+        written,
+    )
 }
 
 /// Writes the witness of the run by which a certificate fails, that a model of the formula of `aig_cnf_certified`
@@ -155,16 +182,9 @@ pub extern "C" fn aig_model_witness_certified(
     ensures kept { 1 < result → (room.new ≡ room.old) × (written.new ≡ written.old) }
     ensures statuses { result ≤ 3 }
 {
-    let Ok(mut out) = MemWriter::new(alloc, room.len()) else {
-        return NO_MEMORY;
-    };
-    let certified = Certified {
-        circuit,
-        property,
+    let question = Question::Certified {
         certificate,
+        property,
     };
-    match certified_model_witness(alloc, certified, model, &mut out) {
-        Ok(()) => answer(out.bytes(), room, written),
-        Err(fault) => refuse(alloc, fault, room, written),
-    }
+    write_named(alloc, circuit, question, model, room, written)
 }

@@ -1,9 +1,9 @@
 //! Refutations: what a SAT solver's proofs say of a circuit.
-ghost use Rattle.std.specs.Prelude.{◌≡◌, ◌<◌, ◌≤◌, [], Ok, IfErr, OnOk, length, take};
+ghost use Rattle.std.specs.Prelude.{◌≡◌, ◌<◌, ◌≤◌, Ok, length, take};
 ghost use Rattle.aig_run.specs.Command.{OfFile};
-ghost use Rattle.aig_run.specs.Status.{status_of};
 ghost use Rattle.aig_commands.specs.Alive.{IsFileWithoutRun, RefutesAlive};
 ghost use Rattle.aig_commands.specs.Certified.{OfCertified};
+ghost use Rattle.aig_commands.specs.Questions.{RefutesQuestion, Says, asked_of};
 ghost use Rattle.aig_commands.specs.Refute.{IsFileNeverReached, IsFileUnreachable};
 ghost use Rattle.aig_commands.specs.Refute.{Refutes, RefutesInduction, RefutesStep};
 ghost use Rattle.aig_commands.specs.declared.certified.Purpose.TheVariants as purposes;
@@ -11,11 +11,39 @@ ghost use Rattle.aig_c.specs.Answers.{Refuses};
 
 use crate::answer::{NO_MEMORY, answer, refuse};
 use aig_base::{MemReader, MemWriter};
-use aig_commands::alive::refute_alive;
-use aig_commands::certified::Certified;
-use aig_commands::refute::{refute, refute_certified, refute_step};
-use aig_run::RunFault;
+use aig_commands::question::Question;
+use aig_commands::refute::refute;
 use std::alloc::Global;
+
+/// Checks the proof of a question, and writes the line that answers. For an induction by steps, the second proof is
+/// that of the step.
+fn refute_by(
+    alloc: Global,
+    circuit: &[u8],
+    question: Question<'_>,
+    proof: &[u8],
+    step: &[u8],
+    room: &mut [u8],
+    written: &mut usize,
+) -> u8
+    ensures says { result ≡ 0 → Says (asked_of question.entry) circuit.now }
+    ensures done { result ≡ 0 →
+        RefutesQuestion (asked_of question.entry) circuit.now (Ok tt) (take written.new room.new) }
+    ensures refused { result ≡ 1 → Refuses (RefutesQuestion (asked_of question.entry) circuit.now) }
+    ensures inside { result ≤ 1 → written.new ≤ length room.old }
+    ensures kept { 1 < result → (room.new ≡ room.old) × (written.new ≡ written.old) }
+    ensures statuses { result ≤ 3 }
+{
+    let Ok(mut out) = MemWriter::new(alloc, room.len()) else {
+        return NO_MEMORY;
+    };
+    let mut first = MemReader::new(proof);
+    let mut second = MemReader::new(step);
+    match refute(alloc, circuit, question, &mut first, &mut second, &mut out) {
+        Ok(()) => answer(out.bytes(), room, written),
+        Err(fault) => refuse(alloc, fault, room, written),
+    }
+}
 
 /// Checks a proof that no run reaches a property within some frames, and writes the line that says so.
 #[unsafe(no_mangle)]
@@ -35,14 +63,8 @@ pub extern "C" fn aig_refute(
     ensures kept { 1 < result → (room.new ≡ room.old) × (written.new ≡ written.old) }
     ensures statuses { result ≤ 3 }
 {
-    let Ok(mut out) = MemWriter::new(alloc, room.len()) else {
-        return NO_MEMORY;
-    };
-    let mut reader = MemReader::new(proof);
-    match refute(alloc, circuit, frames, property, &mut reader, &mut out) {
-        Ok(()) => answer(out.bytes(), room, written),
-        Err(fault) => refuse(alloc, fault, room, written),
-    }
+    let question = Question::Within { frames, property };
+    refute_by(alloc, circuit, question, proof, b"", room, written)
 }
 
 /// Checks a proof that no run keeps all constraints for some frames, and writes the line that says so.
@@ -62,43 +84,8 @@ pub extern "C" fn aig_refute_alive(
     ensures kept { 1 < result → (room.new ≡ room.old) × (written.new ≡ written.old) }
     ensures statuses { result ≤ 3 }
 {
-    let Ok(mut out) = MemWriter::new(alloc, room.len()) else {
-        return NO_MEMORY;
-    };
-    let mut reader = MemReader::new(proof);
-    match refute_alive(alloc, circuit, frames, &mut reader, &mut out) {
-        Ok(()) => answer(out.bytes(), room, written),
-        Err(fault) => refuse(alloc, fault, room, written),
-    }
-}
-
-/// Checks two proofs in memory.
-fn refute_by<'x>(
-    alloc: Global,
-    circuit: &[u8],
-    proof: &'x [u8],
-    step: &'x [u8],
-    frames: u32,
-    property: u32,
-    out: &mut MemWriter,
-) -> Result<(), RunFault>
-    requires { out.old.bytes ≡ [] }
-    ensures unreachable { OnOk result (IsFileNeverReached circuit.now property) }
-    ensures done { OnOk result (OfFile circuit.now (RefutesStep frames property) (Ok tt) out.new.bytes) }
-    ensures refused { IfErr result (λ fault. status_of fault ≡ 1
-        → Refuses (OfFile circuit.now (RefutesStep frames property))) }
-{
-    let mut first = MemReader::new(proof);
-    let mut second = MemReader::new(step);
-    refute_step(
-        alloc,
-        circuit,
-        frames,
-        property,
-        &mut first,
-        &mut second,
-        out,
-    )
+    let question = Question::Alive { frames };
+    refute_by(alloc, circuit, question, proof, b"", room, written)
 }
 
 /// Checks two proofs that no run of any length reaches a property, and writes the line that says so.
@@ -120,13 +107,8 @@ pub extern "C" fn aig_refute_step(
     ensures kept { 1 < result → (room.new ≡ room.old) × (written.new ≡ written.old) }
     ensures statuses { result ≤ 3 }
 {
-    let Ok(mut out) = MemWriter::new(alloc, room.len()) else {
-        return NO_MEMORY;
-    };
-    match refute_by(alloc, circuit, proof, step, frames, property, &mut out) {
-        Ok(()) => answer(out.bytes(), room, written),
-        Err(fault) => refuse(alloc, fault, room, written),
-    }
+    let question = Question::Step { frames, property };
+    refute_by(alloc, circuit, question, proof, step, room, written)
 }
 
 /// Checks a proof that no run of any length reaches a property, by a certificate, and writes the line that says so.
@@ -149,17 +131,9 @@ pub extern "C" fn aig_refute_certified(
     ensures kept { 1 < result → (room.new ≡ room.old) × (written.new ≡ written.old) }
     ensures statuses { result ≤ 3 }
 {
-    let Ok(mut out) = MemWriter::new(alloc, room.len()) else {
-        return NO_MEMORY;
-    };
-    let certified = Certified {
-        circuit,
-        property,
+    let question = Question::Certified {
         certificate,
+        property,
     };
-    let mut reader = MemReader::new(proof);
-    match refute_certified(alloc, certified, &mut reader, &mut out) {
-        Ok(()) => answer(out.bytes(), room, written),
-        Err(fault) => refuse(alloc, fault, room, written),
-    }
+    refute_by(alloc, circuit, question, proof, b"", room, written)
 }

@@ -1,18 +1,7 @@
-use Rattle.std.proofs.Common.{refl, ap, ◌∙◌}
-use Rattle.std.specs.Prelude.{Some, take}
-use Rattle.aig_run.specs.Command.{OfFile}
-use Rattle.aig_commands.specs.Alive.{WritesAlive}
-use Rattle.aig_c.proofs.Endings.{done, refused}
 use Rattle.aig_c.proofs.formulas.aig_cnf_alive.Goals as goal
 
-pub returns-in-Ok-cnf_alive-clause-done : goal.returns-in-Ok-cnf_alive-clause-done
-returns-in-Ok-cnf_alive-clause-done c = λ zero_is.
-    done (OfFile c.args.circuit.now (WritesAlive c.args.frames))
-    c.cnf_alive.new.out.bytes (take c.answer.new.written c.answer.new.room)
-    (ap (λ w. Some w.bytes) c.in-Ok.ensures) refl (c.answer.ensures.done zero_is ∙ c.bytes.ensures)
-    c.in-Ok-cnf_alive.ensures.ends
+pub returns-clause-done : goal.returns-clause-done
+returns-clause-done c = c.write_formula.ensures.done
 
 pub returns-clause-refused : goal.returns-clause-refused
-returns-clause-refused c = λ one_is.
-    refused (OfFile c.args.circuit.now (WritesAlive c.args.frames))
-    c.in-Err.fault (c.refuse.ensures.refused one_is) c.in-Err.ensures.ends
+returns-clause-refused c = c.write_formula.ensures.refused

@@ -1,18 +1,10 @@
-use Rattle.std.proofs.Common.{refl, ap, ◌∙◌}
-use Rattle.std.specs.Prelude.{Some, take}
-use Rattle.aig_run.specs.Command.{OfFile}
-use Rattle.aig_commands.specs.Refute.{Refutes}
-use Rattle.aig_c.proofs.Endings.{done, refused}
 use Rattle.aig_c.proofs.refutations.aig_refute.Goals as goal
 
-pub returns-in-Ok-refute-clause-done : goal.returns-in-Ok-refute-clause-done
-returns-in-Ok-refute-clause-done c = λ zero_is.
-    done (OfFile c.args.circuit.now (Refutes c.args.frames c.args.property))
-    c.refute.new.out.bytes (take c.answer.new.written c.answer.new.room)
-    (ap (λ w. Some w.bytes) c.in-Ok.ensures) refl (c.answer.ensures.done zero_is ∙ c.bytes.ensures)
-    c.in-Ok-refute.ensures.ends
+pub returns-clause-unreachable : goal.returns-clause-unreachable
+returns-clause-unreachable c = c.refute_by.ensures.says
+
+pub returns-clause-done : goal.returns-clause-done
+returns-clause-done c = c.refute_by.ensures.done
 
 pub returns-clause-refused : goal.returns-clause-refused
-returns-clause-refused c = λ one_is.
-    refused (OfFile c.args.circuit.now (Refutes c.args.frames c.args.property))
-    c.in-Err.fault (c.refuse.ensures.refused one_is) c.in-Err.ensures.ends
+returns-clause-refused c = c.refute_by.ensures.refused

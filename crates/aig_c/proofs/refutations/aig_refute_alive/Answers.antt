@@ -1,18 +1,10 @@
-use Rattle.std.proofs.Common.{refl, ap, ◌∙◌}
-use Rattle.std.specs.Prelude.{Some, take}
-use Rattle.aig_run.specs.Command.{OfFile}
-use Rattle.aig_commands.specs.Alive.{RefutesAlive}
-use Rattle.aig_c.proofs.Endings.{done, refused}
 use Rattle.aig_c.proofs.refutations.aig_refute_alive.Goals as goal
 
-pub returns-in-Ok-refute_alive-clause-done : goal.returns-in-Ok-refute_alive-clause-done
-returns-in-Ok-refute_alive-clause-done c = λ zero_is.
-    done (OfFile c.args.circuit.now (RefutesAlive c.args.frames))
-    c.refute_alive.new.out.bytes (take c.answer.new.written c.answer.new.room)
-    (ap (λ w. Some w.bytes) c.in-Ok.ensures) refl (c.answer.ensures.done zero_is ∙ c.bytes.ensures)
-    c.in-Ok-refute_alive.ensures.ends
+pub returns-clause-no_run : goal.returns-clause-no_run
+returns-clause-no_run c = c.refute_by.ensures.says
+
+pub returns-clause-done : goal.returns-clause-done
+returns-clause-done c = c.refute_by.ensures.done
 
 pub returns-clause-refused : goal.returns-clause-refused
-returns-clause-refused c = λ one_is.
-    refused (OfFile c.args.circuit.now (RefutesAlive c.args.frames))
-    c.in-Err.fault (c.refuse.ensures.refused one_is) c.in-Err.ensures.ends
+returns-clause-refused c = c.refute_by.ensures.refused

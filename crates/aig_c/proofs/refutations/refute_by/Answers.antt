@@ -1,16 +1,17 @@
-use Rattle.std.proofs.Common.{refl, ap}
-use Rattle.std.specs.Prelude.{Some}
-use Rattle.aig_run.specs.Command.{OfFile}
-use Rattle.aig_commands.specs.Refute.{RefutesStep}
-use Rattle.aig_c.proofs.Endings.{done_if_ok, refused_if_err}
+use Rattle.std.proofs.Common.{refl, ap, ◌∙◌}
+use Rattle.std.specs.Prelude.{Some, take}
+use Rattle.aig_commands.specs.Questions.{RefutesQuestion, asked_of}
+use Rattle.aig_c.proofs.Endings.{done, refused}
 use Rattle.aig_c.proofs.refutations.refute_by.Goals as goal
 
-pub returns-clause-done : goal.returns-clause-done
-returns-clause-done c =
-    done_if_ok (OfFile c.args.circuit.now (RefutesStep c.args.frames c.args.property)) c.refute_step.new.out.bytes
-    c.refute_step.result (ap Some c.requires) refl c.refute_step.ensures.ends
+pub returns-in-Ok-refute-clause-done : goal.returns-in-Ok-refute-clause-done
+returns-in-Ok-refute-clause-done c = λ zero_is.
+    done (RefutesQuestion (asked_of c.args.question) c.args.circuit.now)
+    c.refute.new.out.bytes (take c.answer.new.written c.answer.new.room)
+    (ap (λ w. Some w.bytes) c.in-Ok.ensures) refl (c.answer.ensures.done zero_is ∙ c.bytes.ensures)
+    c.in-Ok-refute.ensures.ends
 
 pub returns-clause-refused : goal.returns-clause-refused
-returns-clause-refused c =
-    refused_if_err (OfFile c.args.circuit.now (RefutesStep c.args.frames c.args.property)) c.refute_step.result
-    c.refute_step.ensures.ends
+returns-clause-refused c = λ one_is.
+    refused (RefutesQuestion (asked_of c.args.question) c.args.circuit.now)
+    c.in-Err.fault (c.refuse.ensures.refused one_is) c.in-Err.ensures.ends
