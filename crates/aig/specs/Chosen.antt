@@ -1,6 +1,6 @@
 -- Which options a command has, by what the matches of the parser hold for it.
 -- Example: `refute --frames 20 --property 1`: K is 20 and P is 1.
-use Rattle.std.specs.Prelude.{◌≡◌, ◌⊎◌, ℕ, List, true, false, Option, None, Some, codes, option_map, ⊤}
+use Rattle.std.specs.Prelude.{◌≡◌, ◌⊎◌, ℕ, List, Bool, true, false, Option, None, Some, codes, option_map, ⊤}
 use Rattle.std.specs.Option.{unwrap_or}
 use Rattle.clap.specs.Matches.{first_value, found_of}
 use Rattle.clap.specs.declared.parser.matches.ArgMatches.{ArgMatches}
@@ -10,19 +10,12 @@ use Rattle.aig_run.specs.Position.{IsPositionIn}
 use Rattle.aig_files.specs.Source.{source_remaining}
 use Rattle.aig_files.specs.declared.source.Source.{Source}
 use Rattle.aig_cli.specs.Held.{HoldsFlag, HoldsNumber}
-use Rattle.aig_cnf.specs.declared.query.Goal.{Goal}
-use Rattle.aig_cnf.specs.declared.query.Goal.TheVariants as goals
-use Rattle.aig_cnf.specs.declared.query.Query.{Query}
 use Rattle.aig_why.specs.declared.command.Span.{Span}
 use Rattle.aig.specs.GivenFiles.{IsWitness}
 use Rattle.aig.specs.declared.command.Command.{Command}
 use Rattle.aig.specs.declared.command.Command.TheVariants as commands
-
--- the goal is that of a step where the flag is set, else that of some frames
-abbrev pub HoldsGoal : ArgMatches → Goal → Type 0
-HoldsGoal matches goals.Within = HoldsFlag matches (codes "step") false
-HoldsGoal matches goals.Step = HoldsFlag matches (codes "step") true
-HoldsGoal matches _ = ⊥
+use Rattle.aig.specs.declared.questions.QuestionFile.{QuestionFile}
+use Rattle.aig.specs.declared.questions.QuestionFile.TheVariants as files
 
 -- a text names the bad state property at this position: by its number, or else by its name in the circuit that is read,
 -- whose bytes are all there
@@ -50,10 +43,17 @@ abbrev pub HoldsClaim : {F : Type 0} → ArgMatches → Source F → ℕ → ℕ
 HoldsClaim matches circuit frames property =
     HoldsNumber matches (codes "K") (Some frames) × HoldsProperty matches circuit property
 
--- and the goal
-abbrev pub HoldsQuery : {F : Type 0} → ArgMatches → Source F → Query → Type 0
-HoldsQuery matches circuit query =
-    HoldsGoal matches query.goal × HoldsClaim matches circuit query.frames query.property
+-- what is asked of the circuit, where `step` says whether it is the step of an induction
+abbrev pub HoldsAsked : {F : Type 0} → ArgMatches → Bool → Source F → QuestionFile (Source F) → Type 0
+HoldsAsked matches step circuit (files.Within k p) = (step ≡ false) × HoldsClaim matches circuit k p
+HoldsAsked matches step circuit (files.Step k p) = (step ≡ true) × HoldsClaim matches circuit k p
+HoldsAsked matches step circuit (files.Alive k) = HoldsNumber matches (codes "K") (Some k)
+HoldsAsked matches step circuit (files.Certified certificate p) = HoldsProperty matches circuit p
+
+-- the same, by the flag of the step
+abbrev pub HoldsQuestion : {F : Type 0} → ArgMatches → Source F → QuestionFile (Source F) → Type 0
+HoldsQuestion matches circuit question =
+    (step : Bool) × HoldsFlag matches (codes "step") step × HoldsAsked matches step circuit question
 
 -- the frame to explain, and how many frames to go back
 abbrev pub HoldsSpan : ArgMatches → Span → Type 0
@@ -65,20 +65,12 @@ HoldsOptions matches (commands.Unroll frames to circuit) = HoldsNumber matches (
 HoldsOptions matches (commands.UnrollAndMap frames to circuit opened map) = HoldsNumber matches (codes "K") (Some frames)
 HoldsOptions matches (commands.Check with_trace property circuit witness) =
     HoldsFlag matches (codes "trace") with_trace × HoldsReached matches circuit property
-HoldsOptions matches (commands.Cnf query circuit) = HoldsQuery matches circuit query
-HoldsOptions matches (commands.CnfAlive frames circuit) = HoldsNumber matches (codes "K") (Some frames)
+HoldsOptions matches (commands.Cnf question circuit) = HoldsQuestion matches circuit question
 HoldsOptions matches (commands.Witness property circuit stimulus) = HoldsReached matches circuit property
-HoldsOptions matches (commands.ModelWitness query circuit model) = HoldsQuery matches circuit query
-HoldsOptions matches (commands.Refute frames property circuit proof) = HoldsClaim matches circuit frames property
-HoldsOptions matches (commands.RefuteAlive frames circuit proof) = HoldsNumber matches (codes "K") (Some frames)
-HoldsOptions matches (commands.RefuteStep frames property circuit proof step) =
-    HoldsClaim matches circuit frames property
+HoldsOptions matches (commands.ModelWitness question circuit model) = HoldsQuestion matches circuit question
+HoldsOptions matches (commands.Refute question circuit proof step) =
+    (by_step : Bool) × HoldsAsked matches by_step circuit question
 HoldsOptions matches (commands.Strengthen property to circuit certificate) = HoldsProperty matches circuit property
-HoldsOptions matches (commands.CnfCertified property circuit certificate) = HoldsProperty matches circuit property
-HoldsOptions matches (commands.CertifiedModelWitness property circuit certificate model) =
-    HoldsProperty matches circuit property
-HoldsOptions matches (commands.RefuteCertified property circuit certificate proof) =
-    HoldsProperty matches circuit property
 HoldsOptions matches (commands.Why name span circuit given) =
     (option_map (λ text. text.now) name ≡ first_value (found_of matches) (codes "of")) × HoldsSpan matches span
     × (name ≡ None → IsWitness given)

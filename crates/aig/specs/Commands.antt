@@ -1,22 +1,18 @@
 -- How each command of the program ends, where the bytes of its files are known.
--- Example: `refute` by `Refutes`, with its own K and P.
+-- Example: `refute` by `RefutesQuestion`, with its own K and P.
 use Rattle.std.specs.Prelude.{ℕ, List, Option, Some, Result, IfSome, OnOk, option_copied}
-use Rattle.aig_cnf.specs.Query.{induction}
 use Rattle.aig_sim.specs.declared.stimulus.fault.StimFault.TheVariants as stimuli
 use Rattle.aig_run.specs.Command.{OfCircuit, OfFile}
 use Rattle.aig_run.specs.declared.run_fault.RunFault.TheVariants as run_faults
 use Rattle.aig_run.specs.declared.script_fault.ScriptFault.TheVariants as scripts
-use Rattle.aig_commands.specs.Alive.{RefutesAlive, WritesAlive}
 use Rattle.aig_commands.specs.Bench.{LeavesBench}
 use Rattle.aig_commands.specs.GoesWell.{GoesWell}
 use Rattle.aig_commands.specs.Certified.{OfCertified}
-use Rattle.aig_commands.specs.Cnf.{WritesCertified, WritesFormula}
 use Rattle.aig_commands.specs.declared.certified.Purpose.TheVariants as purposes
 use Rattle.aig_commands.specs.Info.{ListsFacts}
-use Rattle.aig_commands.specs.ModelWitness.{WritesModel}
 use Rattle.aig_commands.specs.Names.{ListsNames}
+use Rattle.aig_commands.specs.Questions.{NamesQuestion, RefutesQuestion, WritesQuestion}
 use Rattle.aig_commands.specs.Reduce.{Reduces}
-use Rattle.aig_commands.specs.Refute.{Refutes, RefutesInduction, RefutesStep}
 use Rattle.aig_commands.specs.Select.{Selects}
 use Rattle.aig_commands.specs.Sim.{WritesSimulation}
 use Rattle.aig_commands.specs.Toaig.{Converts}
@@ -27,6 +23,7 @@ use Rattle.aig_why.specs.Why.{WritesWhy}
 use Rattle.aig_files.specs.declared.exit.Exit.{Exit}
 use Rattle.aig.specs.Ends.{ChecksWitness, Ends, EndsSelectingNamed, ForSomeText, end_of, end_of_verdict}
 use Rattle.aig.specs.GivenFiles.{given_left}
+use Rattle.aig.specs.Questions.{asked_by, claims_left}
 use Rattle.aig.specs.Sessions.{EndsSession}
 use Rattle.aig.specs.declared.command.Command.{Command}
 use Rattle.aig.specs.declared.command.Command.TheVariants as commands
@@ -52,10 +49,9 @@ EndsAsMeant left (commands.UnrollAndMap frames to circuit opened map) result =
 EndsAsMeant left (commands.Check with_trace property circuit witness) result =
     IfSome (left circuit) (λ file. IfSome (left witness) (λ text.
     Ends end_of_verdict (OfFile file (ChecksWitness with_trace property text)) result))
-EndsAsMeant left (commands.Cnf query circuit) result =
-    IfSome (left circuit) (λ file. Ends end_of (OfFile file (WritesFormula query)) result)
-EndsAsMeant left (commands.CnfAlive frames circuit) result =
-    IfSome (left circuit) (λ file. Ends end_of (OfFile file (WritesAlive frames)) result)
+EndsAsMeant left (commands.Cnf question circuit) result =
+    IfSome (left circuit) (λ file. IfSome (claims_left left question) (λ claims.
+    Ends end_of (WritesQuestion (asked_by question (λ certificate. claims)) file) result))
 EndsAsMeant left (commands.Info circuit) result =
     IfSome (left circuit) (λ file. Ends end_of (OfFile file (ListsFacts (Some file))) result)
 EndsAsMeant left (commands.InfoNames circuit) result = Ends end_of (OfCircuit ListsNames) result
@@ -67,27 +63,15 @@ EndsAsMeant left (commands.SelectNamed selection to circuit names) result =
 EndsAsMeant left (commands.Witness property circuit stimulus) result =
     IfSome (left circuit) (λ file. IfSome (left stimulus) (λ text.
     Ends end_of (OfFile file (WritesWitness property text)) result))
-EndsAsMeant left (commands.ModelWitness query circuit model) result =
-    IfSome (left circuit) (λ file. IfSome (left model)
-    (λ text. Ends end_of (OfFile file (WritesModel query text)) result))
-EndsAsMeant left (commands.Refute frames property circuit proof) result =
-    IfSome (left circuit) (λ file. Ends end_of (OfFile file (Refutes frames property)) result)
-EndsAsMeant left (commands.RefuteAlive frames circuit proof) result =
-    IfSome (left circuit) (λ file. Ends end_of (OfFile file (RefutesAlive frames)) result)
-EndsAsMeant left (commands.RefuteStep frames property circuit proof step) result =
-    IfSome (left circuit) (λ file. Ends end_of (OfFile file (RefutesStep frames property)) result)
+EndsAsMeant left (commands.ModelWitness question circuit model) result =
+    IfSome (left circuit) (λ file. IfSome (claims_left left question) (λ claims. IfSome (left model) (λ text.
+    Ends end_of (NamesQuestion (asked_by question (λ certificate. claims)) text file) result)))
+EndsAsMeant left (commands.Refute question circuit proof step) result =
+    IfSome (left circuit) (λ file. IfSome (claims_left left question) (λ claims.
+    Ends end_of (RefutesQuestion (asked_by question (λ certificate. claims)) file) result))
 EndsAsMeant left (commands.Strengthen property to circuit certificate) result =
     IfSome (left circuit) (λ file. IfSome (left certificate) (λ claims.
     Ends end_of (OfCertified purposes.Circuit file property claims (Converts to)) result))
-EndsAsMeant left (commands.CnfCertified property circuit certificate) result =
-    IfSome (left circuit) (λ file. IfSome (left certificate) (λ claims.
-    Ends end_of (OfCertified purposes.Formula file property claims (WritesCertified property)) result))
-EndsAsMeant left (commands.CertifiedModelWitness property circuit certificate model) result =
-    IfSome (left circuit) (λ file. IfSome (left certificate) (λ claims. IfSome (left model) (λ text.
-    Ends end_of (OfCertified purposes.Formula file property claims (WritesModel (induction 1 0) text)) result)))
-EndsAsMeant left (commands.RefuteCertified property circuit certificate proof) result =
-    IfSome (left circuit) (λ file. IfSome (left certificate) (λ claims.
-    Ends end_of (OfCertified purposes.Formula file property claims RefutesInduction) result))
 EndsAsMeant left (commands.Why name span circuit given) result =
     IfSome (left circuit) (λ file. IfSome (given_left left given) (λ run.
     Ends end_of (OfFile file (WritesWhy run (option_copied name) span)) result))

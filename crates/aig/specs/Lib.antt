@@ -2,4 +2,5 @@ pub mod Chosen
 pub mod Commands
 pub mod Ends
 pub mod GivenFiles
+pub mod Questions
 pub mod Sessions

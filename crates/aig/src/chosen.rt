@@ -7,15 +7,18 @@ use crate::given_file::is_witness;
 use crate::named_files::{open_certificate, open_circuit, open_file, open_named};
 use crate::options::{format_of, frames_of, kept_of, section_of, span_of};
 use crate::properties::{
-    open_circuit_and_properties, open_circuit_and_property, open_circuit_and_query,
-    open_circuit_and_reached,
+    open_circuit_and_properties, open_circuit_and_property, open_circuit_and_question,
+    open_circuit_and_reached, open_circuit_and_runs,
 };
+use crate::questions::QuestionFile;
 use aig_cli::{has_flag, subcommand_of, text_of};
 use aig_files::{Exit, Part, Source, open};
 use aig_run::Given;
 use aig_terminal::{Terminal, Tracked};
 use clap::ArgMatches;
+use std::alloc::Global;
 use std::fs::Files;
+use std::io::Cursor;
 use std::time::Clock;
 
 /// Returns the command that the arguments choose, with its options, and opens its files in the order of the arguments.
@@ -190,40 +193,9 @@ fn open_cnf<'m, 't, R: Files + AllocGlobal + Clock + Eprint>(
 ) -> Result<Command<'m, Source<Tracked<'t, R, R::File>>>, Exit>
     ensures options { IfOk result (HoldsOptions matches.now) }
 {
-    if text_of(matches, "certificate").is_some() {
-        return open_cnf_certified(terminal, matches);
-    }
-    if has_flag(matches, "alive") {
-        return open_cnf_alive(terminal, matches);
-    }
-    let (circuit, query) = open_circuit_and_query(terminal, matches)?;
-    Ok(Command::Cnf { query, circuit })
-}
-
-fn open_cnf_alive<'m, 't, R: Files + AllocGlobal + Clock + Eprint>(
-    terminal: &'t Terminal<'t, R>,
-    matches: &'m ArgMatches<'_>,
-) -> Result<Command<'m, Source<Tracked<'t, R, R::File>>>, Exit>
-    ensures options { IfOk result (HoldsOptions matches.now) }
-{
-    let frames = frames_of(matches)?;
-    let circuit = open_circuit(terminal, matches)?;
-    Ok(Command::CnfAlive { frames, circuit })
-}
-
-fn open_cnf_certified<'m, 't, R: Files + AllocGlobal + Clock + Eprint>(
-    terminal: &'t Terminal<'t, R>,
-    matches: &'m ArgMatches<'_>,
-) -> Result<Command<'m, Source<Tracked<'t, R, R::File>>>, Exit>
-    ensures options { IfOk result (HoldsOptions matches.now) }
-{
-    let (circuit, property) = open_circuit_and_property(terminal, matches)?;
-    let certificate = open_certificate(terminal, matches)?;
-    Ok(Command::CnfCertified {
-        property,
-        circuit,
-        certificate,
-    })
+    let step = has_flag(matches, "step");
+    let (circuit, question) = open_circuit_and_question(terminal, matches, step)?;
+    Ok(Command::Cnf { question, circuit })
 }
 
 fn open_info<'m, 't, R: Files + AllocGlobal + Clock + Eprint>(
@@ -294,31 +266,12 @@ fn open_model_witness<'m, 't, R: Files + AllocGlobal + Clock + Eprint>(
 ) -> Result<Command<'m, Source<Tracked<'t, R, R::File>>>, Exit>
     ensures options { IfOk result (HoldsOptions matches.now) }
 {
-    if text_of(matches, "certificate").is_some() {
-        return open_certified_model_witness(terminal, matches);
-    }
-    let (circuit, query) = open_circuit_and_query(terminal, matches)?;
+    let step = has_flag(matches, "step");
+    let (circuit, question) = open_circuit_and_question(terminal, matches, step)?;
     let model = open_named(terminal, matches, "model", Part::Model)?;
     Ok(Command::ModelWitness {
-        query,
+        question,
         circuit,
-        model,
-    })
-}
-
-fn open_certified_model_witness<'m, 't, R: Files + AllocGlobal + Clock + Eprint>(
-    terminal: &'t Terminal<'t, R>,
-    matches: &'m ArgMatches<'_>,
-) -> Result<Command<'m, Source<Tracked<'t, R, R::File>>>, Exit>
-    ensures options { IfOk result (HoldsOptions matches.now) }
-{
-    let (circuit, property) = open_circuit_and_property(terminal, matches)?;
-    let certificate = open_certificate(terminal, matches)?;
-    let model = open_named(terminal, matches, "model", Part::Model)?;
-    Ok(Command::CertifiedModelWitness {
-        property,
-        circuit,
-        certificate,
         model,
     })
 }
@@ -332,46 +285,19 @@ fn open_refute<'m, 't, R: Files + AllocGlobal + Clock + Eprint>(
     if text_of(matches, "certificate").is_some() {
         return open_refute_certified(terminal, matches);
     }
-    if has_flag(matches, "alive") {
-        return open_refute_alive(terminal, matches);
-    }
-    let frames = frames_of(matches)?;
-    let (circuit, property) = open_circuit_and_property(terminal, matches)?;
+    let by_step = text_of(matches, "step").is_some();
+    let (circuit, question) = open_circuit_and_runs(terminal, matches, by_step)?;
     let proof = open_named(terminal, matches, "PROOF", Part::Proof)?;
-    let Some(step) = text_of(matches, "step") else {
-        return Ok(Command::Refute {
-            frames,
-            property,
-            circuit,
-            proof,
-        });
-    };
-    let step = Source::File(open(terminal, step, Part::StepProof)?);
-    Ok(Command::RefuteStep {
-        frames,
-        property,
+    let step = open_step(terminal, matches)?;
+    Ok(Command::Refute {
+        question,
         circuit,
         proof,
         step,
     })
 }
 
-fn open_refute_alive<'m, 't, R: Files + AllocGlobal + Clock + Eprint>(
-    terminal: &'t Terminal<'t, R>,
-    matches: &'m ArgMatches<'_>,
-) -> Result<Command<'m, Source<Tracked<'t, R, R::File>>>, Exit>
-    ensures options { IfOk result (HoldsOptions matches.now) }
-{
-    let frames = frames_of(matches)?;
-    let circuit = open_circuit(terminal, matches)?;
-    let proof = open_named(terminal, matches, "PROOF", Part::Proof)?;
-    Ok(Command::RefuteAlive {
-        frames,
-        circuit,
-        proof,
-    })
-}
-
+/// The certificate stands among the options, so it is opened after the proof.
 fn open_refute_certified<'m, 't, R: Files + AllocGlobal + Clock + Eprint>(
     terminal: &'t Terminal<'t, R>,
     matches: &'m ArgMatches<'_>,
@@ -381,12 +307,32 @@ fn open_refute_certified<'m, 't, R: Files + AllocGlobal + Clock + Eprint>(
     let (circuit, property) = open_circuit_and_property(terminal, matches)?;
     let proof = open_named(terminal, matches, "PROOF", Part::Proof)?;
     let certificate = open_certificate(terminal, matches)?;
-    Ok(Command::RefuteCertified {
-        property,
-        circuit,
+    let question = QuestionFile::Certified {
         certificate,
+        property,
+    };
+    Ok(Command::Refute {
+        question,
+        circuit,
         proof,
+        step: no_proof(terminal.alloc()),
     })
+}
+
+/// Opens the proof of a step, if one is named.
+fn open_step<'t, R: Files + AllocGlobal + Clock + Eprint>(
+    terminal: &'t Terminal<'t, R>,
+    matches: &ArgMatches<'_>,
+) -> Result<Source<Tracked<'t, R, R::File>>, Exit> {
+    let Some(step) = text_of(matches, "step") else {
+        return Ok(no_proof(terminal.alloc()));
+    };
+    Ok(Source::File(open(terminal, step, Part::StepProof)?))
+}
+
+/// An empty file, in place of the proof of a step.
+fn no_proof<F: Drop>(alloc: Global) -> Source<F> {
+    Source::Bytes(Cursor::new(Vec::new(alloc)))
 }
 
 fn open_strengthen<'m, 't, R: Files + AllocGlobal + Clock + Eprint>(

@@ -1,8 +1,6 @@
-//! The commands on a circuit alone: conversion, unrolling, formulas, and facts about it.
+//! The commands on a circuit alone: conversion, unrolling, selection, and facts about it.
 ghost use Rattle.std.specs.Prelude.{Some, IfSome, OnOk};
 ghost use Rattle.aig_run.specs.Command.{OfCircuit, OfFile};
-ghost use Rattle.aig_commands.specs.Alive.{WritesAlive};
-ghost use Rattle.aig_commands.specs.Cnf.{WritesFormula};
 ghost use Rattle.aig_commands.specs.GoesWell.{GoesWell};
 ghost use Rattle.aig_commands.specs.Info.{ListsFacts};
 ghost use Rattle.aig_commands.specs.Names.{ListsNames};
@@ -15,9 +13,8 @@ use crate::command::Selection;
 use crate::ended::{ended, streamed};
 use crate::kept::{begin_map, write_map};
 use aig_base::{Circuit, Std};
-use aig_cnf::Query;
 use aig_commands::select::NamedSelection;
-use aig_commands::{alive, cnf, info, select, toaig, unroll};
+use aig_commands::{info, select, toaig, unroll};
 use aig_files::{Exit, Known, OutputFile, Part, output, read_whole};
 use aig_format::Format;
 use aig_run::RunFault;
@@ -102,36 +99,6 @@ fn write_unrolled<R: AllocGlobal + Print>(
 {
     let mut out = output(rt);
     unroll::unroll(rt.alloc(), circuit, frames, to, &mut out)
-}
-
-/// Writes the formula of a query.
-pub fn cnf<R: AllocGlobal + Print, F: Read + Drop>(
-    rt: &R,
-    query: Query,
-    circuit: F,
-) -> Result<(), Exit>
-    ensures ends { IfSome (F.remaining circuit) (λ file.
-        Ends end_of (OfFile file (WritesFormula query)) result) }
-{
-    let circuit = read_whole(rt.alloc(), circuit, Part::Circuit)?;
-    let file = circuit.as_slice();
-    let mut out = output(rt);
-    ended(cnf::cnf(rt.alloc(), file, query, &mut out))
-}
-
-/// Writes the formula that a run keeps all constraints at `frames` frames.
-pub fn cnf_alive<R: AllocGlobal + Print, F: Read + Drop>(
-    rt: &R,
-    frames: u32,
-    circuit: F,
-) -> Result<(), Exit>
-    ensures ends { IfSome (F.remaining circuit) (λ file.
-        Ends end_of (OfFile file (WritesAlive frames)) result) }
-{
-    let circuit = read_whole(rt.alloc(), circuit, Part::Circuit)?;
-    let file = circuit.as_slice();
-    let mut out = output(rt);
-    ended(alive::cnf_alive(rt.alloc(), file, frames, &mut out))
 }
 
 /// Writes facts about a circuit.

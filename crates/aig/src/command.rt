@@ -1,17 +1,15 @@
 //! A command with its options and its open files, and what it runs.
 ghost use Rattle.aig.specs.Commands.{EndsAsMeant};
 
-use crate::certificates::{certified_model_witness, cnf_certified, refute_certified, strengthen};
-use crate::circuits::{
-    cnf, cnf_alive, info, info_names, select, select_named, toaig, unroll, unroll_and_map,
-};
+use crate::certificates::strengthen;
+use crate::circuits::{info, info_names, select, select_named, toaig, unroll, unroll_and_map};
+use crate::questions::QuestionFile;
 use crate::sessions::shell;
 use crate::simulations::{bench, sim, wave};
-use crate::solvers::{model_witness, refute, refute_alive, refute_step};
+use crate::solvers::{cnf, model_witness, refute};
 use crate::why::why;
 use crate::witnesses::{check, reduce, wave_witness, witness};
 use aig_base::PropertySection;
-use aig_cnf::Query;
 use aig_files::{Exit, Kept};
 use aig_format::Format;
 use aig_run::Given;
@@ -88,14 +86,9 @@ pub enum Command<'a, F> {
         circuit: F,
         witness: F,
     },
-    /// `cnf`: the formula that a bad state is reached, with `--step` that of the induction step.
+    /// `cnf`: the formula of a question.
     Cnf {
-        query: Query,
-        circuit: F,
-    },
-    /// `cnf --alive`: the formula that a run keeps all constraints.
-    CnfAlive {
-        frames: u32,
+        question: QuestionFile<F>,
         circuit: F,
     },
     /// `info`: facts about a circuit.
@@ -125,29 +118,16 @@ pub enum Command<'a, F> {
         circuit: F,
         stimulus: F,
     },
-    /// `witness --model`: that of a solver's model, with `--step` of an induction step.
+    /// `witness --model`: that of a solver's model of a question's formula.
     ModelWitness {
-        query: Query,
+        question: QuestionFile<F>,
         circuit: F,
         model: F,
     },
-    /// `refute`: the check of a proof.
+    /// `refute`: the check of a proof about a question's formula. The proof of a step is an empty file where none is
+    /// asked for.
     Refute {
-        frames: u32,
-        property: u32,
-        circuit: F,
-        proof: F,
-    },
-    /// `refute --alive`: the check of a proof that no run keeps all constraints.
-    RefuteAlive {
-        frames: u32,
-        circuit: F,
-        proof: F,
-    },
-    /// `refute --step`: the check of a proof by induction.
-    RefuteStep {
-        frames: u32,
-        property: u32,
+        question: QuestionFile<F>,
         circuit: F,
         proof: F,
         step: F,
@@ -170,26 +150,6 @@ pub enum Command<'a, F> {
         to: Format,
         circuit: F,
         certificate: F,
-    },
-    /// `cnf --certificate`: the formula of an induction over such a circuit.
-    CnfCertified {
-        property: u32,
-        circuit: F,
-        certificate: F,
-    },
-    /// `witness --certificate --model`: the run of such a circuit that a solver's model names.
-    CertifiedModelWitness {
-        property: u32,
-        circuit: F,
-        certificate: F,
-        model: F,
-    },
-    /// `refute --certificate`: the check of a proof about the formula.
-    RefuteCertified {
-        property: u32,
-        circuit: F,
-        certificate: F,
-        proof: F,
     },
 }
 
@@ -233,8 +193,7 @@ impl<F: Read + Drop> Command<'_, F> {
                 circuit,
                 witness,
             } => check(terminal, with_trace, property, circuit, witness),
-            Command::Cnf { query, circuit } => cnf(terminal, query, circuit),
-            Command::CnfAlive { frames, circuit } => cnf_alive(terminal, frames, circuit),
+            Command::Cnf { question, circuit } => cnf(terminal, question, circuit),
             Command::Info { circuit } => info(terminal, circuit),
             Command::InfoNames { circuit } => info_names(terminal, circuit),
             Command::Select {
@@ -254,28 +213,16 @@ impl<F: Read + Drop> Command<'_, F> {
                 stimulus,
             } => witness(terminal, property, circuit, stimulus),
             Command::ModelWitness {
-                query,
+                question,
                 circuit,
                 model,
-            } => model_witness(terminal, query, circuit, model),
+            } => model_witness(terminal, question, circuit, model),
             Command::Refute {
-                frames,
-                property,
-                circuit,
-                proof,
-            } => refute(terminal, frames, property, circuit, proof),
-            Command::RefuteAlive {
-                frames,
-                circuit,
-                proof,
-            } => refute_alive(terminal, frames, circuit, proof),
-            Command::RefuteStep {
-                frames,
-                property,
+                question,
                 circuit,
                 proof,
                 step,
-            } => refute_step(terminal, frames, property, circuit, proof, step),
+            } => refute(terminal, question, circuit, proof, step),
             Command::Reduce { circuit, witness } => reduce(terminal, circuit, witness),
             Command::Why {
                 name,
@@ -289,23 +236,6 @@ impl<F: Read + Drop> Command<'_, F> {
                 circuit,
                 certificate,
             } => strengthen(terminal, property, to, circuit, certificate),
-            Command::CnfCertified {
-                property,
-                circuit,
-                certificate,
-            } => cnf_certified(terminal, property, circuit, certificate),
-            Command::CertifiedModelWitness {
-                property,
-                circuit,
-                certificate,
-                model,
-            } => certified_model_witness(terminal, property, circuit, certificate, model),
-            Command::RefuteCertified {
-                property,
-                circuit,
-                certificate,
-                proof,
-            } => refute_certified(terminal, property, circuit, certificate, proof),
         }
     }
 }

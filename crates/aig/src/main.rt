@@ -13,6 +13,7 @@ mod looked_at;
 mod named_files;
 mod options;
 mod properties;
+mod questions;
 mod sessions;
 mod simulations;
 mod solvers;

@@ -1,11 +1,10 @@
 //! The options of a command, as the parser found them.
 ghost use Rattle.std.specs.Prelude.{◌≡◌, IfOk, Some, codes};
 ghost use Rattle.aig_cli.specs.Held.{HoldsNumber};
-ghost use Rattle.aig.specs.Chosen.{HoldsGoal, HoldsSpan, property_text};
+ghost use Rattle.aig.specs.Chosen.{HoldsSpan, property_text};
 
 use aig_base::PropertySection;
-use aig_cli::{has_flag, number_of, text_of};
-use aig_cnf::Goal;
+use aig_cli::{number_of, text_of};
 use aig_files::{Exit, Kept};
 use aig_format::Format;
 use aig_why::Span;
@@ -35,17 +34,6 @@ pub fn property_text<'a>(matches: &ArgMatches<'a>) -> &'a str
     ensures held { result.now ≡ property_text matches.now }
 {
     text_of(matches, "P").unwrap_or("0")
-}
-
-/// Returns the goal: with the flag `--step` that of an induction step.
-pub fn goal_of(matches: &ArgMatches<'_>) -> Goal
-    ensures held { HoldsGoal matches.now result }
-{
-    if has_flag(matches, "step") {
-        Goal::Step
-    } else {
-        Goal::Within
-    }
 }
 
 /// Returns the section that an option names; bad state properties if it is left out.

@@ -1,12 +1,12 @@
 //! The circuit of a command, and the properties of it that texts name.
 ghost use Rattle.std.specs.Prelude.{IfOk};
-ghost use Rattle.aig.specs.Chosen.{HoldsProperty, HoldsQuery, HoldsReached, NamesProperty};
+ghost use Rattle.aig.specs.Chosen.{HoldsAsked, HoldsProperty, HoldsReached, NamesProperty};
 
-use crate::named_files::{open_circuit, open_file};
-use crate::options::{frames_of, goal_of, property_text};
+use crate::named_files::{open_certificate, open_circuit, open_file};
+use crate::options::{frames_of, property_text};
+use crate::questions::QuestionFile;
 use aig_base::PropertySection;
-use aig_cli::{text_of, texts_of};
-use aig_cnf::Query;
+use aig_cli::{has_flag, text_of, texts_of};
 use aig_files::{Exit, Part, Source, read_whole};
 use aig_names::{number_of as number_in, position_of};
 use aig_run::{RunFault, position_in, read_circuit};
@@ -51,22 +51,58 @@ pub fn open_circuit_and_property<'t, R: Files + AllocGlobal + Clock + Eprint>(
     open_circuit_for(terminal, matches, property_text(matches))
 }
 
-/// Opens the circuit, and returns the question about its property.
-pub fn open_circuit_and_query<'t, R: Files + AllocGlobal + Clock + Eprint>(
+/// Opens the circuit, and returns what is asked of its runs: whether one keeps all constraints, or whether one reaches
+/// its property, with `step` by that of an induction.
+pub fn open_circuit_and_runs<'t, R: Files + AllocGlobal + Clock + Eprint>(
     terminal: &'t Terminal<'t, R>,
     matches: &ArgMatches<'_>,
-) -> Result<(Source<Tracked<'t, R, R::File>>, Query), Exit>
-    ensures held { IfOk result (λ r. HoldsQuery matches.now r.0 r.1) }
+    step: bool,
+) -> Result<
+    (
+        Source<Tracked<'t, R, R::File>>,
+        QuestionFile<Source<Tracked<'t, R, R::File>>>,
+    ),
+    Exit,
+>
+    ensures held { IfOk result (λ r. HoldsAsked matches.now step r.0 r.1) }
 {
-    let goal = goal_of(matches);
     let frames = frames_of(matches)?;
+    if has_flag(matches, "alive") {
+        let circuit = open_circuit(terminal, matches)?;
+        return Ok((circuit, QuestionFile::Alive { frames }));
+    }
     let (circuit, property) = open_circuit_and_property(terminal, matches)?;
-    let query = Query {
-        goal,
-        frames,
+    if step {
+        Ok((circuit, QuestionFile::Step { frames, property }))
+    } else {
+        Ok((circuit, QuestionFile::Within { frames, property }))
+    }
+}
+
+/// The same, or whether a run reaches its property by the certificate, which is opened.
+pub fn open_circuit_and_question<'t, R: Files + AllocGlobal + Clock + Eprint>(
+    terminal: &'t Terminal<'t, R>,
+    matches: &ArgMatches<'_>,
+    step: bool,
+) -> Result<
+    (
+        Source<Tracked<'t, R, R::File>>,
+        QuestionFile<Source<Tracked<'t, R, R::File>>>,
+    ),
+    Exit,
+>
+    ensures held { IfOk result (λ r. HoldsAsked matches.now step r.0 r.1) }
+{
+    if text_of(matches, "certificate").is_none() {
+        return open_circuit_and_runs(terminal, matches, step);
+    }
+    let (circuit, property) = open_circuit_and_property(terminal, matches)?;
+    let certificate = open_certificate(terminal, matches)?;
+    let question = QuestionFile::Certified {
+        certificate,
         property,
     };
-    Ok((circuit, query))
+    Ok((circuit, question))
 }
 
 /// Opens the circuit, and finds its property if one is named.

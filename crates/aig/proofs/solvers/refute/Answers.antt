@@ -1,30 +1,52 @@
-use Rattle.aig_commands.specs.Refute.{IsFileUnreachable, Refutes}
-use Rattle.aig_run.specs.Command.{OfFile}
+use Rattle.std.proofs.Common.{List, ℕ, OnOk, ◌∙◌, subst}
+use Rattle.aig_commands.specs.Questions.{Asked, RefutesQuestion, Says}
 use Rattle.aig_terminal.specs.declared.part.Part.TheVariants as parts
 use Rattle.aig.specs.Ends.{Ends, as_meant, end_of}
-use Rattle.aig.proofs.Endings.{answers, no_end, of_any, of_whole, ok_of, ok_whole, slice_whole, ends_unread}
+use Rattle.aig.specs.Questions.{asked_by, claims_left}
+use Rattle.aig.proofs.Asked.{some_claims}
+use Rattle.aig.proofs.Endings.{answers, ends_unread, no_end, of_any_two, of_both, ok_of, ok_whole, slice_whole}
 use Rattle.aig.proofs.solvers.refute.Goals as goal
 
-pub returns-clause-unreachable : goal.returns-clause-unreachable
-returns-clause-unreachable g c =
-    ok_whole c.ended.result (g.F.Read.remaining c.args.circuit) c.as_slice-file.result.now
+pub returns-clause-says : goal.returns-clause-says
+returns-clause-says g c =
+    let file = c.as_slice-file.result.now in
+    let read = c.in_ok-read.ensures.asked in
+    ok_whole c.ended.result (g.F.Read.remaining c.args.circuit) file
     (slice_whole (g.F.Read.remaining c.args.circuit) _ _ c.as_slice-file.ensures.value c.in_ok-circuit.ensures.whole)
-    (λ file. IsFileUnreachable file c.args.frames c.args.property) (ok_of _ c.refute.result c.ended.result c.ended.ensures c.refute.ensures.unreachable)
+    (λ file. (claims : List ℕ) × Says (asked_by c.args.question (λ certificate. claims)) file)
+    (ok_of _ c.refute.result c.ended.result c.ended.ensures
+    (some_claims c.refute.result (λ claims. Says (asked_by c.args.question (λ certificate. claims)) file) read.0
+    (subst (λ (a : Asked). OnOk c.refute.result (Says a file)) (c.question_of-asked.ensures ∙ read.1) c.refute.ensures.says)))
 
-pub returns-in_err-circuit-clause-unreachable : goal.returns-in_err-circuit-clause-unreachable
-returns-in_err-circuit-clause-unreachable g c =
+pub returns-in_err-circuit-clause-says : goal.returns-in_err-circuit-clause-says
+returns-in_err-circuit-clause-says g c =
     no_end _ c.from_residual.result c.in_err-circuit.field-0.0 c.from_residual.ensures.1
+
+pub returns-in_err-read-clause-says : goal.returns-in_err-read-clause-says
+returns-in_err-read-clause-says g c =
+    no_end _ c.from_residual-in_err-read.result c.in_err-read.field-0.0 c.from_residual-in_err-read.ensures.1
 
 pub returns-clause-ends : goal.returns-clause-ends
 returns-clause-ends g c =
     let file = c.as_slice-file.result.now in
-    of_whole (g.F.Read.remaining c.args.circuit) file
-    (slice_whole (g.F.Read.remaining c.args.circuit) _ _ c.as_slice-file.ensures.value c.in_ok-circuit.ensures.whole)
-    (λ xs. Ends end_of (OfFile xs (Refutes c.args.frames c.args.property)) c.ended.result)
-    (as_meant c.refute.result (answers _ (OfFile file (Refutes c.args.frames c.args.property)) c.refute.result c.refute.ensures.ends) c.ended.ensures)
+    let read = c.in_ok-read.ensures.asked in
+    of_both (g.F.Read.remaining c.args.circuit) (claims_left g.F.Read.remaining c.args.question) file read.0
+    (slice_whole (g.F.Read.remaining c.args.circuit) _ _ c.as_slice-file.ensures.value c.in_ok-circuit.ensures.whole) read.2
+    (λ xs ys. Ends end_of (RefutesQuestion (asked_by c.args.question (λ certificate. ys)) xs) c.ended.result)
+    (subst (λ (a : Asked). Ends end_of (RefutesQuestion a file) c.ended.result) (c.question_of-asked.ensures ∙ read.1)
+    (as_meant c.refute.result (answers _ _ c.refute.result c.refute.ensures.ends) c.ended.ensures))
 
 pub returns-in_err-circuit-clause-ends : goal.returns-in_err-circuit-clause-ends
 returns-in_err-circuit-clause-ends g c =
-    of_any (g.F.Read.remaining c.args.circuit) (λ xs. Ends end_of (OfFile xs (Refutes c.args.frames c.args.property)) c.from_residual.result)
-    (λ xs. (ends_unread c.from_residual.result c.in_err-circuit.field-0.0 parts.Circuit c.in_err-circuit.ensures.fails
-    c.from_residual.ensures.1))
+    let r = c.from_residual.result in
+    of_any_two (g.F.Read.remaining c.args.circuit) (claims_left g.F.Read.remaining c.args.question)
+    (λ xs ys. Ends end_of (RefutesQuestion (asked_by c.args.question (λ certificate. ys)) xs) r)
+    (λ xs ys. ends_unread r c.in_err-circuit.field-0.0 parts.Circuit c.in_err-circuit.ensures.fails c.from_residual.ensures.1)
+
+pub returns-in_err-read-clause-ends : goal.returns-in_err-read-clause-ends
+returns-in_err-read-clause-ends g c =
+    let r = c.from_residual-in_err-read.result in
+    of_any_two (g.F.Read.remaining c.args.circuit) (claims_left g.F.Read.remaining c.args.question)
+    (λ xs ys. Ends end_of (RefutesQuestion (asked_by c.args.question (λ certificate. ys)) xs) r)
+    (λ xs ys. ends_unread r c.in_err-read.field-0.0 parts.Certificate c.in_err-read.ensures.fails
+    c.from_residual-in_err-read.ensures.1)

@@ -1,0 +1,41 @@
+use Rattle.std.proofs.Common.{◌∙◌, subst}
+use Rattle.aig_commands.specs.Questions.{Asked, WritesQuestion}
+use Rattle.aig_terminal.specs.declared.part.Part.TheVariants as parts
+use Rattle.aig.specs.Ends.{Ends, as_meant, end_of}
+use Rattle.aig.specs.Questions.{asked_by, claims_left}
+use Rattle.aig.proofs.Endings.{answers, ends_unread, of_any_two, of_both, slice_whole}
+use Rattle.aig.proofs.solvers.cnf.Goals as goal
+
+pub returns : goal.returns
+returns g c =
+    let file = c.as_slice-file.result.now in
+    let read = c.in_ok-read.ensures.asked in
+    record {
+      ends =
+          of_both (g.F.Read.remaining c.args.circuit) (claims_left g.F.Read.remaining c.args.question) file read.0
+          (slice_whole (g.F.Read.remaining c.args.circuit) _ _ c.as_slice-file.ensures.value c.in_ok-circuit.ensures.whole) read.2
+          (λ xs ys. Ends end_of (WritesQuestion (asked_by c.args.question (λ certificate. ys)) xs) c.ended.result)
+          (subst (λ (a : Asked). Ends end_of (WritesQuestion a file) c.ended.result) (c.question_of-asked.ensures ∙ read.1)
+          (as_meant c.cnf.result (answers _ _ c.cnf.result c.cnf.ensures.ends) c.ended.ensures));
+    }
+
+pub returns-in_err-circuit : goal.returns-in_err-circuit
+returns-in_err-circuit g c =
+    let r = c.from_residual.result in
+    record {
+      ends =
+          of_any_two (g.F.Read.remaining c.args.circuit) (claims_left g.F.Read.remaining c.args.question)
+          (λ xs ys. Ends end_of (WritesQuestion (asked_by c.args.question (λ certificate. ys)) xs) r)
+          (λ xs ys. ends_unread r c.in_err-circuit.field-0.0 parts.Circuit c.in_err-circuit.ensures.fails c.from_residual.ensures.1);
+    }
+
+pub returns-in_err-read : goal.returns-in_err-read
+returns-in_err-read g c =
+    let r = c.from_residual-in_err-read.result in
+    record {
+      ends =
+          of_any_two (g.F.Read.remaining c.args.circuit) (claims_left g.F.Read.remaining c.args.question)
+          (λ xs ys. Ends end_of (WritesQuestion (asked_by c.args.question (λ certificate. ys)) xs) r)
+          (λ xs ys. ends_unread r c.in_err-read.field-0.0 parts.Certificate c.in_err-read.ensures.fails
+          c.from_residual-in_err-read.ensures.1);
+    }
