@@ -31,7 +31,9 @@ impl From<RunFault> for Exit {
 
 impl Exit {
     /// Prints the reason on standard error, unless it is printed already, and returns the exit.
-    pub fn report(self, rt: &impl Eprint) -> Exit {
+    pub fn report(self, rt: &impl Eprint) -> Exit
+        ensures { result ≡ self }
+    {
         // There is no place left to report that standard error fails.
         let _ = self.print(rt);
         self

@@ -1,4 +1,5 @@
 //! The stack that the work takes.
+ghost use Rattle.std.specs.Prelude.{◌≡◌, IfErr};
 
 use crate::exit::Exit;
 use aig_run::RunFault;
@@ -14,7 +15,9 @@ const FRAMES: usize = 64;
 /// Makes the stack as large as the work needs it, or fails. Once memory is gone the stack cannot grow, and the system
 /// would end the program by a signal. Only a request for memory has an answer, so this asks for as much memory first, and
 /// gives it back to the stack.
-pub fn reserve_stack<F: Read>(alloc: Global, file: &mut F) -> Result<(), Exit> {
+pub fn reserve_stack<F: Read>(alloc: Global, file: &mut F) -> Result<(), Exit>
+    ensures fails { IfErr result (λ exit. exit ≡ Exit.Run RunFault.Memory) }
+{
     if Vec::<u8>::with_capacity(alloc, FRAME * FRAMES).is_err() {
         return Err(Exit::Run(RunFault::Memory));
     }
