@@ -6,7 +6,13 @@ use Rattle.std.specs.Option.{unwrap_or}
 use Rattle.std.specs.Str.{bytes_eq}
 use Rattle.std.specs.Str.Parse.{IsNumeral, digits_value, without_leading_plus}
 use Rattle.clap.specs.Matches.{found_of, one_text}
+use Rattle.clap.specs.Simple.{subcommand_rows_of}
+use Rattle.clap.specs.Walk.{rows_of}
 use Rattle.clap.specs.declared.parser.matches.ArgMatches.{ArgMatches}
+
+-- the matches hold a subcommand of this name, whose own matches have the values of these
+abbrev pub HoldsSubcommand : ArgMatches → List ℕ → ArgMatches → Type 0
+HoldsSubcommand matches name own = subcommand_rows_of matches ≡ Some (name, rows_of (found_of own))
 
 -- a number of 32 bits is the one that a text spells in decimal digits; there is none only where it spells no such
 -- number

@@ -1,7 +1,7 @@
 //! The command line: the parser of its words, and what it found.
 ghost use Rattle.std.specs.Prelude.{◌≡◌, false, option_map, slice_index, IfSome};
 ghost use Rattle.clap.specs.Matches.{first_value, found_of};
-ghost use Rattle.aig_cli.specs.Held.{HoldsFlag, HoldsNumber, HoldsNumberOr, is_plain_number};
+ghost use Rattle.aig_cli.specs.Held.{HoldsFlag, HoldsNumber, HoldsNumberOr, HoldsSubcommand, is_plain_number};
 
 use crate::arguments::{Argument, EXPLAIN, NUMBERS, PROGRESS, built};
 use crate::help;
@@ -75,7 +75,9 @@ pub fn matches_of<'a>(alloc: Global, words: &'a [String]) -> Result<ArgMatches<'
 }
 
 /// Returns the subcommand with its own matches.
-pub fn subcommand_of<'m, 'a>(matches: &'m ArgMatches<'a>) -> Option<(&'a str, &'m ArgMatches<'a>)> {
+pub fn subcommand_of<'m, 'a>(matches: &'m ArgMatches<'a>) -> Option<(&'a str, &'m ArgMatches<'a>)>
+    ensures held { IfSome result (λ sub. HoldsSubcommand matches.now sub.0.now sub.1.now) }
+{
     matches.subcommand()
 }
 
