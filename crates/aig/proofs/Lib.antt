@@ -1,4 +1,5 @@
 pub mod Asked
 pub mod Endings
 pub mod RunFiles
+pub mod Running
 pub mod SessionEndings

@@ -2,5 +2,6 @@ pub mod Chosen
 pub mod Commands
 pub mod Ends
 pub mod GivenFiles
+pub mod Program
 pub mod Questions
 pub mod Sessions

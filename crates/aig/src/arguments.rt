@@ -1,4 +1,6 @@
 //! The arguments of the command line.
+ghost use Rattle.std.specs.Prelude.{IfErr};
+ghost use Rattle.aig.specs.Program.{IsUnparsed};
 
 use aig_base::Memory;
 use aig_cli::{matches_of, odd_number, subcommand_of};
@@ -12,7 +14,9 @@ use std::env::{self, Env};
 use std::io;
 
 /// Returns all arguments, the program's name first.
-pub fn all<R: Env + AllocGlobal>(rt: &R) -> Result<Vec<String>, Exit> {
+pub fn all<R: Env + AllocGlobal>(rt: &R) -> Result<Vec<String>, Exit>
+    ensures fails { IfErr result IsUnparsed }
+{
     match env::args(rt) {
         Ok(words) => match words.collect(rt.alloc()) {
             Ok(list) => Ok(list),
@@ -29,7 +33,9 @@ pub fn all<R: Env + AllocGlobal>(rt: &R) -> Result<Vec<String>, Exit> {
 pub fn parsed<'a, R: AllocGlobal + Eprint>(
     rt: &R,
     words: &'a [String],
-) -> Result<ArgMatches<'a>, Exit> {
+) -> Result<ArgMatches<'a>, Exit>
+    ensures fails { IfErr result IsUnparsed }
+{
     match matches_of(rt.alloc(), words) {
         Ok(matches) => Ok(matches),
         Err(error) => Err(refused(rt, words, &error)),
@@ -48,7 +54,9 @@ pub fn with_odd_number(rt: &impl Eprint, matches: &ArgMatches<'_>) -> Option<Exi
 
 /// Prints clap's text. It names arguments, which may have bytes that a terminal obeys. It is then the text for the
 /// escaped arguments. They have the same fault, because no name of a command or an option and no number has such bytes.
-fn refused<R: AllocGlobal + Eprint>(rt: &R, words: &[String], error: &clap::Error) -> Exit {
+fn refused<R: AllocGlobal + Eprint>(rt: &R, words: &[String], error: &clap::Error) -> Exit
+    ensures { IsUnparsed result }
+{
     let is_memory = error.kind() == ErrorKind::OutOfMemory;
     if is_memory || words.iter().all(|word| is_shown(word.as_str())) {
         return print(rt, error);
@@ -59,7 +67,9 @@ fn refused<R: AllocGlobal + Eprint>(rt: &R, words: &[String], error: &clap::Erro
     }
 }
 
-fn refused_escaped<R: AllocGlobal + Eprint>(rt: &R, words: &[String], kind: ErrorKind) -> Exit {
+fn refused_escaped<R: AllocGlobal + Eprint>(rt: &R, words: &[String], kind: ErrorKind) -> Exit
+    ensures { IsUnparsed result }
+{
     match matches_of(rt.alloc(), words) {
         Ok(_) => {
             let _ = eprintln!(rt; "error: {kind}");
@@ -70,7 +80,9 @@ fn refused_escaped<R: AllocGlobal + Eprint>(rt: &R, words: &[String], kind: Erro
 }
 
 /// Prints clap's text, and returns how the program ends.
-fn print(rt: &impl Eprint, error: &clap::Error) -> Exit {
+fn print(rt: &impl Eprint, error: &clap::Error) -> Exit
+    ensures { IsUnparsed result }
+{
     if error.kind() == ErrorKind::OutOfMemory {
         return Exit::Run(RunFault::Memory);
     }

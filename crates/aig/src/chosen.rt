@@ -1,6 +1,7 @@
 //! The command that the arguments choose. The parser has accepted them, so what a command needs is there.
 ghost use Rattle.std.specs.Prelude.{IfOk};
 ghost use Rattle.aig.specs.Chosen.{HoldsOptions};
+ghost use Rattle.aig.specs.Program.{Chooses};
 
 use crate::command::{Command, Selection};
 use crate::given_file::is_witness;
@@ -25,7 +26,9 @@ use std::time::Clock;
 pub fn open_chosen<'m, 't, R: Files + AllocGlobal + Clock + Eprint>(
     terminal: &'t Terminal<'t, R>,
     matches: &'m ArgMatches<'_>,
-) -> Result<Command<'m, Source<Tracked<'t, R, R::File>>>, Exit> {
+) -> Result<Command<'m, Source<Tracked<'t, R, R::File>>>, Exit>
+    ensures chosen { IfOk result (Chooses matches.now) }
+{
     match subcommand_of(matches) {
         Some((name, matches)) => open_command(terminal, name, matches),
         None => Err(Exit::NoCommand),

@@ -1,6 +1,9 @@
 //! The program `aig`: converts, simulates and unrolls and-inverter graphs, checks witnesses and runs scripts.
 #![tactic(auto)]
 
+ghost use Rattle.std.specs.Prelude.{◌≡◌, IfOk, Ok};
+ghost use Rattle.aig.specs.Program.{Chooses, EndsAsOpened, Runs, RunsAsMeant, status_of_end};
+
 mod arguments;
 mod certificates;
 mod chosen;
@@ -31,7 +34,7 @@ use command::Command;
 use looked_at::files_of;
 use std::env::Env;
 use std::fs::Files;
-use std::io::IsTerminal;
+use std::io::{IsTerminal, Read};
 use std::os::fd::AsFd;
 use std::process::ExitCode;
 use std::time::Clock;
@@ -42,9 +45,17 @@ fn main(rt: HostRuntime) -> ExitCode {
         output: rt.stdout().is_terminal(),
         error: rt.stderr().is_terminal(),
     };
-    match run(&rt, terminals) {
-        Ok(()) => ExitCode::from(0),
-        Err(exit) => ExitCode::from(exit.status()),
+    ExitCode::from(status_of(run(&rt, terminals)))
+}
+
+/// Returns the exit status of a run: 0 for a good end, and only for that.
+fn status_of(done: Result<(), Exit>) -> u8
+    ensures status { result ≡ status_of_end done }
+    ensures good { result ≡ 0 → done ≡ Ok tt }
+{
+    match done {
+        Ok(()) => 0,
+        Err(exit) => exit.status(),
     }
 }
 
@@ -55,6 +66,7 @@ fn run<R: Env + Files + AllocGlobal + Print + Eprint + Clock + Input>(
 ) -> Result<(), Exit>
 where
     R::File: AsFd,
+    ensures ends { Runs R.File.remaining result }
 {
     let _reserved = reported(rt, reserve(rt))?;
     let words = reported(rt, arguments::all(rt))?;
@@ -68,6 +80,7 @@ fn run_words<R: Env + Files + AllocGlobal + Print + Eprint + Clock + Input>(
 ) -> Result<(), Exit>
 where
     R::File: AsFd,
+    ensures ends { Runs R.File.remaining result }
 {
     let matches = reported(rt, parsed(rt, words))?;
     let done = reported(rt, run_command(rt, terminals, &matches));
@@ -89,6 +102,7 @@ fn run_command<R: Files + AllocGlobal + Print + Eprint + Clock + Input>(
 ) -> Result<(), Exit>
 where
     R::File: AsFd,
+    ensures ends { RunsAsMeant R.File.remaining matches.now result }
 {
     let terminal = Terminal::begin(rt, terminals, has_flag(matches, "progress"));
     let done = run_on(&terminal, matches);
@@ -102,8 +116,21 @@ fn run_on<'t, R: Files + AllocGlobal + Print + Eprint + Clock + Input>(
 ) -> Result<(), Exit>
 where
     R::File: AsFd,
+    ensures ends { RunsAsMeant R.File.remaining matches.now result }
 {
-    match command_for(terminal, matches) {
+    run_opened(terminal, command_for(terminal, matches))
+}
+
+/// Runs the command that was opened, if one was.
+fn run_opened<R: Files + AllocGlobal + Print + Eprint + Clock + Input, F: Read + Drop>(
+    terminal: &Terminal<'_, R>,
+    opened: Result<Command<'_, F>, Exit>,
+) -> Result<(), Exit>
+where
+    R::File: AsFd,
+    ensures ends { EndsAsOpened F.remaining opened.entry result }
+{
+    match opened {
         Ok(command) => command.run(terminal),
         Err(exit) => Err(exit),
     }
@@ -113,7 +140,9 @@ where
 fn command_for<'t, R: Files + AllocGlobal + Eprint + Clock>(
     terminal: &'t Terminal<'t, R>,
     matches: &'t ArgMatches<'_>,
-) -> Result<Command<'t, Source<Tracked<'t, R, R::File>>>, Exit> {
+) -> Result<Command<'t, Source<Tracked<'t, R, R::File>>>, Exit>
+    ensures chosen { IfOk result (Chooses matches.now) }
+{
     match with_odd_number(terminal.runtime(), matches) {
         Some(exit) => Err(exit),
         None => open_chosen(terminal, matches),
@@ -121,7 +150,9 @@ fn command_for<'t, R: Files + AllocGlobal + Eprint + Clock>(
 }
 
 /// Prints why there is no result, if there is none.
-fn reported<T: Drop>(rt: &impl Eprint, found: Result<T, Exit>) -> Result<T, Exit> {
+fn reported<T: Drop>(rt: &impl Eprint, found: Result<T, Exit>) -> Result<T, Exit>
+    ensures { result ≡ found }
+{
     match found {
         Ok(value) => Ok(value),
         Err(exit) => Err(exit.report(rt)),

@@ -1,0 +1,34 @@
+use Rattle.std.proofs.Common.{◌≡◌, ◌⊎◌, inl, inr, sym, subst}
+use Rattle.aig_files.specs.declared.exit.Exit.{Exit}
+use Rattle.aig_files.specs.declared.exit.Exit.TheVariants as exits
+use Rattle.aig_run.specs.declared.run_fault.RunFault.TheVariants as run_faults
+use Rattle.aig.specs.Program.{IsUnparsed}
+use Rattle.aig.proofs.Running.{ends_unparsed, exit_of}
+use Rattle.aig.proofs.run.Goals as goal
+
+-- what is not reserved is a descriptor or memory
+unreserved : (exit : Exit) → (exit ≡ exits.Run run_faults.Output) ⊎ (exit ≡ exits.Run run_faults.Memory) → IsUnparsed exit
+unreserved exit (inl is) = subst IsUnparsed (sym is) tt
+unreserved exit (inr is) = subst IsUnparsed (sym is) tt
+
+pub returns-in_err-_reserved : goal.returns-in_err-_reserved
+returns-in_err-_reserved g c =
+    let r = c.from_residual in
+    let exit = c.in_err-_reserved.field-0.0 in
+    record {
+      ends =
+          ends_unparsed g.R.File.Read.remaining r.result exit
+          (unreserved exit (exit_of c.reserve.result exit
+          (λ exit. (exit ≡ exits.Run run_faults.Output) ⊎ (exit ≡ exits.Run run_faults.Memory)) c.in_err-_reserved.ensures
+          c.reserve.ensures.fails)) r.ensures.1;
+    }
+
+pub returns-in_err-words : goal.returns-in_err-words
+returns-in_err-words g c =
+    let r = c.from_residual-in_err-words in
+    let exit = c.in_err-words.field-0.0 in
+    record {
+      ends =
+          ends_unparsed g.R.File.Read.remaining r.result exit
+          (exit_of c.all.result exit IsUnparsed c.in_err-words.ensures c.all.ensures.fails) r.ensures.1;
+    }

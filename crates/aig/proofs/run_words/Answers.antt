@@ -1,0 +1,22 @@
+use Rattle.std.proofs.Common.{sym, subst}
+use Rattle.aig.specs.Program.{IsUnparsed, RunsAsMeant, parsed}
+use Rattle.aig.proofs.Running.{ends_unparsed, exit_of}
+use Rattle.aig.proofs.run_words.Goals as goal
+
+pub returns-in_err-matches : goal.returns-in_err-matches
+returns-in_err-matches g c =
+    let r = c.from_residual in
+    record {
+      ends =
+          ends_unparsed g.R.File.Read.remaining r.result c.in_err-matches.field-0.0
+          (exit_of c.parsed.result c.in_err-matches.field-0.0 IsUnparsed c.in_err-matches.ensures c.parsed.ensures.fails) r.ensures.1;
+    }
+
+pub returns : goal.returns
+returns g c =
+    record {
+      ends =
+          parsed c.in_ok-matches.matches
+          (subst (RunsAsMeant g.R.File.Read.remaining c.in_ok-matches.matches) (sym c.reported-done.ensures)
+          c.run_command.ensures.ends);
+    }
