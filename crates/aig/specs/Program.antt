@@ -1,5 +1,6 @@
 -- What the end of a run of the program means.
--- Example: `aig refute --frames 20 CIRCUIT PROOF` has status 0 only if the command `Refute` with K = 20 ended well.
+-- Example: after status 0 of `aig refute --frames 20 CIRCUIT PROOF` some command ended well. If it is `Refute`, K is
+-- 20; no clause says yet that it is.
 use Rattle.std.specs.Prelude.{◌≡◌, ℕ, List, Option, Result, Ok, Err, IfOk, ⊤}
 use Rattle.clap.specs.declared.parser.matches.ArgMatches.{ArgMatches}
 use Rattle.aig_run.specs.declared.run_fault.RunFault.TheVariants as run_faults
