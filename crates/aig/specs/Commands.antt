@@ -5,7 +5,7 @@ use Rattle.aig_sim.specs.declared.stimulus.fault.StimFault.TheVariants as stimul
 use Rattle.aig_run.specs.Command.{OfCircuit, OfFile}
 use Rattle.aig_run.specs.declared.run_fault.RunFault.TheVariants as run_faults
 use Rattle.aig_run.specs.declared.script_fault.ScriptFault.TheVariants as scripts
-use Rattle.aig_commands.specs.Bench.{LeavesBench}
+use Rattle.aig_script.specs.Bench.{LeavesBench}
 use Rattle.aig_commands.specs.GoesWell.{GoesWell}
 use Rattle.aig_commands.specs.Certified.{OfCertified}
 use Rattle.aig_commands.specs.declared.certified.Purpose.TheVariants as purposes

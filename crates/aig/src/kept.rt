@@ -3,9 +3,9 @@
 use aig_base::{Buffered, Circuit, Std};
 use aig_bench::Bench;
 use aig_commands::unroll::unroll_map;
-use aig_commands::{keep_circuit, keep_stimulus};
 use aig_files::{Kept, NewFile, OutputFile, Unwritten, find, open_pipe};
 use aig_run::RunFault;
+use aig_script::{keep_circuit, keep_stimulus};
 use aig_sim::PlaneGrid;
 use aig_terminal::Shown;
 use std::fs::{Files, Metadata, OpenFile};

@@ -2,7 +2,7 @@
 
 ghost use Rattle.std.specs.Prelude.{IfSome};
 ghost use Rattle.aig_run.specs.Command.{OfCircuit};
-ghost use Rattle.aig_commands.specs.Bench.{LeavesBench};
+ghost use Rattle.aig_script.specs.Bench.{LeavesBench};
 ghost use Rattle.aig_commands.specs.Sim.{WritesSimulation};
 ghost use Rattle.aig_commands.specs.Wave.{WritesWave};
 ghost use Rattle.aig.specs.Ends.{Ends, ForSomeText, end_of};
@@ -10,9 +10,10 @@ ghost use Rattle.aig.specs.Ends.{Ends, ForSomeText, end_of};
 use crate::ended::{ended, written};
 use crate::kept::BenchFiles;
 use aig_base::Std;
-use aig_commands::{bench, sim, wave};
+use aig_commands::{sim, wave};
 use aig_files::{Exit, Kept, Part, output, read_whole};
 use aig_run::{RunFault, ScriptFault};
+use aig_script::bench;
 use aig_sim::StimFault;
 use aig_terminal::Terminal;
 use std::fs::Files;

@@ -12,6 +12,7 @@ pub mod Readers
 pub mod Renumbered
 pub mod RenumberedValues
 pub mod RenumberingTable
+pub mod Resets
 pub mod Role
 pub mod Runs
 pub mod Sections

@@ -6,6 +6,7 @@ ghost use Rattle.aig_parts.specs.Literal.{variable};
 ghost use Rattle.aig_base.specs.Sections.{IsDefined, IsLatchLiteral, IsLeftSide};
 
 pub(crate) mod append;
+pub(crate) mod start;
 
 use crate::circuit::Circuit;
 use crate::circuit::definition::Definition;

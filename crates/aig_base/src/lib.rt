@@ -18,6 +18,7 @@ pub use aig_parts::{
     WouldCycle,
 };
 pub use change::append::append_gate;
+pub use change::start::start_at;
 pub use check::binary_ready::is_binary_ready;
 pub use circuit::Circuit;
 pub use circuit::definition::Definition;

@@ -2,7 +2,7 @@
 ghost use Rattle.std.specs.Prelude.{◌≡◌, ◌≢◌, ◌<◌, ◌≤◌, Ok, Some, length, take};
 ghost use Rattle.aig_run.specs.Command.{OfFile, Text};
 ghost use Rattle.aig_sim.specs.declared.witness.verdict.Verdict.{Verdict};
-ghost use Rattle.aig_commands.specs.Bench.{RunsScript};
+ghost use Rattle.aig_script.specs.Bench.{RunsScript};
 ghost use Rattle.aig_commands.specs.Check.{Checks};
 ghost use Rattle.aig_commands.specs.Reduce.{Reduces};
 ghost use Rattle.aig_commands.specs.Wave.{DumpsRun};
@@ -11,10 +11,11 @@ ghost use Rattle.aig_c.specs.Answers.{is_confirmed, Refuses};
 
 use crate::answer::{DONE, NO_MEMORY, answer, is_confirmed, refuse};
 use aig_base::{MemReader, MemWriter};
+use aig_commands::check_bytes;
 use aig_commands::reduce::reduce;
 use aig_commands::wave::wave_witness;
 use aig_commands::witness::witness;
-use aig_commands::{check_bytes, run_bench};
+use aig_script::run_bench;
 use aig_sim::PlaneGrid;
 use std::alloc::Global;
 

@@ -1,5 +1,5 @@
 //! Formulas of bad states: what a SAT solver is asked about a circuit, as its text, and for the checker of its proofs.
-//! What their models say is a law of `aig_laws`, and what their refutations say one of `aig_refute`.
+//! What their models and their refutations say is a law of `aig_refute`.
 #![tactic(auto)]
 
 mod alive;

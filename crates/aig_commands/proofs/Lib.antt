@@ -1,12 +1,9 @@
 pub mod Asked
-pub mod BenchEnds
-pub mod Benches
 pub mod Certificates
 pub mod EntryLines
 pub mod GoodRuns
 pub mod Headers
 pub mod InfoLemmas
-pub mod KeptFiles
 pub mod ModelWitnesses
 pub mod NamedRuns
 pub mod Questions
@@ -14,7 +11,6 @@ pub mod Reductions
 pub mod Refutations
 pub mod Replays
 pub mod Runs
-pub mod ScriptParts
 pub mod Selections
 pub mod Unrollings
 pub mod WitnessTexts

@@ -12,9 +12,9 @@ use Rattle.aig_parts.specs.declared.ternary.Tern.{Tern}
 use Rattle.aig_parts.specs.declared.ternary.Tern.TheVariants.{X}
 use Rattle.aig_base.specs.Value.{reset_value}
 use Rattle.aig_values.specs.InputRows.{HaveWidth}
-use Rattle.aig_laws.proofs.RowValues.{cut_wide, length-filled}
-use Rattle.aig_laws.specs.PartialModels.{inputs_in, named_rows, named_start}
-use Rattle.aig_laws.specs.UnrolledWitness.{cut, filled, rows_in, start_in}
+use Rattle.aig_refute.proofs.RowValues.{cut_wide, length-filled}
+use Rattle.aig_refute.specs.PartialModels.{inputs_in, named_rows, named_start}
+use Rattle.aig_refute.specs.UnrolledWitness.{cut, filled, rows_in, start_in}
 use Rattle.aig_sim.specs.Reached.{ReachesNone}
 use Rattle.aig_sim.specs.declared.witness.reach_fault.ReachFault.{ReachFault}
 use Rattle.aig_sim.specs.declared.witness.reach_fault.ReachFault.TheVariants as reaches

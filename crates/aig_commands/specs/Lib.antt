@@ -1,6 +1,4 @@
 pub mod Alive
-pub mod Bench
-pub mod BenchFiles
 pub mod Certified
 pub mod Check
 pub mod Cnf

@@ -10,7 +10,7 @@ use Rattle.aig_cnf.specs.declared.query.Query.{Query}
 use Rattle.aig_sat.specs.model.ModelText.{HasStatus, IsModelOf, IsUnknown, IsUnsatisfiable}
 use Rattle.aig_sat.specs.declared.model.fault.ModelFault.{ModelFault}
 use Rattle.aig_sat.specs.declared.model.fault.ModelFault.TheVariants as models
-use Rattle.aig_laws.specs.PartialModels.{named_rows, named_start}
+use Rattle.aig_refute.specs.PartialModels.{named_rows, named_start}
 use Rattle.aig_sim.specs.Reached.{ReachesNone}
 use Rattle.aig_sim.specs.declared.witness.reach_fault.ReachFault.TheVariants as reaches
 use Rattle.aig_run.specs.declared.run_fault.RunFault.{RunFault}

@@ -61,11 +61,11 @@ fn read_and_write<W: Write>(
 /// written. Justice and fairness are ignored. It flushes the writer before it returns.
 ///
 /// - Some assignment satisfies the formula of `Question::Within` exactly where there is a confirmed witness of at most
-///   so many frames (`law_of_formula` of `aig_laws`).
+///   so many frames (`law_of_formula` of `aig_refute`).
 /// - Where neither it nor the one of `Question::Step` has such an assignment, no run of any length reaches the property
 ///   (`law_of_induction` of `aig_refute`).
 /// - Some assignment satisfies the one of `Question::Alive` exactly where some run from a start that the resets allow
-///   keeps all constraints at each of the first so many frames (`law_of_last` of `aig_laws`). Properties are ignored.
+///   keeps all constraints at each of the first so many frames (`law_of_last` of `aig_refute`). Properties are ignored.
 /// - Where none satisfies the one of `Question::Certified`, no run of any length of the circuit reaches the property
 ///   (`law_of_one_formula` and `law_of_extension` of `aig_refute`).
 pub fn cnf<W: Write>(

@@ -1,7 +1,6 @@
 //! The commands, from bytes to bytes: a module each, with the call that has its name.
 #![tactic(auto)]
 
-pub mod bench;
 pub mod certified;
 pub mod check;
 pub mod cnf;
@@ -20,7 +19,6 @@ pub mod unroll;
 pub mod wave;
 pub mod witness;
 
-pub use bench::{keep_circuit, keep_stimulus, law_of_kept_files, run_bench};
 pub use check::check_bytes;
 pub use toaig::{convert, convert_from};
 pub use unroll::unroll_bytes;

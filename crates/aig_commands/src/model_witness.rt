@@ -136,7 +136,7 @@ fn read_and_write<W: Write>(
 /// run by which an induction fails. For a certificate it is one of the strengthened circuit, which has one property.
 /// Nothing is written if a file or the model is rejected, there is no such formula, or no frame reaches the property.
 /// One does if the model makes a literal of each clause of the formula of `Question::Within` true
-/// (`law_of_partial_models` of `aig_laws`). A witness is of a property, so for `Question::Alive` there is none, with
+/// (`law_of_partial_models` of `aig_refute`). A witness is of a property, so for `Question::Alive` there is none, with
 /// the fault `CnfFault::Property`. It flushes the writer before it returns.
 pub fn model_witness<W: Write>(
     alloc: Global,

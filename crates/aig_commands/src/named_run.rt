@@ -3,8 +3,8 @@ ghost use Rattle.std.specs.Prelude.{◌≡◌, ◌*◌, ◌<◌, ◌≤◌, Err,
 ghost use Rattle.aig_base.specs.Circuit.{IsCircuit};
 ghost use Rattle.aig_parts.specs.Limits.{frame_limit};
 ghost use Rattle.aig_parts.specs.declared.ternary.Tern.TheVariants.{X};
-ghost use Rattle.aig_laws.specs.PartialModels.{named_rows, named_start};
-ghost use Rattle.aig_laws.specs.UnrolledWitness.{cut, filled, rows_in, start_in};
+ghost use Rattle.aig_refute.specs.PartialModels.{named_rows, named_start};
+ghost use Rattle.aig_refute.specs.UnrolledWitness.{cut, filled, rows_in, start_in};
 ghost use Rattle.aig_sim.specs.Reached.{IsFirstReached, ReachesNone};
 ghost use Rattle.aig_unroll.specs.FrameLiteral.{input_count};
 ghost use Rattle.aig_unroll.specs.Unrollable.{FitsLimits};

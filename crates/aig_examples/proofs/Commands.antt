@@ -44,7 +44,7 @@ use Rattle.aig_run.specs.Status.{status_of}
 use Rattle.aig_run.specs.declared.run_fault.RunFault.TheVariants as runs
 use Rattle.aig_refute.specs.Checked.{check_reads_failed}
 use Rattle.aig_refute.specs.Unreachable.{HasNoRun, IsUnreachable, IsUnreachableWithin}
-use Rattle.aig_commands.specs.BenchFiles.{circuit_text, stimulus_rows_text}
+use Rattle.aig_script.specs.BenchFiles.{circuit_text, stimulus_rows_text}
 use Rattle.aig_commands.specs.Check.{Checks, ChecksAndTraces, ShowsVerdict}
 use Rattle.aig_commands.specs.Cnf.{WritesFormula}
 use Rattle.aig_commands.specs.Names.{entries_text, entry_line, entry_lines}

@@ -1,4 +1,4 @@
--- The examples of the definitions of `aig_cnf` and `aig_laws`.
+-- The examples of the definitions of `aig_cnf` and `aig_refute`.
 use Rattle.std.proofs.Common.{◌≡◌, ℕ, List, [], ◌∷◌, None, Some, refl}
 use Rattle.std.specs.Prelude.{Bool, codes}
 use Rattle.std.specs.Fmt.{digits}
@@ -21,9 +21,9 @@ use Rattle.aig_cnf.specs.Query.{depth, induction, step, subject, uninitialised_l
 use Rattle.aig_cnf.specs.declared.fault.CnfFault.TheVariants as faults
 use Rattle.aig_cnf.specs.declared.heading.Heading.TheVariants.{Alive, Runs}
 use Rattle.aig_cnf.specs.declared.query.Goal.TheVariants as goals
-use Rattle.aig_laws.specs.Models.{tern_of, values_of}
-use Rattle.aig_laws.specs.PartialModels.{named_rows}
-use Rattle.aig_laws.specs.UnrolledWitness.{cut}
+use Rattle.aig_refute.specs.Models.{tern_of, values_of}
+use Rattle.aig_refute.specs.PartialModels.{named_rows}
+use Rattle.aig_refute.specs.UnrolledWitness.{cut}
 use Rattle.aig_examples.proofs.TwoGates.{two_gates, row_11, first_in_11, second_in_11, eight_in_11}
 
 -- input 2 is bad

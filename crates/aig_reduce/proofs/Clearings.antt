@@ -25,11 +25,11 @@ use Rattle.aig_reduce.specs.Irreducible.{IsConfirmedWitness}
 use Rattle.aig_reduce.specs.Reduction.{values_of, witness_of}
 use Rattle.aig_reduce.specs.state.Looks.{ReachesFrom}
 use Rattle.aig_reduce.specs.state.Places.{AreTried, IsBefore, IsPlace, IsUpTo, Undoes}
-use Rattle.aig_reduce.specs.Resets.{IsSameLatch}
+use Rattle.aig_base.specs.Resets.{IsSameLatch}
 use Rattle.aig_reduce.specs.state.Reducing.{Clearing, Confirms, IsRunOf, PutsValue, Reducing, Runs}
 use Rattle.aig_reduce.proofs.Irreducibles.{cell_covers, fewer_x, lengths, row_lengths, run_of, run_shaped}
 use Rattle.aig_reduce.proofs.Places.{lengths_written, tried_list, tried_more}
-use Rattle.aig_reduce.proofs.Resets.{latches_length, other_reset_more, start_restarted}
+use Rattle.aig_base.proofs.values.Resets.{latches_length, other_reset_more, start_restarted}
 use Rattle.aig_reduce.proofs.RunLemmas.{confirmed_reaches}
 use Rattle.aig_reduce.proofs.Tries.{cell_back, look_confirms, reducing_skips}
 

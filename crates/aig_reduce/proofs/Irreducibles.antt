@@ -17,7 +17,8 @@ use Rattle.aig_values.specs.InputRows.{HaveWidth, row_at, with_cell}
 use Rattle.aig_reduce.specs.Irreducible.{IsConfirmedWitness, IsSameOrX, HoldsReduced}
 use Rattle.aig_reduce.specs.Reduction.{values_of, witness_of, with_x_between, IsKept, IsReduced}
 use Rattle.aig_reduce.specs.state.Reducing.{IsRunOf}
-use Rattle.aig_reduce.proofs.RunLemmas.{zip_length, confirmed_reaches, reaches_confirmed, reaches_still}
+use Rattle.aig_reduce.proofs.RunLemmas.{confirmed_reaches, reaches_confirmed, reaches_still}
+use Rattle.aig_base.proofs.lists.Items.{zip_length}
 
 -- ---- lists of values
 

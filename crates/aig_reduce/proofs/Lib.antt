@@ -5,7 +5,6 @@ pub mod Irreducibles
 pub mod NeededLemmas
 pub mod NeededTries
 pub mod Places
-pub mod Resets
 pub mod RunLemmas
 pub mod Runs
 pub mod Tries

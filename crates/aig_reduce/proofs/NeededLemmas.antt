@@ -24,7 +24,8 @@ use Rattle.aig_base.proofs.circuits.Circuits.{rhs1_defined}
 use Rattle.aig_base.proofs.values.OneValue.{have_one_value}
 use Rattle.aig_base.proofs.values.UniqueValue.{unique}
 use Rattle.aig_values.specs.InputRows.{HaveWidth, row_at, with_cell}
-use Rattle.aig_values.proofs.Evaluation.{even_or_odd, item_at}
+use Rattle.aig_values.proofs.Evaluation.{even_or_odd}
+use Rattle.aig_base.proofs.lists.Items.{item_at}
 use Rattle.aig_bench.proofs.cells.CellLemmas.{get_set_other, row_other, row_written}
 use Rattle.aig_bench.specs.BenchState.{CircuitAndRows, HasValue}
 use Rattle.aig_reduce.specs.Irreducible.{IsSameOrX}
@@ -33,7 +34,7 @@ use Rattle.aig_reduce.specs.state.Needed.{StillReaches}
 use Rattle.aig_reduce.proofs.CoveredValues.{covered}
 use Rattle.aig_reduce.proofs.Irreducibles.{shaped_widths, cover_shape}
 use Rattle.aig_reduce.proofs.Places.{row_within}
-use Rattle.aig_reduce.proofs.RunLemmas.{zip_length}
+use Rattle.aig_base.proofs.lists.Items.{zip_length}
 
 -- ---- marks
 

@@ -23,8 +23,9 @@ use Rattle.aig_reduce.specs.state.Reducing.{Clearing, Confirms, Reducing, Runs}
 use Rattle.aig_reduce.proofs.Irreducibles.{CoverRow, CoverRows, cell_covers, cover_shape, rows_cover, rows_then, run_of}
 use Rattle.aig_reduce.proofs.Irreducibles.{run_shaped}
 use Rattle.aig_reduce.proofs.Places.{tried_more}
-use Rattle.aig_reduce.proofs.Resets.{value_with}
-use Rattle.aig_reduce.proofs.RunLemmas.{confirmed_reaches, zip_length}
+use Rattle.aig_base.proofs.values.Resets.{value_with}
+use Rattle.aig_reduce.proofs.RunLemmas.{confirmed_reaches}
+use Rattle.aig_base.proofs.lists.Items.{zip_length}
 
 -- ---- values that were tried are the given ones or x
 

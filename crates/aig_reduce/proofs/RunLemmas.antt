@@ -20,6 +20,7 @@ use Rattle.aig_sim.proofs.VerdictLemmas.{bad_defined, constraint_defined, reache
 use Rattle.aig_reduce.specs.Irreducible.{IsSameOrX}
 use Rattle.aig_reduce.specs.state.Reducing.{IsRunOf}
 use Rattle.aig_reduce.proofs.CoveredValues.{one_stays}
+use Rattle.aig_base.proofs.lists.Items.{zip_length}
 
 -- a run from an allowed start under which all constraints are 1, and at the last frame the property
 pub record Reaches (raw : Raw) (w : Witness) : Type 0 where
@@ -67,12 +68,6 @@ module _ (raw : Raw) (circuit : IsCircuit raw) (w : Witness) (run : IsRunOf raw 
       (λ k. k.not_one (unique raw w.start w.rows circuit.sound k.value_is (h.bad k.literal k.literal_is)))
 
 -- ---- what has fewer x is confirmed too
-
-pub zip_length : {A B : Type 0} (R : A → B → Type 0) (xs : List A) (ys : List B) → AllZip R xs ys → length ys ≡ length xs
-zip_length R [] [] h = refl
-zip_length R [] (y ∷ ys) h = absurd h
-zip_length R (x ∷ xs) [] h = absurd h
-zip_length R (x ∷ xs) (y ∷ ys) h = ap suc (zip_length R xs ys h.1)
 
 -- the elements at one place, from the second list on
 pub zip_back : {A B : Type 0} (R : A → B → Type 0) (xs : List A) (ys : List B) (i : ℕ) (y : B) → AllZip R xs ys

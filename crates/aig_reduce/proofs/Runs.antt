@@ -9,7 +9,7 @@ use Rattle.aig_sim.specs.declared.witness.verdict.Verdict.TheVariants as verdict
 use Rattle.aig_sim.specs.Verdict.{IsVerdict}
 use Rattle.aig_sim.specs.WitnessText.{Witness, SpellsWitness, IsAdmitted}
 use Rattle.aig_bench.specs.BenchState.{CircuitAndRows}
-use Rattle.aig_reduce.specs.Resets.{HasOtherResets}
+use Rattle.aig_base.specs.Resets.{HasOtherResets}
 use Rattle.aig_reduce.specs.state.Reducing.{Reducing}
 use Rattle.aig_reduce.proofs.Tries.{reducing_begins}
 

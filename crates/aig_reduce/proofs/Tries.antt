@@ -29,11 +29,11 @@ use Rattle.aig_reduce.specs.Irreducible.{IsConfirmedWitness}
 use Rattle.aig_reduce.specs.Reduction.{values_of, witness_of, with_x_between, IsKept, IsReduced}
 use Rattle.aig_reduce.specs.state.Looks.{ReachesFrom}
 use Rattle.aig_reduce.specs.state.Places.{AreTried}
-use Rattle.aig_reduce.specs.Resets.{IsSameLatch, HasOtherResets}
+use Rattle.aig_base.specs.Resets.{IsSameLatch, HasOtherResets}
 use Rattle.aig_reduce.specs.state.Reducing.{Runs, IsRunOf, RunsWitness, Confirms, Reducing, TriesPlace}
 use Rattle.aig_reduce.proofs.Irreducibles.{run_of, run_shaped}
 use Rattle.aig_reduce.proofs.Places.{lengths_written, tried_none, tried_more, tried_list, tried_all}
-use Rattle.aig_reduce.proofs.Resets.{other_resets_back, other_reset_more, value_with, start_restarted}
+use Rattle.aig_base.proofs.values.Resets.{other_resets_back, other_reset_more, value_with, start_restarted}
 use Rattle.aig_reduce.proofs.RunLemmas.{Reaches, confirmed_reaches, reaches_confirmed}
 
 module _ (raw : Raw) (pair : CircuitAndRows) (start : List Tern) (h : Runs raw pair start) where

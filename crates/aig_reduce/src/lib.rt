@@ -14,4 +14,3 @@ mod starts;
 pub use fault::ReduceFault;
 pub use reduction::{ReducedWitness, Reduction, reduce_witness};
 pub use reduction_laws::law_of_reduction;
-pub use starts::start_at;

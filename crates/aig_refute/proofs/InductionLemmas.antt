@@ -23,9 +23,9 @@ use Rattle.aig_base.proofs.values.UniqueValue.{unique}
 use Rattle.aig_sim.proofs.VerdictLemmas.{bad_defined, constraint_defined}
 use Rattle.aig_cnf.specs.Formula.{Cnf, IsFormulaOf}
 use Rattle.aig_cnf.specs.Query.{step, within}
-use Rattle.aig_laws.specs.Satisfiable.{BreaksStep, HasBrokenStep}
-use Rattle.aig_laws.proofs.SettledRows.{row_completes, settled, settled_completes}
-use Rattle.aig_laws.proofs.StepFormula.{step_broken}
+use Rattle.aig_refute.specs.Satisfiable.{BreaksStep, HasBrokenStep}
+use Rattle.aig_refute.proofs.SettledRows.{row_completes, settled, settled_completes}
+use Rattle.aig_refute.proofs.StepFormula.{step_broken}
 use Rattle.aig_sat.specs.checker.Consequence.{IsUnsatisfiable}
 use Rattle.aig_refute.specs.Unreachable.{IsUnreachable, IsUnreachableWithin}
 use Rattle.aig_refute.proofs.LaterFrames.{all_known, cut_row, known_value, later, rows_known, state_at}

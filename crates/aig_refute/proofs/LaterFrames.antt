@@ -9,7 +9,7 @@ use Rattle.aig_parts.specs.declared.ternary.Tern.TheVariants.{Zero, One, X}
 use Rattle.aig_parts.specs.Ternary.{kleene_and, kleene_not}
 use Rattle.aig_base.specs.Value as value
 use Rattle.aig_base.specs.Value.{Value}
-use Rattle.aig_laws.specs.Models.{AreKnown}
+use Rattle.aig_refute.specs.Models.{AreKnown}
 
 -- ---- places in lists
 

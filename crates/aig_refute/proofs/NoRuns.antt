@@ -4,7 +4,7 @@ use Rattle.aig_parts.specs.declared.raw.Raw.{Raw}
 use Rattle.aig_base.specs.Circuit.{IsCircuit}
 use Rattle.aig_cnf.specs.Alive.{IsAliveFormulaOf}
 use Rattle.aig_cnf.specs.Formula.{Cnf}
-use Rattle.aig_laws.proofs.AliveFormula.{exactly_alive}
+use Rattle.aig_refute.proofs.AliveFormula.{exactly_alive}
 use Rattle.aig_sat.specs.checker.Consequence.{IsUnsatisfiable}
 use Rattle.aig_refute.specs.Unreachable.{HasNoRun}
 

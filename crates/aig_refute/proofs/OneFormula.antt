@@ -4,8 +4,8 @@ use Rattle.aig_parts.specs.declared.raw.Raw.{Raw}
 use Rattle.aig_base.specs.Circuit.{IsCircuit}
 use Rattle.aig_cnf.specs.Formula.{Cnf, IsFormulaOf, formula_of}
 use Rattle.aig_cnf.specs.Query.{induction}
-use Rattle.aig_laws.specs.Satisfiable.{IsSatisfiable}
-use Rattle.aig_laws.proofs.DisprovedInduction.{broken_satisfies, reached_satisfies}
+use Rattle.aig_refute.specs.Satisfiable.{IsSatisfiable}
+use Rattle.aig_refute.proofs.DisprovedInduction.{broken_satisfies, reached_satisfies}
 use Rattle.aig_sat.specs.checker.Clause.{Satisfies}
 use Rattle.aig_sat.specs.checker.Consequence.{IsUnsatisfiable}
 use Rattle.aig_refute.specs.Unreachable.{IsUnreachable}

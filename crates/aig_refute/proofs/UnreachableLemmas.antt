@@ -5,7 +5,7 @@ use Rattle.aig_parts.specs.declared.raw.Raw.{Raw}
 use Rattle.aig_base.specs.Circuit.{IsCircuit}
 use Rattle.aig_cnf.specs.Formula.{Cnf, IsFormulaOf}
 use Rattle.aig_cnf.specs.Query.{within}
-use Rattle.aig_laws.proofs.WithinFormula.{within_reached}
+use Rattle.aig_refute.proofs.WithinFormula.{within_reached}
 use Rattle.aig_sat.specs.checker.Consequence.{IsUnsatisfiable}
 use Rattle.aig_refute.specs.Unreachable.{IsUnreachableWithin}
 

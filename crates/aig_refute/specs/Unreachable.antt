@@ -4,7 +4,7 @@ use Rattle.std.specs.Prelude.{ℕ, ◌<◌, List}
 use Rattle.aig_parts.specs.declared.raw.Raw.{Raw}
 use Rattle.aig_parts.specs.declared.ternary.Tern.{Tern}
 use Rattle.aig_base.specs.Runs.{ReachesProperty}
-use Rattle.aig_laws.specs.Satisfiable.{KeepsConstraints}
+use Rattle.aig_refute.specs.Satisfiable.{KeepsConstraints}
 
 -- No run from a start that the resets allow reaches property p at one of the first k frames: at no such frame the
 -- property is 1 and all constraints were 1 up to it. Starts and rows may have unknown values, and any number of rows

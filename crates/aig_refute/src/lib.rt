@@ -2,10 +2,20 @@
 //! states that none reaches.
 #![tactic(auto)]
 
+mod conversion;
+mod formula;
 mod laws;
+mod partial_models;
 mod proof;
+mod selection;
+mod unrolled_witnesses;
 
+pub use conversion::law_of_conversion;
+pub use formula::{law_of_formula, law_of_induction_formula, law_of_last, law_of_step};
 pub use laws::{
     law_of_alive, law_of_extension, law_of_induction, law_of_one_formula, law_of_refutation,
 };
+pub use partial_models::law_of_partial_models;
 pub use proof::check;
+pub use selection::law_of_selection;
+pub use unrolled_witnesses::{law_of_reached, law_of_unrolled_rows, law_of_unrolled_witnesses};

@@ -1,8 +1,11 @@
+pub mod BenchEnds
+pub mod Benches
 pub mod Digits
 pub mod Fields
 pub mod FirstBytes
 pub mod Inputs
 pub mod KeptCircuits
+pub mod KeptFiles
 pub mod Meanings
 pub mod OneCommand
 pub mod OneReply
@@ -11,4 +14,5 @@ pub mod ReplyLemmas
 pub mod RowLines
 pub mod RunLemmas
 pub mod ScriptLines
+pub mod ScriptParts
 pub mod Splits

@@ -1,3 +1,5 @@
+pub mod Bench
+pub mod BenchFiles
 pub mod Command
 pub mod Lines
 pub mod Meaning

@@ -11,8 +11,8 @@ use Rattle.aig_parts.specs.declared.raw.Raw.{Raw}
 use Rattle.aig_parts.specs.declared.ternary.Tern.{Tern}
 use Rattle.aig_base.specs.Value.{Value, start_of}
 use Rattle.aig_dump_header.specs.Header as dump
-use Rattle.aig_reduce.specs.Resets.{IsSameLatch, HasOtherResets}
-use Rattle.aig_reduce.proofs.Resets.{value_with}
+use Rattle.aig_base.specs.Resets.{IsSameLatch, HasOtherResets}
+use Rattle.aig_base.proofs.values.Resets.{value_with}
 use Rattle.aig_sim.specs.Dump.{closing, signals, IsFrameText, AreFrames, IsDump}
 use Rattle.aig_sim.specs.Dumped.{Dumps}
 use Rattle.aig_sim.specs.DumpHeader.{header}

@@ -13,8 +13,8 @@ use Rattle.aig_base.specs.Changes.{restarted, rewired, next_gate}
 use Rattle.aig_bench.specs.BenchState.{CircuitAndRows}
 use Rattle.aig_bench.specs.Edit.{Edit, edited, rewire, set_reset, set_bit, add_frame, drop_frame, append_gate}
 use Rattle.aig_bench.specs.Edit.{set_output}
-use Rattle.aig_reduce.specs.Resets.{IsSameLatch, HasOtherResets}
-use Rattle.aig_reduce.proofs.Resets.{latches_length}
+use Rattle.aig_base.specs.Resets.{IsSameLatch, HasOtherResets}
+use Rattle.aig_base.proofs.values.Resets.{latches_length}
 use Rattle.aig_signals.specs.declared.signal.Signal.{Signal}
 use Rattle.aig_signals.specs.Names.{first_name}
 use Rattle.aig_signals.specs.Signals.{runs_from, section_signals, signals_of, signal_of}

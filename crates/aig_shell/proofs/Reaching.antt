@@ -16,8 +16,8 @@ use Rattle.aig_base.specs.Value.{Value, reset_value, start_of}
 use Rattle.aig_base.proofs.values.OneValue.{have_one_value}
 use Rattle.aig_base.proofs.values.UniqueValue.{unique}
 use Rattle.aig_bench.specs.BenchState.{CircuitAndRows, HasValue}
-use Rattle.aig_reduce.specs.Resets.{HasOtherResets}
-use Rattle.aig_reduce.proofs.Resets.{other_resets_back, start_length, value_with}
+use Rattle.aig_base.specs.Resets.{HasOtherResets}
+use Rattle.aig_base.proofs.values.Resets.{other_resets_back, start_length, value_with}
 use Rattle.aig_sim.specs.declared.witness.verdict.Verdict.TheVariants as verdict
 use Rattle.aig_sim.specs.Reached.{IsAskedFor, IsFirstReached, Reaches, ReachesNone, witness_at}
 use Rattle.aig_sim.proofs.VerdictLemmas.{bad_defined, reached}

@@ -6,8 +6,8 @@ use Rattle.aig_parts.specs.declared.raw.Raw.{Raw}
 use Rattle.aig_base.specs.Value.{start_of}
 use Rattle.aig_bench.specs.BenchState.{CircuitAndRows}
 use Rattle.aig_format.specs.Spelling.{short_ascii}
-use Rattle.aig_reduce.specs.Resets.{HasOtherResets}
-use Rattle.aig_reduce.proofs.Resets.{latches_length, other_resets_back}
+use Rattle.aig_base.specs.Resets.{HasOtherResets}
+use Rattle.aig_base.proofs.values.Resets.{latches_length, other_resets_back}
 use Rattle.aig_sim.specs.Dump.{IsDump}
 use Rattle.aig_sim.specs.Reached.{IsAskedFor, IsFirstReached, ReachesNone}
 use Rattle.aig_sim.specs.StimulusText.{row_line}

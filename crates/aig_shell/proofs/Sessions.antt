@@ -12,7 +12,7 @@ use Rattle.aig_base.specs.Sections.{IsDefined}
 use Rattle.aig_base.specs.Sound.{IsReset}
 use Rattle.aig_bench.specs.BenchState.{CircuitAndRows}
 use Rattle.aig_bench.specs.Edit.{Edit}
-use Rattle.aig_reduce.specs.Resets.{IsSameLatch}
+use Rattle.aig_base.specs.Resets.{IsSameLatch}
 use Rattle.aig_signals.specs.Signals.{signals_of}
 use Rattle.aig_shell.specs.declared.session.Session.{Session}
 use Rattle.aig_shell.specs.Edits.{ArePositions, MeansInputs, MeansLatches, AreFrames, IsValue, Does, IsImpossible}

@@ -14,8 +14,8 @@ use Rattle.aig_base.specs.Value.{reset_value, start_of}
 use Rattle.aig_base.proofs.circuits.Circuits.{latch_definition}
 use Rattle.aig_base.proofs.lists.Gets.{All-at}
 use Rattle.aig_base.proofs.values.Refined.{AllZip-slice_get}
-use Rattle.aig_reduce.specs.Resets.{HasOtherResets, IsSameLatch}
-use Rattle.aig_reduce.proofs.Resets.{other_resets_back, start_length}
+use Rattle.aig_base.specs.Resets.{HasOtherResets, IsSameLatch}
+use Rattle.aig_base.proofs.values.Resets.{other_resets_back, start_length}
 use Rattle.aig_sim.specs.Verdict.{StartsWrong}
 use Rattle.aig_sim.proofs.VerdictLemmas.{starts_right}
 use Rattle.aig_shell.specs.declared.session.Session.{Session}

@@ -1,7 +1,7 @@
 -- What holds of a session between two lines.
 use Rattle.std.specs.Prelude.{◌≡◌, false, ℕ, ◌+◌, ◌*◌, List, All, length, Some, slice_get, ◌≢◌, ◌⊎◌, IsTrue}
 use Rattle.std.specs.List.{AllZip}
-use Rattle.aig_reduce.specs.Resets.{IsSameLatch, HasOtherResets}
+use Rattle.aig_base.specs.Resets.{IsSameLatch, HasOtherResets}
 use Rattle.aig_signals.specs.Signals.{signals_of}
 use Rattle.std.specs.Global.{Vec}
 use Rattle.aig_parts.specs.declared.ternary.Tern.{Tern}

@@ -24,11 +24,6 @@ use Rattle.aig_values.specs.state.Frame.{Holds, Renews, HoldsInputs, HoldsLatche
 use Rattle.aig_values.specs.GateOrder.{IsSourceOrEarlier, IsGateOrder}
 use Rattle.aig_base.proofs.circuits.Circuits.{input_definition, latch_definition, gate_definition}
 
--- the item that a loop reads
-pub item_at : {A : Type 0} (xs ys : List A) (n : ℕ) (x : A) → xs ≡ ys → n < length xs → x ≡ get_or xs n x
-    → slice_get ys n ≡ Some x
-item_at xs ys n x e lt is = rw (← e) (slice_get_read xs (length xs) n x refl lt is)
-
 -- what holds of the first n items, and of the next
 pub items_more : {A : Type 0} (P : A → Type 0) (xs : List A) (n : ℕ) (x : A) → slice_get xs n ≡ Some x
     → ((i : ℕ) (y : A) → i < n → slice_get xs i ≡ Some y → P y) → P x

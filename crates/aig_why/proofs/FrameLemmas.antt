@@ -9,7 +9,7 @@ use Rattle.aig_parts.specs.declared.ternary.Tern.{Tern}
 use Rattle.aig_bench.specs.BenchState.{CircuitAndRows}
 use Rattle.aig_causes.specs.Causes.{Moment, moment}
 use Rattle.aig_causes.specs.Explanation.{LineState}
-use Rattle.aig_reduce.proofs.Resets.{latches_length}
+use Rattle.aig_base.proofs.values.Resets.{latches_length}
 use Rattle.aig_signals.specs.declared.signal.Signal.{Signal}
 use Rattle.aig_signals.specs.declared.text.Naming.{Naming}
 use Rattle.aig_signals.specs.declared.text.Origin.{Origin}

@@ -7,8 +7,8 @@ use Rattle.aig_base.proofs.values.Refined.{AllZip-slice_get}
 use Rattle.aig_causes.specs.Causes.{Agree, AreThere, Explain, ExplainUnknown, Has, IsMoment, Moment, Settled, Sources}
 use Rattle.aig_causes.specs.Explanation.{AreKept, AreLines, ComesDown, IsAsked, IsLine, KeepsValue, LineState, named_at}
 use Rattle.aig_causes.specs.Lines.{next}
-use Rattle.aig_reduce.specs.Resets.{HasOtherResets, IsSameLatch}
-use Rattle.aig_reduce.proofs.Resets.{latches_length, other_resets_back, value_with}
+use Rattle.aig_base.specs.Resets.{HasOtherResets, IsSameLatch}
+use Rattle.aig_base.proofs.values.Resets.{latches_length, other_resets_back, value_with}
 
 -- one way
 module _ (raw other : Raw) (r : HasOtherResets raw other) where

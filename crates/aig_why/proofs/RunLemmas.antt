@@ -15,8 +15,8 @@ use Rattle.aig_parts.specs.declared.latch.Latch.{Latch}
 use Rattle.aig_parts.specs.declared.raw.Raw.{Raw}
 use Rattle.aig_parts.specs.declared.symbols.Kind.TheVariants as kinds
 use Rattle.aig_parts.specs.declared.ternary.Tern.{Tern}
-use Rattle.aig_reduce.proofs.Resets.{latches_length}
-use Rattle.aig_reduce.specs.Resets.{HasOtherResets}
+use Rattle.aig_base.proofs.values.Resets.{latches_length}
+use Rattle.aig_base.specs.Resets.{HasOtherResets}
 use Rattle.aig_run.proofs.Files.{MeansNoFault}
 use Rattle.aig_run.proofs.GivenRuns.{given_no_circuit}
 use Rattle.aig_run.specs.declared.given.Given.{Given}

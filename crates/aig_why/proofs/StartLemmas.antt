@@ -17,8 +17,8 @@ use Rattle.aig_base.proofs.values.UniqueValue.{unique}
 use Rattle.aig_bench.specs.BenchState.{CircuitAndRows, HasValue}
 use Rattle.aig_causes.specs.Causes.{Has, moment}
 use Rattle.aig_causes.specs.Explanation.{AreNamedBetween, IsNamed}
-use Rattle.aig_reduce.specs.Resets.{HasOtherResets}
-use Rattle.aig_reduce.proofs.Resets.{other_resets_back, value_with}
+use Rattle.aig_base.specs.Resets.{HasOtherResets}
+use Rattle.aig_base.proofs.values.Resets.{other_resets_back, value_with}
 use Rattle.aig_signals.specs.declared.text.Origin.TheVariants as origin
 use Rattle.aig_why.specs.Lines.{AreLastTexts, IsOriginText, IsResetValue, StartsByReset}
 use Rattle.aig_why.specs.state.Naming.{Adds, StartsBy}

@@ -12,8 +12,8 @@ use Rattle.aig_bench.specs.BenchState.{CircuitAndRows}
 use Rattle.aig_causes.specs.Causes.{Moment, Sources}
 use Rattle.aig_causes.specs.Explanation.{LineState}
 use Rattle.aig_causes.specs.Lines.{next}
-use Rattle.aig_reduce.specs.Resets.{HasOtherResets, IsSameLatch}
-use Rattle.aig_reduce.proofs.Resets.{other_resets_back, value_with}
+use Rattle.aig_base.specs.Resets.{HasOtherResets, IsSameLatch}
+use Rattle.aig_base.proofs.values.Resets.{other_resets_back, value_with}
 use Rattle.aig_signals.specs.declared.text.Naming.{Naming}
 use Rattle.aig_signals.specs.declared.text.Origin.{Origin}
 use Rattle.aig_signals.specs.declared.signal.Signal.{Signal}

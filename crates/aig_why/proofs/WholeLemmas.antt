@@ -6,8 +6,8 @@ use Rattle.aig_base.specs.Sections.{IsLatchLiteral}
 use Rattle.aig_bench.specs.BenchState.{CircuitAndRows}
 use Rattle.aig_causes.specs.Causes.{Moment, Sources, moment}
 use Rattle.aig_causes.specs.Explanation.{ExplanationState, HasCome, IsNamed, LineState, named_at}
-use Rattle.aig_reduce.specs.Resets.{HasOtherResets}
-use Rattle.aig_reduce.proofs.Resets.{other_resets_back}
+use Rattle.aig_base.specs.Resets.{HasOtherResets}
+use Rattle.aig_base.proofs.values.Resets.{other_resets_back}
 use Rattle.aig_why.specs.Lines.{AreFrameTexts, AreLastTexts, AreLineTexts, IsAskedText}
 use Rattle.aig_why.specs.Why.{IsExplanation, run_of}
 use Rattle.aig_why.specs.state.Naming.{Adds}

@@ -3,7 +3,7 @@ use Rattle.std.specs.Prelude.{◌≡◌, length, replicate, None}
 use Rattle.aig_parts.specs.declared.raw.Raw.{Raw}
 use Rattle.aig_parts.specs.declared.symbols.Kind.TheVariants as kinds
 use Rattle.aig_bench.specs.BenchState.{CircuitAndRows}
-use Rattle.aig_reduce.specs.Resets.{HasOtherResets}
+use Rattle.aig_base.specs.Resets.{HasOtherResets}
 use Rattle.aig_signals.specs.declared.text.Naming.{Naming}
 use Rattle.aig_signals.specs.Signals.{section_signals}
 

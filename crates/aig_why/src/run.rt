@@ -2,11 +2,10 @@
 ghost use Rattle.std.specs.Prelude.{◌≡◌, ◌+◌, ◌*◌, ◌<◌, ◌≤◌, length, IfErr, IfOk, IsErrOf};
 ghost use Rattle.aig_parts.specs.Limits.{cell_limit};
 ghost use Rattle.aig_base.specs.Value.{start_of};
-ghost use Rattle.aig_reduce.specs.Resets.{HasOtherResets};
+ghost use Rattle.aig_base.specs.Resets.{HasOtherResets};
 
-use aig_base::{Circuit, Latch, Memory, Tern};
+use aig_base::{Circuit, Latch, Memory, Tern, start_at};
 use aig_bench::{Bench, BenchFault};
-use aig_reduce::start_at;
 use aig_sim::Stimulus;
 use aig_values::Grid;
 use std::alloc::Global;

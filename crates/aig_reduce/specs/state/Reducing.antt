@@ -12,7 +12,7 @@ use Rattle.aig_values.specs.InputRows.{HaveWidth, with_cell}
 use Rattle.aig_bench.specs.BenchState.{CircuitAndRows}
 use Rattle.aig_reduce.specs.Irreducible.{IsConfirmedWitness}
 use Rattle.aig_reduce.specs.Reduction.{values_of, witness_of}
-use Rattle.aig_reduce.specs.Resets.{HasOtherResets}
+use Rattle.aig_base.specs.Resets.{HasOtherResets}
 use Rattle.aig_reduce.specs.state.Places.{AreTried, Tries}
 
 -- a pair that runs a circuit from a start

@@ -1,7 +1,7 @@
 use Rattle.std.proofs.Common.{Ok, Err, refl}
 use Rattle.aig_run.specs.declared.run_fault.RunFault.TheVariants as run_faults
 use Rattle.aig_run.specs.declared.script_fault.ScriptFault.TheVariants as scripts
-use Rattle.aig_commands.specs.Bench.{LeavesBench}
+use Rattle.aig_script.specs.Bench.{LeavesBench}
 use Rattle.aig.specs.Ends.{ForSomeText, as_meant}
 use Rattle.aig.proofs.Endings.{ends_written, text_answers}
 use Rattle.aig.proofs.simulations.write_replies.Goals as goal

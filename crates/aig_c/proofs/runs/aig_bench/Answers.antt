@@ -1,6 +1,6 @@
 use Rattle.std.proofs.Common.{refl, ap, ◌∙◌}
 use Rattle.std.specs.Prelude.{Some, take}
-use Rattle.aig_commands.specs.Bench.{RunsScript}
+use Rattle.aig_script.specs.Bench.{RunsScript}
 use Rattle.aig_c.proofs.Endings.{done_script, refused_script}
 use Rattle.aig_c.proofs.runs.aig_bench.Goals as goal
 

@@ -1,5 +1,5 @@
 use Rattle.std.proofs.Common.{ap, arith, length}
-use Rattle.aig_values.proofs.Evaluation.{item_at}
+use Rattle.aig_base.proofs.lists.Items.{item_at}
 use Rattle.aig_causes.proofs.walker.gate_at.Goals as goal
 
 pub returns : goal.returns

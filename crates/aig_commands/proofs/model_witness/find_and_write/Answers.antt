@@ -3,7 +3,7 @@ use Rattle.std.specs.Fmt.{decimal}
 use Rattle.aig_parts.specs.declared.ternary.Tern.{Tern}
 use Rattle.aig_values.specs.InputRows.{HaveWidth}
 use Rattle.aig_bytes.specs.Flow.{flow}
-use Rattle.aig_laws.specs.PartialModels.{named_rows}
+use Rattle.aig_refute.specs.PartialModels.{named_rows}
 use Rattle.aig_run.proofs.Files.{answered}
 use Rattle.aig_run.proofs.Written.{got_none, output_ends}
 use Rattle.aig_run.specs.Command.{CommandEnds}

@@ -1,6 +1,6 @@
 use Rattle.std.proofs.Common.{◌≡◌, ◌+◌, ◌-◌, ap, ◌∙◌, arith, length, subst, ◌++◌}
 use Rattle.std.proofs.lemmas.List.{length_push}
-use Rattle.aig_laws.specs.UnrolledWitness.{cut}
+use Rattle.aig_refute.specs.UnrolledWitness.{cut}
 use Rattle.aig_commands.proofs.NamedRuns.{enough_left, rows_done, takes_row}
 use Rattle.aig_commands.proofs.named_run.cut_rows.Goals as goal
 

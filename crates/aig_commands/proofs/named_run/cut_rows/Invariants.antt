@@ -1,5 +1,5 @@
 use Rattle.std.proofs.Common.{◌≡◌, ◌++◌, ◌-◌, ◌*◌, ◌≤◌, length}
-use Rattle.aig_laws.specs.UnrolledWitness.{cut}
+use Rattle.aig_refute.specs.UnrolledWitness.{cut}
 use Rattle.aig_commands.proofs.named_run.cut_rows.Given as goal
 
 abbrev pub invariant-loop-frame : goal.invariant-loop-frame

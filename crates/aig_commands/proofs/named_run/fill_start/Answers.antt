@@ -1,5 +1,5 @@
 use Rattle.std.proofs.Common.{ap, sym, ◌∙◌}
-use Rattle.aig_laws.specs.UnrolledWitness.{filled}
+use Rattle.aig_refute.specs.UnrolledWitness.{filled}
 use Rattle.aig_commands.proofs.NamedRuns.{start_done, takes_reset, takes_value}
 use Rattle.aig_commands.proofs.named_run.fill_start.Goals.{then-value+in_ok-push, else-value+in_ok-push-2}
 use Rattle.aig_commands.proofs.named_run.fill_start.Goals as goal

@@ -1,5 +1,5 @@
 use Rattle.std.proofs.Common.{◌≡◌, ◌++◌, drop}
-use Rattle.aig_laws.specs.UnrolledWitness.{filled}
+use Rattle.aig_refute.specs.UnrolledWitness.{filled}
 use Rattle.aig_commands.proofs.named_run.fill_start.Given as goal
 
 abbrev pub invariant-loop-latch : goal.invariant-loop-latch

@@ -1,10 +1,10 @@
 use Rattle.std.proofs.Common.{◌≡◌, ℕ, List, Err, Some, ap, ap₂, ◌*◌, drop, length, ◌∙◌, subst}
 use Rattle.aig_parts.specs.declared.latch.Latch.{Latch}
 use Rattle.aig_parts.specs.declared.ternary.Tern.{Tern}
-use Rattle.aig_laws.specs.UnrolledWitness.{cut, filled, rows_in, start_in}
+use Rattle.aig_refute.specs.UnrolledWitness.{cut, filled, rows_in, start_in}
 use Rattle.aig_sim.specs.declared.witness.reach_fault.ReachFault.TheVariants as reaches
 use Rattle.aig_sim.specs.Reached.{ReachesNone}
-use Rattle.aig_laws.proofs.RowValues.{length-filled}
+use Rattle.aig_refute.proofs.RowValues.{length-filled}
 use Rattle.aig_commands.proofs.NamedRuns.{reports_same}
 use Rattle.aig_commands.proofs.named_run.find_in_row.Goals as goal
 

@@ -2,7 +2,7 @@ use Rattle.std.proofs.Common.{◌≡◌, Some, slice_get, length, ap, ◌∙◌,
 use Rattle.aig_parts.specs.Literal.{variable}
 use Rattle.aig_parts.specs.declared.raw.Raw.{Raw}
 use Rattle.aig_base.proofs.circuits.Circuits.{input_in_range}
-use Rattle.aig_values.proofs.Evaluation.{item_at}
+use Rattle.aig_base.proofs.lists.Items.{item_at}
 use Rattle.aig_values.specs.InputRows.{InputRows}
 use Rattle.aig_reduce.proofs.NeededLemmas.{input_kept, is_marked}
 use Rattle.aig_reduce.proofs.needed.keep_input.Goals as goal

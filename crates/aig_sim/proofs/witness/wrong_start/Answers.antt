@@ -2,7 +2,7 @@ use Rattle.std.proofs.Common.{◌≡◌, length, Some, slice_get, ap, ◌∙◌,
 use Rattle.aig_parts.specs.declared.raw.Raw.{Raw}
 use Rattle.aig_base.specs.Runs.{Allows}
 use Rattle.aig_sim.specs.Verdict.{StartsWrong}
-use Rattle.aig_values.proofs.Evaluation.{item_at}
+use Rattle.aig_base.proofs.lists.Items.{item_at}
 use Rattle.aig_sim.proofs.VerdictLemmas.{right_more, starts_right, no_latch_after}
 use Rattle.aig_sim.proofs.witness.wrong_start.Goals as goal
 

@@ -2,7 +2,7 @@ use Rattle.std.proofs.Common.{◌≡◌, ◌+◌, Some, true, slice_get, slice_s
 use Rattle.std.proofs.lemmas.Bool.{false≢true}
 use Rattle.std.proofs.lemmas.List.{length-set}
 use Rattle.aig_base.proofs.circuits.Circuits.{gate_in_range, rhs0_in_range, rhs1_in_range}
-use Rattle.aig_values.proofs.Evaluation.{item_at}
+use Rattle.aig_base.proofs.lists.Items.{item_at}
 use Rattle.aig_values.proofs.GateOrders.{AreReady, none_ready, ready_more, all_ready, reads_are_marked}
 use Rattle.aig_values.proofs.gate_order.mark_gates.Goals as goal
 

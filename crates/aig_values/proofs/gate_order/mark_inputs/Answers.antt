@@ -3,7 +3,7 @@ use Rattle.std.proofs.lemmas.List.{length-set, take_all}
 use Rattle.aig_parts.specs.Literal.{variable}
 use Rattle.aig_base.proofs.circuits.Circuits.{input_in_range}
 use Rattle.aig_values.specs.GateOrder.{AddsMarks}
-use Rattle.aig_values.proofs.Evaluation.{item_at}
+use Rattle.aig_base.proofs.lists.Items.{item_at}
 use Rattle.aig_values.proofs.GateOrders.{adds_none, adds_more}
 use Rattle.aig_values.proofs.gate_order.mark_inputs.Goals as goal
 

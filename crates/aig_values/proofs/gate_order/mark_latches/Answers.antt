@@ -4,7 +4,7 @@ use Rattle.aig_parts.specs.Literal.{variable}
 use Rattle.aig_parts.specs.declared.latch.Latch.{Latch}
 use Rattle.aig_base.proofs.circuits.Circuits.{latch_in_range}
 use Rattle.aig_values.specs.GateOrder.{AddsMarks}
-use Rattle.aig_values.proofs.Evaluation.{item_at}
+use Rattle.aig_base.proofs.lists.Items.{item_at}
 use Rattle.aig_values.proofs.GateOrders.{adds_none, adds_more}
 use Rattle.aig_values.proofs.gate_order.mark_latches.Goals as goal
 

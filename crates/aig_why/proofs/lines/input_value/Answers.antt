@@ -2,7 +2,7 @@ use Rattle.std.proofs.Common.{◌≡◌, ◌≤◌, length, Some, slice_get, ap,
 use Rattle.aig_parts.specs.Literal.{variable}
 use Rattle.aig_parts.specs.declared.raw.Raw.{Raw}
 use Rattle.aig_base.proofs.circuits.Circuits.{input_defined, input_in_range}
-use Rattle.aig_values.proofs.Evaluation.{item_at}
+use Rattle.aig_base.proofs.lists.Items.{item_at}
 use Rattle.aig_why.proofs.lines.input_value.Goals as goal
 
 pub value_at-requires-clause-range : goal.value_at-requires-clause-range

@@ -1,6 +1,6 @@
 use Rattle.std.proofs.Common.{◌≡◌, ◌↔◌, IsTrue, Some, slice_get, refl, sym, subst, arith}
 use Rattle.aig_parts.specs.declared.latch.Latch.{Latch}
-use Rattle.aig_values.proofs.Evaluation.{item_at}
+use Rattle.aig_base.proofs.lists.Items.{item_at}
 use Rattle.aig_why.specs.Lines.{IsResetValue}
 use Rattle.aig_why.proofs.StartLemmas.{starts}
 use Rattle.aig_why.proofs.lines.starts_by_reset.Goals as goal

@@ -3,7 +3,7 @@ use Rattle.std.proofs.lemmas.Option.{same_Some}
 use Rattle.aig_base.specs.Grounded as by
 use Rattle.aig_base.proofs.circuits.Circuits.{input_definition}
 use Rattle.aig_parts.specs.Literal.{variable}
-use Rattle.aig_values.proofs.Evaluation.{item_at}
+use Rattle.aig_base.proofs.lists.Items.{item_at}
 use Rattle.aig_bench.specs.state.DrivenCircuit.{pair_of}
 use Rattle.aig_bench.specs.state.Engine.{EngineState}
 use Rattle.aig_bench.specs.state.Filled.{FillsSource}

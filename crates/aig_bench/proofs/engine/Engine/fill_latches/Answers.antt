@@ -3,7 +3,8 @@ use Rattle.aig_parts.specs.declared.latch.Latch.{Latch}
 use Rattle.aig_parts.specs.Literal.{variable}
 use Rattle.aig_base.specs.Value.{start_of}
 use Rattle.aig_values.specs.InputRows.{row_at}
-use Rattle.aig_values.proofs.Evaluation.{item_at, items_all, items_more, renews_then}
+use Rattle.aig_values.proofs.Evaluation.{items_all, items_more, renews_then}
+use Rattle.aig_base.proofs.lists.Items.{item_at}
 use Rattle.aig_bench.specs.BenchState.{CircuitAndRows}
 use Rattle.aig_bench.specs.state.Current.{HoldsInPair}
 use Rattle.aig_bench.specs.state.Engine.{EngineState}

@@ -2,7 +2,7 @@ use Rattle.std.proofs.Common.{◌≡◌, ◌<◌, Some, slice_get, subst, length
 use Rattle.aig_base.specs.Grounded as by
 use Rattle.aig_base.specs.Sound.{IsSound}
 use Rattle.aig_base.proofs.circuits.Circuits.{input_definition}
-use Rattle.aig_values.proofs.Evaluation.{item_at}
+use Rattle.aig_base.proofs.lists.Items.{item_at}
 use Rattle.aig_bench.specs.state.DrivenCircuit.{pair_of}
 use Rattle.aig_bench.specs.state.Engine.{EngineState}
 use Rattle.aig_bench.proofs.renewals.Renewing.{before_bit, stale_from_bit, renews_bit}

@@ -5,7 +5,7 @@ use Rattle.std.proofs.lemmas.List.Elements.{Contains-append_left, Contains-push,
 use Rattle.std.proofs.lemmas.Option.{slice_get_within}
 use Rattle.aig_parts.specs.Literal.{variable}
 use Rattle.aig_base.proofs.lists.Gets.{Contains-from_get, get_from_Contains}
-use Rattle.aig_values.proofs.Evaluation.{item_at}
+use Rattle.aig_base.proofs.lists.Items.{item_at}
 use Rattle.aig_causes.specs.declared.visited.Visited.{Visited}
 use Rattle.aig_causes.specs.state.Walk.{AreEarlier, IsVisited}
 use Rattle.aig_causes.proofs.Walkers.{walker_more}

@@ -1,6 +1,6 @@
 use Rattle.std.proofs.Common.{◌≡◌, ℕ, ◌-◌, ◌<◌, length, sym, ap, subst, arith}
 use Rattle.aig_parts.specs.declared.latch.Latch.{Latch}
-use Rattle.aig_values.proofs.Evaluation.{item_at}
+use Rattle.aig_base.proofs.lists.Items.{item_at}
 use Rattle.aig_reduce.specs.state.Reducing.{PutsValue}
 use Rattle.aig_reduce.proofs.Clearings.{puts_input, runs_length, start_within}
 use Rattle.aig_reduce.proofs.reducer.Reducer.put.Goals as goal

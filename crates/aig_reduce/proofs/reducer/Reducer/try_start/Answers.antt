@@ -3,7 +3,7 @@ use Rattle.std.proofs.lemmas.Bool.{false≢true}
 use Rattle.aig_parts.specs.declared.ternary.Tern.TheVariants.{X}
 use Rattle.aig_base.specs.Sections.{IsLatchLiteral}
 use Rattle.aig_bench.specs.BenchState.{CircuitAndRows}
-use Rattle.aig_values.proofs.Evaluation.{item_at}
+use Rattle.aig_base.proofs.lists.Items.{item_at}
 use Rattle.aig_reduce.proofs.Tries.{latch_named, latch_named_still, start_kept, start_taken_back}
 use Rattle.aig_reduce.proofs.reducer.Reducer.try_start.Goals as goal
 

@@ -1,5 +1,5 @@
 use Rattle.std.proofs.Common.{◌≡◌, ℕ, suc, ◌-◌, ◌<◌, length, refl, sym, ap, subst, arith}
-use Rattle.aig_values.proofs.Evaluation.{item_at}
+use Rattle.aig_base.proofs.lists.Items.{item_at}
 use Rattle.aig_reduce.specs.state.Reducing.{TriesPlace}
 use Rattle.aig_reduce.proofs.Clearings.{reducing_at, start_within}
 use Rattle.aig_reduce.proofs.Tries.{reducing_more}

@@ -2,7 +2,7 @@ use Rattle.std.proofs.Common.{◌≡◌, ℕ, List, Some, slice_get, sym, subst,
 use Rattle.std.proofs.lemmas.Option.{slice_get_past}
 use Rattle.aig_parts.specs.declared.ternary.Tern.{Tern}
 use Rattle.aig_bench.specs.BenchState.{HasValue}
-use Rattle.aig_values.proofs.Evaluation.{item_at}
+use Rattle.aig_base.proofs.lists.Items.{item_at}
 use Rattle.aig_shell.proofs.FirstRuns.{even_value, no_cell, none_copied, odd_value, some_copied}
 use Rattle.std.proofs.lemmas.Bool.{false≢true}
 use Rattle.aig_shell.proofs.run_kept.FirstRun.value.Goals as goal

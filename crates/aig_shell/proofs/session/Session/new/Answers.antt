@@ -2,7 +2,7 @@ use Rattle.std.proofs.Common.{Err, List, All, refl, sym, subst, ◌∙◌}
 use Rattle.std.specs.List.{AllZip}
 use Rattle.aig_parts.specs.declared.latch.Latch.{Latch}
 use Rattle.aig_base.specs.Sound.{IsReset}
-use Rattle.aig_reduce.specs.Resets.{IsSameLatch}
+use Rattle.aig_base.specs.Resets.{IsSameLatch}
 use Rattle.aig_shell.proofs.Kept.{alike_signals}
 use Rattle.aig_run.proofs.Files.{reported_as}
 use Rattle.aig_run.specs.declared.run_fault.RunFault.TheVariants as run_faults

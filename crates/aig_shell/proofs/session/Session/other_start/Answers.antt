@@ -6,7 +6,7 @@ use Rattle.aig_base.specs.Value.{reset_value, start_of}
 use Rattle.aig_base.proofs.values.AllowedStarts.{allowed_or_not}
 use Rattle.aig_sim.specs.Verdict.{StartsWrong}
 use Rattle.aig_sim.proofs.VerdictLemmas.{no_latch_after, right_more}
-use Rattle.aig_values.proofs.Evaluation.{item_at}
+use Rattle.aig_base.proofs.lists.Items.{item_at}
 use Rattle.aig_shell.specs.Session.{own_circuit}
 use Rattle.aig_shell.proofs.Starting.{own_over, own_reset, right_start, same_size, wrong_start}
 use Rattle.aig_shell.proofs.session.Session.other_start.Goals as goal

@@ -10,7 +10,8 @@ use Rattle.aig_base.specs.Value.{Value}
 use Rattle.aig_values.specs.Cells.{gate_value}
 use Rattle.aig_values.specs.state.Frame.{Holds, HoldsSources}
 use Rattle.aig_values.specs.GateOrder.{IsGateOrder}
-use Rattle.aig_values.proofs.Evaluation.{item_at, items_more, items_all, renews_none, put_value, gate_value_is}
+use Rattle.aig_values.proofs.Evaluation.{items_more, items_all, renews_none, put_value, gate_value_is}
+use Rattle.aig_base.proofs.lists.Items.{item_at}
 use Rattle.aig_values.proofs.Evaluation.{all_hold}
 use Rattle.aig_sim.proofs.simulation.frame_cells.evaluate_frame.Goals as goal
 

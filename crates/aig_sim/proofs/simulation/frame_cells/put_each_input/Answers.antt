@@ -5,7 +5,8 @@ use Rattle.aig_parts.specs.declared.ternary.Tern.TheVariants.{Zero}
 use Rattle.aig_parts.specs.Literal.{variable}
 use Rattle.aig_values.specs.state.Frame.{Holds}
 use Rattle.aig_base.proofs.circuits.Circuits.{input_in_range}
-use Rattle.aig_values.proofs.Evaluation.{item_at, items_more, items_all, input_value, put_value}
+use Rattle.aig_values.proofs.Evaluation.{items_more, items_all, input_value, put_value}
+use Rattle.aig_base.proofs.lists.Items.{item_at}
 use Rattle.aig_sim.proofs.simulation.frame_cells.put_each_input.Goals as goal
 
 pub loop-position-preserved : goal.loop-position-preserved

@@ -4,7 +4,8 @@ use Rattle.aig_parts.specs.declared.latch.Latch.{Latch}
 use Rattle.aig_parts.specs.Literal.{variable}
 use Rattle.aig_values.specs.state.Frame.{AreStates, Holds}
 use Rattle.aig_base.proofs.circuits.Circuits.{latch_in_range}
-use Rattle.aig_values.proofs.Evaluation.{item_at, items_more, items_all, latch_value, put_value}
+use Rattle.aig_values.proofs.Evaluation.{items_more, items_all, latch_value, put_value}
+use Rattle.aig_base.proofs.lists.Items.{item_at}
 use Rattle.aig_sim.proofs.simulation.frame_cells.put_latches.Goals as goal
 
 pub bounds-cells-var : goal.bounds-cells-var

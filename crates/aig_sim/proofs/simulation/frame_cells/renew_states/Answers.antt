@@ -1,6 +1,6 @@
 use Rattle.std.proofs.Common.{◌≡◌, Some, slice_get, arith}
 use Rattle.aig_base.proofs.circuits.Circuits.{next_in_range}
-use Rattle.aig_values.proofs.Evaluation.{item_at}
+use Rattle.aig_base.proofs.lists.Items.{item_at}
 use Rattle.aig_sim.proofs.simulation.frame_cells.renew_states.Goals as goal
 
 pub code_in-requires : goal.code_in-requires

@@ -1,7 +1,7 @@
 use Rattle.std.proofs.Common.{◌≡◌, ◌+◌, ◌≤◌, ◌<◌, Some, slice_get, length, arith}
 use Rattle.aig_parts.specs.Literal.{variable}
 use Rattle.aig_base.proofs.circuits.Circuits.{next_in_range}
-use Rattle.aig_values.proofs.Evaluation.{item_at}
+use Rattle.aig_base.proofs.lists.Items.{item_at}
 use Rattle.aig_bench.proofs.carries.LatchChains.{bits_none, bits_more, chains_none, chains_more, chains_all, read_at}
 use Rattle.aig_bench.proofs.propagate.latch_readers.LatchReaders.of.Goals as goal
 

@@ -1,9 +1,0 @@
-use Rattle.aig_laws.proofs.AliveFormula.{exactly_alive}
-use Rattle.aig_laws.proofs.LastFormula.{last_reached}
-use Rattle.aig_laws.proofs.formula.law_of_last.Goals as goal
-
-pub returns-clause-reached : goal.returns-clause-reached
-returns-clause-reached c = last_reached
-
-pub returns-clause-alive : goal.returns-clause-alive
-returns-clause-alive c = exactly_alive

@@ -1,5 +1,0 @@
-use Rattle.aig_laws.proofs.SelectedVerdicts.{same_selected}
-use Rattle.aig_laws.proofs.selection.law_of_selection.Goals as goal
-
-pub returns : goal.returns
-returns c = record { verdicts = same_selected }

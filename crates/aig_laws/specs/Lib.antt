@@ -1,6 +1,0 @@
-pub mod Conversion
-pub mod Models
-pub mod PartialModels
-pub mod Satisfiable
-pub mod Selection
-pub mod UnrolledWitness

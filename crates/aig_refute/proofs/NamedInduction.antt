@@ -1,0 +1,452 @@
+-- An assignment that satisfies the formula of an induction names a run that disproves the induction.
+use Rattle.std.proofs.Common.{◌≡◌, ◌≢◌, ◌↔◌, ◌⊎◌, inl, inr, ℕ, zero, suc, ◌+◌, ◌-◌, ◌*◌, ◌%◌, ◌<◌, ◌≤◌, Bool, true}
+use Rattle.std.proofs.Common.{false, not, ◌&&◌, ◌||◌, if◌then◌else◌, List, [], ◌∷◌, ◌++◌, length, flat_map}
+use Rattle.std.proofs.Common.{Some, slice_get, slice_index, get_or, All, refl, sym, ◌∙◌, ap, ap₂, subst, arith}
+use Rattle.std.specs.Prelude.{◌==◌}
+use Rattle.std.specs.List.{list_all, list_any}
+use Rattle.std.proofs.lemmas.Bool.{eq-eqb, eqb-true, ne_eqb}
+use Rattle.std.proofs.lemmas.List.Concat.{flat_map-cons}
+use Rattle.std.proofs.lemmas.List.Elements.{All-head, All-tail}
+use Rattle.std.proofs.lemmas.List.Folds.{list_all-append, list_any_at}
+use Rattle.std.proofs.lemmas.List.FromFn.{get_or-map-range_with_len}
+use Rattle.std.proofs.lemmas.Option.{get_or_from_slice_get, slice_get-get_or, slice_get_within}
+use Rattle.aig_parts.specs.Literal.{negation, variable}
+use Rattle.aig_parts.specs.declared.gate.Gate.{Gate}
+use Rattle.aig_parts.specs.declared.latch.Latch.{Latch}
+use Rattle.aig_parts.specs.declared.raw.Raw.{Raw}
+use Rattle.aig_parts.specs.declared.ternary.Tern.{Tern}
+use Rattle.aig_parts.specs.declared.ternary.Tern.TheVariants.{One, X}
+use Rattle.aig_parts.specs.Ternary.{kleene_and, kleene_not}
+use Rattle.aig_base.specs.Circuit.{IsCircuit}
+use Rattle.aig_base.specs.Order.{IsCanonicalOrder}
+use Rattle.aig_base.specs.Runs.{Allows, IsAllowed, ReachesBad, ReachesProperty}
+use Rattle.aig_base.specs.Sound.{IsReset}
+use Rattle.aig_base.specs.Value as value
+use Rattle.aig_base.specs.Value.{Value, reset_value}
+use Rattle.aig_base.proofs.circuits.InOrder.{gate_number}
+use Rattle.aig_base.proofs.lists.Gets.{All-at}
+use Rattle.aig_cnf.specs.Formula.{Cnf, IsFormulaOf, all_but_last, cone, formula_of, gate_clauses, goals, implies, reads}
+use Rattle.aig_cnf.specs.Formula.{reset_literal, reset_literals, start_literals}
+use Rattle.aig_cnf.specs.Query.{from_any_state, induction}
+use Rattle.aig_cnf.proofs.AnyCircuit.{from_any_circuit}
+use Rattle.aig_sat.specs.checker.Clause.{is_true, meets, Satisfies}
+use Rattle.aig_refute.specs.Models.{tern_of, values_of}
+use Rattle.aig_refute.specs.Satisfiable.{BreaksStep, DisprovesInduction, HasBrokenStep, IsReachedWithin, IsSatisfiable}
+use Rattle.aig_refute.specs.Satisfiable.{step_rows, step_start}
+use Rattle.aig_refute.specs.UnrolledWitness.{rows_in, start_in, IsRun, MakesBad}
+use Rattle.aig_refute.proofs.AnyState.{fits_from_any, reaches_any, reaches_from_any}
+use Rattle.aig_refute.proofs.BadFormula.{bad_at, bad_in_range, goal_frame, inputs_are, low_of, valued, values_known}
+use Rattle.aig_refute.proofs.BadFormula.{wide_values}
+use Rattle.aig_refute.proofs.DisprovedInduction.{broken_satisfies, goals_before, reached_satisfies, start_at}
+use Rattle.aig_refute.proofs.FirstReached.{both_satisfied}
+use Rattle.aig_refute.proofs.Tseitin.{and_both, gates_met, none_of, one_met, only_row, tern_and, tern_not, true_below}
+use Rattle.aig_refute.proofs.Tseitin.{true_even, true_negation, true_odd}
+use Rattle.aig_refute.proofs.UnrolledRows.{known_in, run_in}
+use Rattle.aig_refute.proofs.UnrolledWitnesses.{reaches_in_row}
+use Rattle.aig_unroll.specs.FrameLiteral.{input_count, is_uninitialised}
+use Rattle.aig_unroll.specs.Unrolled.{frames, unrolled}
+use Rattle.aig_unroll.proofs.UnrolledReady.{unrolled_ready}
+use Rattle.aig_unroll.proofs.UnrolledRow.{frames_at}
+
+true_false : (b : Bool) → b ≡ true → b ≡ false → ⊥
+true_false true e f = cc
+true_false false e f = cc
+
+or_left : (a b : Bool) → a ≡ true → (a || b) ≡ true
+or_left true b e = refl
+or_left false b e = cc
+
+or_right : (a b : Bool) → b ≡ true → (a || b) ≡ true
+or_right true b e = refl
+or_right false b e = e
+
+-- ---- the gates of the cone
+
+-- no gate reads one behind it, or itself
+abbrev ReadEarlier : List Gate → Type 0
+ReadEarlier gates = (q r : ℕ) (f g : Gate) → q < r → slice_get gates q ≡ Some f → slice_get gates r ≡ Some g
+    → (variable f.rhs0 ≢ variable g.lhs) × (variable f.rhs1 ≢ variable g.lhs)
+
+-- a gate that does not read the variable adds nothing
+not_by_first : (ls : List ℕ) (x : Gate) (gates : List Gate) (v : ℕ) → variable x.rhs0 ≢ v → variable x.rhs1 ≢ v
+    → reads ls (x ∷ gates) v ≡ true → reads ls gates v ≡ true
+not_by_first ls x gates v n0 n1 e =
+    let e0 = ne_eqb (variable x.rhs0) v n0 in
+    let e1 = ne_eqb (variable x.rhs1) v n1 in
+    let others : Bool = list_any (λ g. variable g.rhs0 == v || variable g.rhs1 == v) gates in
+    let first : Bool = list_any (λ l. variable l == v) ls in
+    sym (ap₂ (λ b d. first || ((b || d) || others)) e0 e1) ∙ e
+
+-- a gate that is read is in the cone
+read_is_kept : (ls : List ℕ) (gates : List Gate) → ReadEarlier gates → (q : ℕ) (g : Gate) → slice_get gates q ≡ Some g
+    → reads ls (cone ls gates) (variable g.lhs) ≡ true → (j : ℕ) × (slice_get (cone ls gates) j ≡ Some g)
+unfolding cone
+read_is_kept ls [] ordered q g at needed = cc
+read_is_kept ls (x ∷ gates) ordered q g at needed =
+    go (reads ls (cone ls gates) (variable x.lhs)) refl q at (λ r here. ordered zero (suc r) x g (omega arith) refl here) needed
+    (λ r here. read_is_kept ls gates (λ i j f h lt. ordered (suc i) (suc j) f h (omega (arith, lt))) r g here)
+  where
+    go : (b : Bool) → reads ls (cone ls gates) (variable x.lhs) ≡ b → (q : ℕ) → slice_get (x ∷ gates) q ≡ Some g
+        → ((r : ℕ) → slice_get gates r ≡ Some g → (variable x.rhs0 ≢ variable g.lhs) × (variable x.rhs1 ≢ variable g.lhs))
+        → reads ls (if b then x ∷ cone ls gates else cone ls gates) (variable g.lhs) ≡ true
+        → ((r : ℕ) → slice_get gates r ≡ Some g → reads ls (cone ls gates) (variable g.lhs) ≡ true
+        → (j : ℕ) × (slice_get (cone ls gates) j ≡ Some g))
+        → (j : ℕ) × (slice_get (if b then x ∷ cone ls gates else cone ls gates) j ≡ Some g)
+    go true e zero at apart needed later = (zero, at)
+    go true e (suc r) at apart needed later =
+        let (n0, n1) = apart r at in
+        let (j, here) = later r at (not_by_first ls x (cone ls gates) (variable g.lhs) n0 n1 needed) in (suc j, here)
+    go false e zero at apart needed later =
+        let same : x ≡ g = (let f : Some x ≡ Some g = at in cc) in
+        absurd (true_false (reads ls (cone ls gates) (variable x.lhs))
+        (subst (λ (h : Gate). reads ls (cone ls gates) (variable h.lhs) ≡ true) (sym same) needed) e)
+    go false e (suc r) at apart needed later = later r at needed
+
+-- what a gate of the cone reads is read
+side_read : (ls : List ℕ) (gates : List Gate) (j : ℕ) (g : Gate) (v : ℕ) → slice_get gates j ≡ Some g
+    → (variable g.rhs0 == v || variable g.rhs1 == v) ≡ true → reads ls gates v ≡ true
+side_read ls gates j g v at e =
+    let p : Gate → Bool = λ f. variable f.rhs0 == v || variable f.rhs1 == v in
+    or_right (list_any (λ l. variable l == v) ls) (list_any p gates)
+    (list_any_at p gates j g (slice_get_within gates j g at) (ap p (get_or_from_slice_get gates j g g at) ∙ e))
+
+goal_read : (ls : List ℕ) (gates : List Gate) (i l : ℕ) → slice_get ls i ≡ Some l → reads ls gates (variable l) ≡ true
+goal_read ls gates i l at =
+    let v = variable l in
+    or_left (list_any (λ m. variable m == v) ls) (list_any (λ g. variable g.rhs0 == v || variable g.rhs1 == v) gates)
+    (list_any_at (λ m. variable m == v) ls i l (slice_get_within ls i l at)
+    (ap (λ m. variable m == v) (get_or_from_slice_get ls i l l at) ∙ eq-eqb v v refl))
+
+-- where each gate of the cone is an AND, each literal that is read has the value that the assignment says
+module _ (raw : Raw) (row : List Tern) (no_latches : raw.latches ≡ []) (ordered : ReadEarlier raw.gates) (ls : List ℕ) where
+  abbrev kept : List Gate
+  kept = cone ls raw.gates
+
+  assigned_in : (a : ℕ → Bool) → a 0 ≡ false
+      → ((p l : ℕ) (w : Tern) → slice_get raw.inputs p ≡ Some l → slice_get row p ≡ Some w → w ≡ tern_of (is_true a l))
+      → Satisfies a (flat_map gate_clauses kept)
+      → {t l : ℕ} {w : Tern} → Value raw [] (row ∷ []) t l w → reads ls kept (variable l) ≡ true → w ≡ tern_of (is_true a l)
+  assigned_in a low inputs met (value.constant_false t) read = ap tern_of (sym low)
+  assigned_in a low inputs met (value.constant_true t) read = ap (λ b. tern_of (not b)) (sym low)
+  assigned_in a low inputs met (value.input t p l w r at is cell) read =
+      inputs p l w at (subst (λ (r : List Tern). slice_get r p ≡ Some w) (sym (only_row raw row no_latches t r is)) cell)
+  assigned_in a low inputs met (value.latch_first p x w at is) read = absurd (none_of raw.latches p x no_latches at)
+  assigned_in a low inputs met (value.latch_next t p x w at v) read = absurd (none_of raw.latches p x no_latches at)
+  assigned_in a low inputs met (value.gate t q g b c at vb vc) read =
+      let (j, here) = read_is_kept ls raw.gates ordered q g at read in
+      let first = side_read ls kept j g (variable g.rhs0) here
+      (or_left (variable g.rhs0 == variable g.rhs0) (variable g.rhs1 == variable g.rhs0) (eq-eqb (variable g.rhs0) (variable g.rhs0) refl)) in
+      let second = side_read ls kept j g (variable g.rhs1) here
+      (or_right (variable g.rhs0 == variable g.rhs1) (variable g.rhs1 == variable g.rhs1) (eq-eqb (variable g.rhs1) (variable g.rhs1) refl)) in
+      ap₂ kleene_and (assigned_in a low inputs met vb first) (assigned_in a low inputs met vc second)
+      ∙ sym (tern_and (is_true a g.rhs0) (is_true a g.rhs1)) ∙ ap tern_of (sym (gates_met a kept met j g here))
+  assigned_in a low inputs met (value.negated t l w over neg v) read =
+      let same : variable l ≡ variable (l - 1) = grind (arith, neg, over) in
+      ap kleene_not (assigned_in a low inputs met v (subst (λ u. reads ls kept u ≡ true) same read))
+      ∙ sym (tern_not (is_true a (l - 1))) ∙ ap tern_of (sym (true_below a l neg))
+
+-- ---- what a true literal implies
+
+second_true : (b d : Bool) → b ≡ false → (b || (d || false)) ≡ true → d ≡ true
+second_true true d e f = cc
+second_true false true e f = refl
+second_true false false e f = cc
+
+all_implied : (a : ℕ → Bool) (ms : List ℕ) (l : ℕ) → Satisfies a (implies ms l) → is_true a l ≡ true
+    → list_all (is_true a) ms ≡ true
+all_implied a [] l h on = refl
+all_implied a (m ∷ ms) l h on =
+    let (first, rest) = and_both (meets a (negation l ∷ m ∷ [])) (list_all (meets a) (implies ms l)) h in
+    let off : is_true a (negation l) ≡ false = true_negation a l ∙ ap not on in
+    let here = second_true (is_true a (negation l)) (is_true a m) off first in
+    let others = all_implied a ms l rest on in rw (here, others) refl
+
+implied_at : (a : ℕ → Bool) (ms ls : List ℕ) (j l : ℕ) → Satisfies a (flat_map (implies ms) ls) → slice_get ls j ≡ Some l
+    → is_true a l ≡ true → list_all (is_true a) ms ≡ true
+implied_at a ms [] j l h at on = cc
+implied_at a ms (x ∷ ls) j l h at on =
+    let (first, rest) = both_satisfied a (implies ms x) (flat_map (implies ms) ls)
+    (subst (λ (cs : List (List ℕ)). Satisfies a cs) (flat_map-cons (implies ms) x ls) h) in
+    go j at first (λ i here. implied_at a ms ls i l rest here on)
+  where
+    go : (j : ℕ) → slice_get (x ∷ ls) j ≡ Some l → Satisfies a (implies ms x)
+        → ((i : ℕ) → slice_get ls i ≡ Some l → list_all (is_true a) ms ≡ true) → list_all (is_true a) ms ≡ true
+    go zero at first later =
+        let same : l ≡ x = (let e : Some x ≡ Some l = at in cc) in
+        all_implied a ms x first (subst (λ m. is_true a m ≡ true) same on)
+    go (suc i) at first later = later i at
+
+-- ---- a start that obeys the resets
+
+not_false : (b : Bool) → not b ≡ true → b ≡ false
+not_false true e = cc
+not_false false e = refl
+
+only_one : (b : Bool) → (b && true) ≡ true → b ≡ true
+only_one true e = refl
+only_one false e = cc
+
+-- the value of a variable whose literal for a reset is true
+value_of_reset : (a : ℕ → Bool) (v n : ℕ) → (n ≡ 0) ⊎ (n ≡ 1) → is_true a (2 * v + (1 - n)) ≡ true → tern_of (a v) ≡ reset_value n
+value_of_reset a v n (inl e) is =
+    let literal : 2 * v + (1 - n) ≡ 2 * v + 1 = omega (arith, e) in
+    let odd : (2 * v + 1) % 2 ≡ 1 = grind arith in
+    let half : variable (2 * v + 1) ≡ v = grind arith in
+    let off : a v ≡ false = not_false (a v)
+    (sym (ap (is_true a) literal ∙ true_odd a (2 * v + 1) odd ∙ ap (λ u. not (a u)) half) ∙ is) in
+    ap tern_of off ∙ ap reset_value (sym e)
+value_of_reset a v n (inr e) is =
+    let literal : 2 * v + (1 - n) ≡ 2 * v = omega (arith, e) in
+    let even : (2 * v) % 2 ≡ 0 = grind arith in
+    let half : variable (2 * v) ≡ v = grind arith in
+    let on : a v ≡ true = sym (ap (is_true a) literal ∙ true_even a (2 * v) even ∙ ap a half) ∙ is in
+    ap tern_of on ∙ ap reset_value (sym e)
+
+one_allowed : (a : ℕ → Bool) (v : ℕ) (x : Latch) (w : Tern) → IsReset x → w ≡ tern_of (a v)
+    → list_all (is_true a) (reset_literal v x) ≡ true → Allows x w
+one_allowed a v x w reset is h = go (is_uninitialised x) refl reset h
+  where
+    go : (b : Bool) → is_uninitialised x ≡ b → IsReset x
+        → list_all (is_true a) (if b then [] else (2 * v + (1 - x.reset)) ∷ []) ≡ true → Allows x w
+    go true e reset h = inl (eqb-true x.reset x.lit e)
+    go false e (inl low) h =
+        inr (is ∙ value_of_reset a v x.reset (inl low) (only_one (is_true a (2 * v + (1 - x.reset))) h))
+    go false e (inr (inl high)) h =
+        inr (is ∙ value_of_reset a v x.reset (inr high) (only_one (is_true a (2 * v + (1 - x.reset))) h))
+    go false e (inr (inr same)) h = inl same
+
+all_allowed : (a : ℕ → Bool) (v : ℕ) (xs : List Latch) → All IsReset xs → list_all (is_true a) (reset_literals v xs) ≡ true
+    → (i : ℕ) (x : Latch) (w : Tern) → slice_get xs i ≡ Some x → w ≡ tern_of (a (v + i)) → Allows x w
+unfolding reset_literals
+all_allowed a v [] resets h i x w at is = cc
+all_allowed a v (y ∷ xs) resets h i x w at is =
+    let (first, rest) = and_both (list_all (is_true a) (reset_literal v y)) (list_all (is_true a) (reset_literals (v + 1) xs))
+    (sym (list_all-append (is_true a) (reset_literal v y) (reset_literals (v + 1) xs)) ∙ h) in
+    go i at is first (λ j here e. all_allowed a (v + 1) xs (All-tail IsReset y xs resets) rest j x w here e)
+  where
+    go : (i : ℕ) → slice_get (y ∷ xs) i ≡ Some x → w ≡ tern_of (a (v + i)) → list_all (is_true a) (reset_literal v y) ≡ true
+        → ((j : ℕ) → slice_get xs j ≡ Some x → w ≡ tern_of (a (v + 1 + j)) → Allows x w) → Allows x w
+    go zero at is first later =
+        let same : y ≡ x = (let e : Some y ≡ Some x = at in cc) in
+        let here : v + 0 ≡ v = omega arith in
+        subst (λ (z : Latch). Allows z w) same
+        (one_allowed a v y w (All-head IsReset y xs resets) (is ∙ ap (λ n. tern_of (a n)) here) first)
+    go (suc j) at is first later =
+        let e : v + suc j ≡ v + 1 + j = omega arith in later j at (is ∙ ap (λ n. tern_of (a n)) e)
+
+-- ---- the first frames
+
+none_more : (f : ℕ → Bool) (k : ℕ) → ((t : ℕ) → t < k → f t ≡ false) → f k ≡ false → (t : ℕ) → (t < k) ⊎ (t ≡ k) → f t ≡ false
+none_more f k none e t (inl under) = none t under
+none_more f k none e t (inr same) = ap f same ∙ e
+
+-- one of the first k is true, or none is
+some_true : (f : ℕ → Bool) (k : ℕ) → ((t : ℕ) × (t < k) × (f t ≡ true)) ⊎ ((t : ℕ) → t < k → f t ≡ false)
+some_true f zero = inr (λ t lt. absurd (omega (arith, lt)))
+some_true f (suc k) = go (f k) refl (some_true f k)
+  where
+    below_or : (t : ℕ) → t < suc k → (t < k) ⊎ (t ≡ k)
+    below_or t lt = grind (arith, lt)
+
+    go : (b : Bool) → f k ≡ b → ((t : ℕ) × (t < k) × (f t ≡ true)) ⊎ ((t : ℕ) → t < k → f t ≡ false)
+        → ((t : ℕ) × (t < suc k) × (f t ≡ true)) ⊎ ((t : ℕ) → t < suc k → f t ≡ false)
+    go b e (inl (t, lt, is)) = inl (t, omega (arith, lt), is)
+    go true e (inr none) = inl (k, omega arith, e)
+    go false e (inr none) = inr (λ t lt. none_more f k none e t (below_or t lt))
+
+-- ---- the gates of an unrolled circuit
+
+module _ (raw : Raw) (circuit : IsCircuit raw) (order : List ℕ) (canonical : IsCanonicalOrder raw order) (k : ℕ) where
+  read_earlier : ReadEarlier (unrolled raw order k).gates
+  read_earlier q r f g lt at_q at_r =
+      let all = unrolled raw order k in
+      let ready = unrolled_ready raw circuit order canonical k in
+      let number_q = gate_number all ready.in_order q f at_q in
+      let number_r = gate_number all ready.in_order r g at_r in
+      let down = All-at (λ (h : Gate). (h.rhs0 < h.lhs) × (h.rhs1 ≤ h.rhs0)) all.gates q f ready.gates at_q in (
+        λ e. no_later (variable f.lhs) (variable g.lhs) f.lhs f.rhs0 refl (omega (arith, number_q, number_r, lt)) down.0 e,
+        λ e. no_later (variable f.lhs) (variable g.lhs) f.lhs f.rhs1 refl (omega (arith, number_q, number_r, lt))
+            (omega (arith, down.0, down.1)) e,
+      )
+    where
+      no_later : (m n l s : ℕ) → m ≡ variable l → m < n → s < l → variable s ≡ n → ⊥
+      no_later m n l s e lt below is = absurd (omega (arith, e, lt, below, is))
+
+-- ---- the run that an assignment names
+
+module _ (raw : Raw) (circuit : IsCircuit raw) (order : List ℕ) (canonical : IsCanonicalOrder (from_any_state raw) order)
+    (k p : ℕ) (property : p < length raw.bad) (a : ℕ → Bool)
+    (h : Satisfies a (formula_of raw order (induction k p)).clauses) where
+  abbrev free : Raw
+  free = from_any_state raw
+
+  abbrev all : Raw
+  all = unrolled free order (k + 1)
+
+  any : IsCircuit free
+  any = from_any_circuit raw circuit
+
+  abbrev literal_at : ℕ → ℕ
+  literal_at t = slice_index all.bad (t * length raw.bad + p)
+
+  abbrev reached : List ℕ
+  reached = goals all (length raw.bad) (k + 1) p
+
+  abbrev starts : List ℕ
+  starts = start_literals (induction k p) raw
+
+  abbrev kept_gates : List Gate
+  kept_gates = cone reached all.gates
+
+  abbrev row : List Tern
+  row = values_of free (k + 1) a
+
+  abbrev rows : List (List Tern)
+  rows = rows_in free (k + 1) row
+
+  abbrev start : List Tern
+  start = start_in free (k + 1) row
+
+  wide : length row ≡ input_count free (k + 1)
+  wide = wide_values free any order canonical (k + 1) a
+
+  run : IsRun free (k + 1) start rows
+  run = run_in free (k + 1) row wide
+
+  met : (meets a (1 ∷ []) ≡ true) × (meets a reached ≡ true)
+      × Satisfies a (flat_map (implies starts) (all_but_last reached)) × Satisfies a (flat_map gate_clauses kept_gates)
+  met =
+      let first = flat_map (implies starts) (all_but_last reached) in
+      let gates = flat_map gate_clauses kept_gates in
+      let (low, rest) = and_both (meets a (1 ∷ [])) (list_all (meets a) (reached ∷ first ++ gates)) h in
+      let (some, more) = and_both (meets a reached) (list_all (meets a) (first ++ gates)) rest in
+      let (implied, each) = both_satisfied a first gates more in (low, some, implied, each)
+
+  literal_is : (t : ℕ) → t < k + 1 → slice_get all.bad (t * length raw.bad + p) ≡ Some (literal_at t)
+  literal_is t below = bad_at free any order canonical (k + 1) t p below property
+
+  is_goal : (t : ℕ) → t < k + 1 → (j : ℕ) × (slice_get reached j ≡ Some (literal_at t))
+  is_goal t below = frames_at (λ s. literal_at s ∷ []) (k + 1) t 0 (literal_at t) below refl
+
+  -- the bad literals have the values that the assignment says
+  assigns : (t : ℕ) → t < k + 1 → (w : Tern) → Value all [] (row ∷ []) 0 (literal_at t) w → w ≡ tern_of (is_true a (literal_at t))
+  assigns t below w v =
+      let (j, stands) = is_goal t below in
+      assigned_in all row refl (read_earlier free any order canonical (k + 1)) reached a (low_of a met.0)
+      (λ i m u. inputs_are free any order canonical (k + 1) a i m u) met.3 v
+      (goal_read reached kept_gates j (literal_at t) stands)
+
+  true_there : (t : ℕ) → t < k + 1 → MakesBad free order (k + 1) row t p → is_true a (literal_at t) ≡ true
+  true_there t below (g, stands, v) =
+      let same : g ≡ literal_at t = (let e : Some g ≡ Some (literal_at t) = sym stands ∙ literal_is t below in cc) in
+      one_is (is_true a (literal_at t))
+      (assigns t below One (subst (λ (l : ℕ). Value all [] (row ∷ []) 0 l One) same v))
+    where
+      one_is : (b : Bool) → One ≡ tern_of b → b ≡ true
+      one_is true e = refl
+      one_is false e = cc
+
+  made_there : (t : ℕ) → t < k + 1 → is_true a (literal_at t) ≡ true → MakesBad free order (k + 1) row t p
+  made_there t below one =
+      let (w, v) = valued free any order canonical (k + 1) row wide (literal_at t)
+      (bad_in_range free any order canonical (k + 1) t p below property) in (
+        literal_at t,
+        literal_is t below,
+        subst (λ (u : Tern). Value all [] (row ∷ []) 0 (literal_at t) u) (assigns t below w v ∙ ap tern_of one) v,
+      )
+
+  bad_is : slice_get raw.bad p ≡ Some (get_or raw.bad p 0)
+  bad_is = slice_get-get_or raw.bad p 0 property
+
+  in_row : (t : ℕ) → t < k + 1 → MakesBad free order (k + 1) row t p ↔ ReachesBad free start rows t (get_or raw.bad p 0)
+  in_row t below = reaches_in_row free any order canonical (k + 1) row wide t p (get_or raw.bad p 0) below bad_is
+
+  -- the start obeys the resets if a bad literal before the last one is true
+  obeys : (t : ℕ) → t < k → is_true a (literal_at t) ≡ true → IsAllowed raw start
+  obeys t below one i x w at stands =
+      let before = frames (λ s. literal_at s ∷ []) k in
+      let (j, here) = frames_at (λ s. literal_at s ∷ []) k t 0 (literal_at t) below refl in
+      let holds = implied_at a starts before j (literal_at t)
+      (subst (λ (ls : List ℕ). Satisfies a (flat_map (implies starts) ls)) (goals_before raw circuit order canonical k p) met.2)
+      here one in
+      let cell = start_at raw circuit order canonical k p row start wide (fits_from_any raw start rows run.fits).latches refl i w stands in
+      let n = (k + 1) * length raw.inputs in
+      let inside = slice_get_within row (n + i) w cell in
+      let e : 1 + (n + i) ≡ n + 1 + i = omega arith in
+      all_allowed a (n + 1) raw.latches circuit.sound.resets holds i x w at
+      (sym (get_or_from_slice_get row (n + i) w X cell)
+      ∙ get_or-map-range_with_len (λ v. tern_of (a v)) 1 (input_count free (k + 1)) (n + i) (1 + (n + i)) X
+      (omega (arith, inside, wide)) refl
+      ∙ ap (λ v. tern_of (a v)) e)
+
+  -- one of them is true
+  last_true : ((t : ℕ) → t < k → is_true a (literal_at t) ≡ false) → is_true a (literal_at k) ≡ true
+  last_true none =
+      let (i, l, at, one) = one_met a reached met.1 in
+      let (t, lt, is) = goal_frame literal_at (k + 1) i l at in
+      go (before_or t lt) (ap (is_true a) (sym is) ∙ one)
+    where
+      before_or : (t : ℕ) → t < k + 1 → (t < k) ⊎ (t ≡ k)
+      before_or t lt = grind (arith, lt)
+
+      go : {t : ℕ} → (t < k) ⊎ (t ≡ k) → is_true a (literal_at t) ≡ true → is_true a (literal_at k) ≡ true
+      go {t} (inl under) one = absurd (true_false (is_true a (literal_at t)) one (none t under))
+      go {t} (inr same) one = subst (λ s. is_true a (literal_at s) ≡ true) same one
+
+  reaches_at : (t : ℕ) → t < k + 1 → is_true a (literal_at t) ≡ true → ReachesBad raw start rows t (get_or raw.bad p 0)
+  reaches_at t below one =
+      reaches_from_any raw start rows t (get_or raw.bad p 0) ((in_row t below).0 (made_there t below one))
+
+  pub disproves : DisprovesInduction raw k p start rows
+  disproves = record {
+    known = known_in free (k + 1) row wide any.sound.resets (values_known free any order canonical (k + 1) a);
+    frames = run.frames;
+    fails = go (some_true (λ t. is_true a (literal_at t)) k);
+  }
+    where
+      go : ((t : ℕ) × (t < k) × (is_true a (literal_at t) ≡ true)) ⊎ ((t : ℕ) → t < k → is_true a (literal_at t) ≡ false)
+          → ((t : ℕ) × (t < k) × ReachesProperty raw start rows t p) ⊎ BreaksStep raw k p start rows
+      go (inl (t, below, one)) = inl (
+        t,
+        below,
+        (
+          fits_from_any raw start rows run.fits,
+          obeys t below one,
+          omega (arith, run.frames, below),
+          (get_or raw.bad p 0, bad_is, reaches_at t (omega (arith, below)) one),
+        ),
+      )
+      go (inr none) = inr (record {
+        fits = fits_from_any raw start rows run.fits;
+        known = known_in free (k + 1) row wide any.sound.resets (values_known free any order canonical (k + 1) a);
+        frames = run.frames;
+        bad = get_or raw.bad p 0;
+        bad_is = bad_is;
+        reached = reaches_at k (omega arith) (last_true none);
+        none_before = λ t below r.
+            true_false (is_true a (literal_at t))
+            (true_there t (omega (arith, below)) ((in_row t (omega (arith, below))).1
+            (reaches_any raw start rows t (get_or raw.bad p 0) r)))
+            (none t below);
+      })
+
+disproved : (raw : Raw) (k p : ℕ) (start : List Tern) (rows : List (List Tern)) → DisprovesInduction raw k p start rows
+    → IsReachedWithin raw k p ⊎ HasBrokenStep raw k p
+disproved raw k p start rows h = go h.fails
+  where
+    go : ((t : ℕ) × (t < k) × ReachesProperty raw start rows t p) ⊎ BreaksStep raw k p start rows
+        → IsReachedWithin raw k p ⊎ HasBrokenStep raw k p
+    go (inl (t, below, reaches)) = inl (start, rows, t, below, reaches)
+    go (inr breaks) = inr (start, rows, breaks)
+
+pub induction_disproved : (raw : Raw) (formula : Cnf) (k p : ℕ) → IsCircuit raw → IsFormulaOf raw (induction k p) formula
+    → p < length raw.bad → IsSatisfiable formula.clauses ↔ (IsReachedWithin raw k p ⊎ HasBrokenStep raw k p)
+induction_disproved raw formula k p circuit (order, canonical, is) property =
+    subst (λ (f : Cnf). IsSatisfiable f.clauses ↔ (IsReachedWithin raw k p ⊎ HasBrokenStep raw k p)) (sym is) (
+      λ (a, h). disproved raw k p (step_start raw k a) (step_rows raw k a) (disproves raw circuit order canonical k p property a h),
+      λ some. satisfiable some,
+    )
+  where
+    satisfiable : IsReachedWithin raw k p ⊎ HasBrokenStep raw k p → IsSatisfiable (formula_of raw order (induction k p)).clauses
+    satisfiable (inl reached) = reached_satisfies raw circuit order canonical k p reached
+    satisfiable (inr broken) = broken_satisfies raw circuit order canonical k p broken

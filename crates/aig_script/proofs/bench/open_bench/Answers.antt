@@ -1,0 +1,24 @@
+use Rattle.std.proofs.Common.{ap, Err}
+use Rattle.aig_bench.specs.BenchState.{CircuitAndRows}
+use Rattle.aig_run.specs.declared.run_fault.RunFault.TheVariants as run_faults
+use Rattle.aig_script.specs.BenchFiles.{RefusesFiles}
+use Rattle.aig_run.proofs.Files.{reported_as}
+use Rattle.aig_script.proofs.Benches.{refuses_bench}
+use Rattle.aig_script.proofs.bench.open_bench.Goals as goal
+
+pub returns-in_err-new-clause-fault : goal.returns-in_err-new-clause-fault
+returns-in_err-new-clause-fault g c =
+    let e = c.in_err-new.ensures in
+    let fault = c.in_err-new.field-0.0 in
+    let rows = c.in_ok-stimulus.stimulus.rows in
+    let pair : CircuitAndRows = record { circuit = c.in_ok-circuit.circuit; rows = rows } in
+    reported_as c.from_residual-in_err-new.result (run_faults.Bench fault) (RefusesFiles c.args.circuit.now c.args.stimulus.now)
+    c.from_residual-in_err-new.ensures.1 (
+      pair,
+      record {
+        circuit_is = c.in_ok-circuit.ensures.circuit;
+        rows_are = c.in_ok-stimulus.ensures.rows;
+        frames = c.in_ok-stimulus.ensures.limit;
+      },
+      refuses_bench pair fault (λ is. e.width.0 (ap Err is) c.in_ok-stimulus.ensures.width) (λ is. (e.limit.0 (ap Err is)).1),
+    )
