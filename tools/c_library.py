@@ -2,20 +2,26 @@
 """Makes the library for C of the crate `aig_c`: libaig.a and libaig.so, which need the C library alone and export the
 calls of include/aig.h alone.
 
-  c_library.py prove                 builds it over the libraries that `rt ci` proved, into crates/aig_c/out/lib. That
-                                     proves the crate again, and nothing is written unless it is proved
-  c_library.py link ARCHIVE FOLDER   links it from an archive of the crate, into FOLDER"""
+  c_library.py prove ARCHIVE PROOFS   makes an archive of the crate once an `rt ci` that runs, whose output so far is
+                                      in PROOFS, has proved all libraries below it. That proves the crate again, and
+                                      there is no archive unless it is proved
+  c_library.py link ARCHIVE [FOLDER]  links the library from an archive of the crate, into FOLDER, or into
+                                      crates/aig_c/out/lib"""
 
 import glob
 import os
+import pathlib
 import shutil
 import subprocess
 import sys
 import tempfile
+import time
 
 import gate
+import planted
 
-CRATE = gate.ROOT + "/crates/aig_c"
+CRATE_NAME = "aig_c"
+CRATE = f"{gate.ROOT}/crates/{CRATE_NAME}"
 NAMES = ("libaig.a", "libaig.so")
 SONAME = "libaig.so.0"
 # how long a command may take: one of them proves a crate
@@ -57,21 +63,24 @@ def link(archive, folder):
             shutil.copy(f"{room}/{name}", f"{folder}/{name}")
 
 
-def prove():
-    """Builds the archive of the crate from the proved libraries below it, and links the library."""
+def wait(proofs):
+    """Waits until the libraries below the crate are proved, by the output of an `rt ci` that runs."""
+    while not planted.proved_in(proofs) >= set(below(CRATE_NAME)):
+        time.sleep(2)
+
+
+def prove(archive):
+    """Builds the archive of the crate from the proved libraries below it."""
     kit = toolchain()
     libraries = sorted(glob.glob(f"{gate.ROOT}/crates/*/out/rlib/*.rlib"))
-    words = [f"{kit}/bin/rattle", "build", "--crate-name", "aig_c", "--crate-type", "staticlib", "src/lib.rt"]
+    words = [f"{kit}/bin/rattle", "build", "--crate-name", CRATE_NAME, "--crate-type", "staticlib", "src/lib.rt"]
     for library in [*sorted(glob.glob(f"{kit}/rlibs/*.rlib")), *libraries]:
         name = os.path.basename(library).removesuffix(".rlib")
-        if name in libraries_of("aig_c") or name == "std":
+        if name in libraries_of(CRATE_NAME) or name == "std":
             words += ["--extern", f"{name}={library}"]
         words += ["-L", f"dependency={os.path.dirname(library)}"]
     words += ["--antt-project", f"{kit}/rattle/logic/antt-project.json", "--logic-built", f"{kit}/logic_built"]
-    with tempfile.TemporaryDirectory() as room:
-        archive = f"{room}/libaig_c.a"
-        said = run(*words, "--toolchain", f"{kit}/toolchain", "-o", archive, folder=CRATE)
-        link(archive, gate.PROVED_LIBRARY)
+    said = run(*words, "--toolchain", f"{kit}/toolchain", "-o", os.path.abspath(archive), folder=CRATE)
     print(said.rstrip().rpartition("\n")[2])
 
 
@@ -79,14 +88,23 @@ def libraries_of(crate):
     """Returns the libraries that crates.txt lists for a crate."""
     with open(gate.ROOT + "/crates.txt", encoding="utf-8") as file:
         lines = [line.partition(":") for line in file if line.split(":")[0].split()[:1] == [crate]]
-    return lines[0][2].split()
+    return lines[0][2].split() if lines else []
+
+
+def below(crate):
+    """Yields the libraries of the repository below a crate."""
+    for name in libraries_of(crate):
+        if os.path.isdir(f"{gate.ROOT}/crates/{name}"):
+            yield name
+            yield from below(name)
 
 
 def main(words):
-    if words == ["prove"]:
-        prove()
-    elif words[:1] == ["link"] and len(words) == 3:
-        link(words[1], words[2])
+    if words[:1] == ["prove"] and len(words) == 3:
+        wait(pathlib.Path(words[2]))
+        prove(words[1])
+    elif words[:1] == ["link"] and len(words) in (2, 3):
+        link(words[1], words[2] if len(words) == 3 else gate.PROVED_LIBRARY)
     else:
         sys.exit(__doc__)
 

@@ -96,10 +96,11 @@ Function = collections.namedtuple("Function", "name file first opens last clause
 Goal = collections.namedtuple("Goal", "name kind")
 
 
-def toolchain(jobs):
-    """Returns the crates, lowest first, each with the parts of its folder that a check reads, the libraries below it,
-    the command that checks it, and how to build those libraries with so many jobs. All that the script takes from inside
-    the toolchain's command `rt` is here."""
+def toolchain(jobs, top=ROOT, as_source=False):
+    """Returns the crates of a repository, lowest first, each with the parts of its folder that a check reads, the
+    libraries below it, the command that checks it, and how to build those libraries with so many jobs. With `as_source`
+    the command reads these libraries from their sources. All that the scripts take from inside the toolchain's command
+    `rt` is here."""
     path = os.path.realpath(shutil.which("rt") or sys.exit("rt is not on the path"))
     sys.path.insert(0, os.path.dirname(path))
     loader = importlib.machinery.SourceFileLoader("toolchain_rt", path)
@@ -115,11 +116,12 @@ def toolchain(jobs):
                 sys.exit(f"{below.name} is not proved")
 
     def read(crate):
-        check = [*guarded, rtlib.RATTLE, "check", *crate.words(["--jobs", "1"], keeps=False)]
+        more = {"as_source": True} if as_source else {}
+        check = [*guarded, rtlib.RATTLE, "check", *crate.words(["--jobs", "1"], keeps=False, **more)]
         below = {it.name: pathlib.Path(it.rlib) for it in crate.below()}
         return Crate(crate.name, pathlib.Path(crate.folder), rtlib.PARTS, {*below}, below, check, lambda: build(crate))
 
-    return [read(it) for it in rtlib.crates_below(str(ROOT))]
+    return [read(it) for it in rtlib.crates_below(str(top))]
 
 
 def camel(text):
@@ -511,17 +513,23 @@ def copies(crate):
             yield path.name
 
 
+def proved_in(proofs):
+    """Returns the libraries that an `rt ci` that runs has proved, or kept from an earlier run, by its output so far. It
+    ends the script where one is not proved, or nothing was printed for long."""
+    if time.time() - proofs.stat().st_mtime > SILENT_SECONDS:
+        sys.exit(f"the proofs printed nothing for {SILENT_SECONDS} seconds")
+    said = proofs.read_text()
+    if re.search(r"(?m)^rt: .* NOT PROVED$", said):
+        sys.exit("a library is not proved")
+    return set(re.findall(r"(?m)^rt: (\w+) (?:proved$|is kept: )", said))
+
+
 def in_turn(work, behind):
     """Yields the crates that can be checked, each with its planted bugs, the most bugs first: all, or those whose
-    libraries an `rt ci` that runs has proved, or kept from an earlier run, by its output so far."""
+    libraries an `rt ci` that runs has proved so far."""
     left = sorted(work, key=lambda it: -len(it[-1]))
     while left:
-        if behind and time.time() - behind.stat().st_mtime > SILENT_SECONDS:
-            sys.exit(f"the proofs printed nothing for {SILENT_SECONDS} seconds")
-        said = behind.read_text() if behind else ""
-        if re.search(r"(?m)^rt: .* NOT PROVED$", said):
-            sys.exit("a library is not proved")
-        proved = set(re.findall(r"(?m)^rt: (\w+) (?:proved$|is kept: )", said))
+        proved = proved_in(behind) if behind else set()
         ready = [it for it in left if not behind or proved >= it[0].below]
         yield from ready
         left = [it for it in left if it not in ready]

@@ -75,15 +75,9 @@ def main():
         copy(crates[name], folder, kept)
     words = [word for name in chosen.only for word in ("--only", f"{crate.name}::{name}")]
     os.chdir(room / "crates" / crate.name)
-    return subprocess.run([*as_source(room, crate.name), "--allow-holes", "--incremental", f"{room}/kept", *words],
+    copies = {it.name: it.check for it in toolchain(1, room, as_source=True)}
+    return subprocess.run([*copies[crate.name], "--allow-holes", "--incremental", f"{room}/kept", *words],
                           stdin=subprocess.DEVNULL, check=False).returncode
-
-
-def as_source(room, name):
-    """Returns the command that checks a crate of a copy, which reads the crates below as sources, and not as built."""
-    import rtlib  # of the toolchain: `toolchain` put its folder on the path
-    crate = {it.name: it for it in rtlib.crates_below(str(room))}[name]
-    return [*rtlib.guarded(), rtlib.RATTLE, "check", *crate.words(["--jobs", "1"], keeps=False, as_source=True)]
 
 
 if __name__ == "__main__":
