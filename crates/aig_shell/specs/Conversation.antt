@@ -65,7 +65,7 @@ pub record IsAt (c : Conversation) (s : SessionState) : Type 0 where
   pub state : IsIn c.session s
   pub warned : s.has_warned ≡ c.has_warned
 
--- the answer where memory is wanting
+-- the answer when memory runs out
 abbrev pub no_memory : List ℕ
 no_memory = codes "no: out of memory\n"
 
@@ -91,7 +91,7 @@ EndsQuit old warned (Ok next) new =
 EndsQuit old warned (Err _) new = (s : SessionState) → IsIn old.session s → IsAt new (calm s)
 
 -- What a request makes of a conversation that is calm, after a `quit` or not: it is answered; or it is refused, and
--- calm: then any refusal answers it, or memory is wanting.
+-- calm: then any refusal answers it, or memory ran out.
 abbrev pub EndsRequest : Conversation → Bool → Request → Result Next Refusal → Option (List Call) → Option (List Call)
     → Conversation → Type 0
 EndsRequest old warned r (Ok next) old_calls new_calls new =
@@ -105,7 +105,7 @@ EndsRequest old warned r (Err refusal) old_calls new_calls new =
     → AnswersRequest s r text calls false (calm s))
 
 -- What the words of a line make of a conversation: they are answered; or they are refused: then any refusal answers
--- them, or memory is wanting, and nothing is done.
+-- them, or memory ran out, and nothing is done.
 abbrev pub EndsWords : Conversation → List (List ℕ) → Result Next Refusal → Option (List Call) → Option (List Call)
     → Conversation → Type 0
 EndsWords old ws (Ok next) old_calls new_calls new =
@@ -183,7 +183,7 @@ pub record BreaksDown {Y X Z : Type 0} (passes : Passes Y X Z) (person : Bool) (
 abbrev pub NothingPasses : {Y X Z : Type 0} → Passes Y X Z → Type 0
 NothingPasses passes = (passes.reader.new ≡ passes.reader.old) × Got passes.out [] × (passes.files_after ≡ passes.files)
 
--- the rows are too many for the circuit, or memory is wanting
+-- the rows are too many for the circuit, or memory ran out
 abbrev pub RefusesRows : Raw → List (List Tern) → RunFault → Type 0
 RefusesRows raw rows (run_faults.Bench benches.Limit) = cell_limit < (raw.max_var + 1) * length rows
 RefusesRows raw rows (run_faults.Bench benches.Memory) = Unit {0}
