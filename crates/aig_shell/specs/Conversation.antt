@@ -33,7 +33,7 @@ use Rattle.aig_shell.specs.State.{SessionState}
 abbrev pub IsPiece : List ℕ → Type 0
 IsPiece bytes = All (λ b. b ≢ 10) bytes
 
--- what a person sees before a line, and what stands before the first prompt
+-- what a person sees before a line, and what comes before the first prompt
 abbrev pub prompt : Bool → List ℕ
 prompt true = codes "aig> "
 prompt false = []
@@ -228,7 +228,7 @@ HoldsSession passes person raw given Ends =
     × Ends passes person (first_state raw pair)
 
 -- How `shell` ends: all that is read is answered; or the circuit or its run is refused, and nothing passes; or a read
--- or a write fails, be it a flush after a refusal.
+-- or a write fails, also a flush after a refusal.
 abbrev pub EndsShell : {Y X Z : Type 0} → Passes Y X Z → Bool → List ℕ → Given (List ℕ) → Result (Unit {0}) RunFault
     → Type 0
 EndsShell passes person file given (Ok done) =
