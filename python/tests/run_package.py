@@ -5,12 +5,13 @@ The parts: the session of python/README.md line by line (`readme`, with cadical)
 that are odd or ambiguous, each kind of row, gates after all sections, models as each solver gives them, right and wrong
 proofs and certificates, edits and replies of a bench, 50,000 lines at once and a row that is longer than a pipe
 (`names`, `rows`, `arrays` with numpy, `files`, `verdicts`, `certificates`, `bench`); a circuit with 13 properties, of
-which each answer is about the one that was asked for (`many`, `models`); a program that is killed after it printed a
-verdict (`killed`); `aig.prove` and `aig.certify` with cadical: a bug, a bound, an induction, a right and a wrong
-certificate, and solvers that fail (`solvers`); searches that a bound or another thread ends (`bounds`); verdicts beside
-the texts that they were (`texts`); two circuits side by side (`miters`); what notebooks show (`notebooks`); a bench
-whose program is killed, no program, no memory, four threads, and a system without memory files (`failures`, `threads`,
-`folders`); and, where it is asked for, what mypy says of the package (`types`)."""
+which each answer is about the one that was asked for (`many`, `asked`, `models`); a program that is killed after it
+printed a verdict (`killed`); `aig.prove` and `aig.certify` with cadical: a bug, a bound, an induction, a right and a
+wrong certificate, and solvers that fail (`solvers`); the same without cadical (`small`); searches that a bound or
+another thread ends (`bounds`); verdicts beside the texts that they were (`texts`); two circuits side by side
+(`miters`); what notebooks show (`notebooks`); a bench whose program is killed, no program, no memory, four threads, and
+a system without memory files (`failures`, `threads`, `folders`); and, where it is asked for, what mypy says of the
+package (`types`)."""
 
 import contextlib
 import doctest
@@ -62,6 +63,8 @@ def names(_, tally, __):
     odd = aig.Circuit("aag 2 2 0 1 0\n2\n4\n2\ni0 !a b\ni1 i0\no0 twice\n")
     tally.compare("odd names", [odd.literal(name) for name in ("!a b", "!!a b", "i0", "!i0", "twice")], [2, 3, 4, 5, 2])
     tally.compare("no names", aig.Circuit("aag 2 2 0 0 0\n2\n4\n").literal("i1"), 4)
+    negated = aig.Circuit("aag 1 1 0 1 0\n2\n3\n")
+    tally.compare("a negated output", [negated.literal(name) for name in ("o0", "!o0")], [3, 2])
     both = aig.Circuit("aag 2 2 0 0 0\n2\n4\ni0 a\ni1 a\n")
     tally.compare("one name of two literals", str(raised(both.literal, "a")),
                   '"\'a\' names i0 and i1: use one of these"')
@@ -118,6 +121,7 @@ def arrays(_, tally, __):
     tally.compare("states", trace.array("states")[:, 0].tolist(), [0, 1, 0])
     tally.compare("x is -1", counter.simulate(["xx"] * 2).array("states")[1, 0], -1)
     given = numpy.array([[1, -1], [0, 1]])
+    tally.compare("inputs", counter.simulate(given).array("inputs").tolist(), given.tolist())
     tally.compare("rows", counter.rows(given), b"1x\n01\n")
     tally.compare("rows of truth values", counter.rows(given == 1), b"10\n01\n")
     tally.check("a value that is none", isinstance(raised(counter.rows, numpy.array([[2, 0]])), ValueError))
@@ -198,11 +202,10 @@ def types(_, tally, __):
 
 PARTS = {
     "readme": readme, "names": names, "rows": rows, "arrays": arrays, "files": files, "verdicts": verdicts,
-    "certificates": certificates, "many": answers.many, "models": answers.models, "killed": answers.killed,
-    "solvers": searches.solvers, "bounds": searches.bounds, "texts": searches.texts, "miters": miters.miters,
-    "notebooks": notebooks.notebooks,
-    "bench": bench.bench, "failures": failures.failures, "threads": failures.threads, "folders": failures.folders,
-    "types": types,
+    "certificates": certificates, "many": answers.many, "asked": answers.asked, "models": answers.models,
+    "killed": answers.killed, "solvers": searches.solvers, "small": searches.small, "bounds": searches.bounds,
+    "texts": searches.texts, "miters": miters.miters, "notebooks": notebooks.notebooks, "bench": bench.bench,
+    "failures": failures.failures, "threads": failures.threads, "folders": failures.folders, "types": types,
 }
 
 

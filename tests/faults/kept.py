@@ -2,7 +2,7 @@
 in turn: they are as they were and the new ones are gone, except that the circuit's has its name where the second file
 does not get its own. Runs are killed before each of their calls: each file has its old text or the whole new one, and a
 new one that is left makes the next run fail. A run that is killed while it waits for its script leaves none. Runs are
-stopped before each of their calls: whoever may open a new file there never sees a text that others may not read."""
+stopped before each of their calls: a program that opens a new file there never sees a text that others may not read."""
 
 import contextlib
 import os

@@ -376,8 +376,8 @@ def owner(program, tally, bench):
 
 
 def allocations(tally, refusing):
-    """Each allocation of a run is refused in turn: the message is that of the run or that memory is wanting, and what
-    follows it are lines of an explanation."""
+    """Each allocation of a run is refused in turn: the message is that of the run or says `memory`, and what follows
+    it are lines of an explanation."""
     write("witness", "1\nb0\n\n0\n")
     write("\x1bname", "aag 0")
     said = re.compile(rb"(aig: .*\n)(?:  [ -~]+\n)*")

@@ -89,6 +89,14 @@ def reaches():
         yield f"set {place % FRAMES} {words_of('i', place + 1)[place % 3]} 1"
 
 
+def later():
+    """Lines after which the constraint is broken at a frame with two digits, or a property is reached at one."""
+    yield "add 12"
+    yield f"set {FRAMES}-14 {words_of('i', 0)[1]} 1"
+    for line in ("set 12 i0 0", "set 12 i0 x", "set 11 i12 1", "set 13 i12 1", "set 12 i0 1", "set 11 i12 0"):
+        yield from (line, "check")
+
+
 class Talks:
     """Sessions about the design, each beside a plain one."""
 
@@ -131,6 +139,7 @@ def large_session(program, tally, _):
     session = talks.answers("edits", [*edits(rng)])
     tally.compare("large_session: a trace of what was saved", program.run("sim", "saved", "saved_rows"),
                   Ended(0, trace(session.parts, session.bench.rows).encode(), b""))
+    talks.answers("later frames", [*later()])
     lines = [*reaches()]
     talks.answers("properties", [each for line in lines for each in (line, "check")])
     talks.witnesses(lines[:1], [None, "b12"])

@@ -131,6 +131,9 @@ class Sessions:
         write("nothing.aag", "aag 0 0 0 0 0\n")
         self.tally.compare("shell: names of no entries", self.run("names\nnames x\n", "nothing.aag"), Ended(
             0, b"the circuit has no names\nno: no name contains x\n", b""))
+        write("twins.aag", "aag 2 2 0 1 0\n2\n4\n2\ni0 a both\ni1 b both\no0 a more\n")
+        self.tally.compare("shell: names that come twice", self.run("names\n", "twins.aag"), Ended(
+            0, b"a both b more\n", b""))
         for words, wanted in (
                 (("nix.aig",), input_or_output("circuit")), (("queue.aig", "queue.wit"), refused("stimulus: length of line 1")),
                 (("--witness", "queue.aig", "cache.wit"), refused("witness: text"))):

@@ -211,8 +211,8 @@ fn without_group(mode: u32) -> u32 {
 }
 
 /// Returns the permissions that a new file of this name usually gets, by the umask or by a rule of its folder. An empty
-/// file shows them. It is removed, and the text goes to another file: whoever opens the empty one meanwhile can read on
-/// there, and never sees the text.
+/// file shows them. It is removed, and the text goes to another file. A program that opened the empty one meanwhile
+/// never sees the text.
 fn usual_mode<R: Files>(rt: &R, name: &str) -> Result<u32, Unwritten> {
     let file = create_new(rt, name, USUAL)?;
     let metadata = file.metadata();

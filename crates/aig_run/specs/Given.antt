@@ -43,7 +43,7 @@ IsGiven raw (given.Witness text) run =
     (w : Witness) × SpellsWitness raw text w × IsAdmitted raw w
     × (run ≡ record { property = Some w.property; start = w.start; rows = w.rows })
 
--- Why none is read: the text is refused; or memory is wanting, where a run is given.
+-- Why none is read: the text is refused; or a run is given, and there is no memory for it.
 abbrev pub RefusesGiven : Raw → Given (List ℕ) → RunFault → Type 0
 RefusesGiven raw (given.Stimulus text) (run_faults.Stimulus fault) = RefusesStimulus (length raw.inputs) text fault
 RefusesGiven raw (given.Witness text) (run_faults.Witness fault) = HasWitnessFault raw text fault

@@ -18,7 +18,7 @@ pub data Command : Type 0 where
 abbrev pub number_field : ℕ → List ℕ → List ℕ
 number_field n rest = decimal n ++ 32 ∷ rest
 
--- ---- what stands after a command's letter
+-- ---- what follows a command's letter
 
 -- gate and right sides
 abbrev pub rewire_fields : ℕ → ℕ → ℕ → List ℕ

@@ -13,7 +13,7 @@ abbrev pub lines_from : List ℕ → List ℕ → List (List ℕ)
 lines_from line [] = []
 lines_from line (b ∷ bytes) = if b == 10 then line ∷ lines_from [] bytes else lines_from (line ++ b ∷ []) bytes
 
--- what stands after the last LF
+-- what follows the last LF
 abbrev pub rest_from : List ℕ → List ℕ → List ℕ
 rest_from line [] = line
 rest_from line (b ∷ bytes) = if b == 10 then rest_from [] bytes else rest_from (line ++ b ∷ []) bytes
@@ -43,7 +43,7 @@ ended lines = flat_map with_end lines
 abbrev pub IsPiece : List ℕ → Type 0
 IsPiece bytes = All (λ b. b ≢ 10) bytes
 
--- the script is these pieces, each with the LF that ends it, and what stands after the last LF
+-- the script is these pieces, each with the LF that ends it, and what follows the last LF
 pub record IsSplit (script : List ℕ) (lines : List (List ℕ)) (rest : List ℕ) : Type 0 where
   pub lines_are : All IsPiece lines
   pub rest_is : IsPiece rest

@@ -3,7 +3,7 @@
 use Rattle.std.specs.Prelude.{◌≡◌, ℕ, Bool, true, false, List, ◌∷◌, take}
 use Rattle.aig_sim.specs.RowParser.{RowParser, KeepsLine}
 
--- the first bytes, whether the line begins as one that appends a frame, and then what stands after that
+-- the first bytes, whether the line begins as one that appends a frame, and then what follows that
 pub record ScriptLine : Type 0 where
   pub bytes : List ℕ
   pub is_row : Bool

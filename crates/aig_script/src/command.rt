@@ -107,7 +107,7 @@ fn parse_number(bytes: &[u8]) -> Option<u32>
     if rest.is_empty() { Some(number) } else { None }
 }
 
-/// The number in front, and what stands after the space that ends it.
+/// The number in front, and what follows the space that ends it.
 fn parse_field(bytes: &[u8]) -> Option<(u32, &[u8])>
     ensures some { IfSome result (λ parts. bytes.now ≡ number_field parts.0 parts.1.now) }
     ensures only { IfSome result (λ parts. (n : ℕ) (rest : List ℕ) → IsNumber n → bytes.now ≡ number_field n rest →
@@ -136,7 +136,7 @@ fn parse_value(bytes: &[u8]) -> Option<Tern>
     }
 }
 
-/// What stands after `w `.
+/// What follows `w `.
 fn parse_rewire(fields: &[u8]) -> Option<Command>
     ensures some { IfSome result (λ c. IsCommand (meaning c) × (codes "w " ++ fields.now ≡ command_text (meaning c))) }
     ensures none { IfNone result ((g a b : ℕ) → IsNumber g → IsNumber a → IsNumber b →
@@ -151,7 +151,7 @@ fn parse_rewire(fields: &[u8]) -> Option<Command>
     })
 }
 
-/// What stands after `r `.
+/// What follows `r `.
 fn parse_reset(fields: &[u8]) -> Option<Command>
     ensures some { IfSome result (λ c. IsCommand (meaning c) × (codes "r " ++ fields.now ≡ command_text (meaning c))) }
     ensures none { IfNone result ((l : ℕ) (w : Tern) → IsNumber l → fields.now ≢ reset_fields l w) }
@@ -163,7 +163,7 @@ fn parse_reset(fields: &[u8]) -> Option<Command>
     })
 }
 
-/// What stands after `s `.
+/// What follows `s `.
 fn parse_bit(fields: &[u8]) -> Option<Command>
     ensures some { IfSome result (λ c. IsCommand (meaning c) × (codes "s " ++ fields.now ≡ command_text (meaning c))) }
     ensures none { IfNone result ((t p : ℕ) (w : Tern) → IsNumber t → IsNumber p → fields.now ≢ bit_fields t p w) }
@@ -177,7 +177,7 @@ fn parse_bit(fields: &[u8]) -> Option<Command>
     })
 }
 
-/// What stands after `g `.
+/// What follows `g `.
 fn parse_append(fields: &[u8]) -> Option<Command>
     ensures some { IfSome result (λ c. IsCommand (meaning c) × (codes "g " ++ fields.now ≡ command_text (meaning c))) }
     ensures none { IfNone result ((a b : ℕ) → IsNumber a → IsNumber b → fields.now ≢ append_fields a b) }
@@ -189,7 +189,7 @@ fn parse_append(fields: &[u8]) -> Option<Command>
     })
 }
 
-/// What stands after `o `.
+/// What follows `o `.
 fn parse_output(fields: &[u8]) -> Option<Command>
     ensures some { IfSome result (λ c. IsCommand (meaning c) × (codes "o " ++ fields.now ≡ command_text (meaning c))) }
     ensures none { IfNone result ((p l : ℕ) → IsNumber p → IsNumber l → fields.now ≢ output_fields p l) }
@@ -201,7 +201,7 @@ fn parse_output(fields: &[u8]) -> Option<Command>
     })
 }
 
-/// What stands after `v `.
+/// What follows `v `.
 fn parse_question(fields: &[u8]) -> Option<Command>
     ensures some { IfSome result (λ c. IsCommand (meaning c) × (codes "v " ++ fields.now ≡ command_text (meaning c))) }
     ensures none { IfNone result ((t l : ℕ) → IsNumber t → IsNumber l → fields.now ≢ value_fields t l) }

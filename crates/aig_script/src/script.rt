@@ -160,10 +160,10 @@ fn answer_all<G: Grid, R: Read, W: Write>(
     Ok(out.flush()?)
 }
 
-/// Reads a script to its end and answers its lines one by one, each before it reads on. It flushes before each read, so
-/// that whoever waits for the replies to what was read has them, and after the last reply. A line of any length is
-/// handled without keeping it; a last piece with bytes and no LF is bad. It takes memory for a row before the first
-/// read, and after that none but what `w`, `+`, `g` and `u` take for the bench.
+/// Reads a script to its end and answers its lines one by one, each before it reads on. It flushes before each read and
+/// after the last reply: a program that waits for the replies to its lines has them. A line of any length is handled
+/// without keeping it; a last piece with bytes and no LF is bad. It takes memory for a row before the first read, and
+/// after that none but what `w`, `+`, `g` and `u` take for the bench.
 pub fn run_script<G: Grid, R: Read, W: Write>(
     alloc: Global,
     bench: &mut Bench<G>,

@@ -6,7 +6,7 @@ ghost use Rattle.aig_script.specs.Lines.{Line, lines_from, rest_from, lines_of, 
 ghost use Rattle.aig_script.specs.Meaning.{HasOneMeaning, RepliesInTurn};
 ghost use Rattle.aig_script.specs.Replies.{Replies};
 
-/// The lines of a script are the pieces that LF ends, and what stands after the last LF; no script can be split so in
+/// The lines of a script are the pieces that LF ends, and what follows the last LF; no script can be split so in
 /// two ways (our own choice).
 pub fn law_of_lines()
     ensures split { (script : List ℕ) → IsSplit script (lines_from [] script) (rest_from [] script) }

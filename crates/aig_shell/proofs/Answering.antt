@@ -164,7 +164,7 @@ pub help_answered : (session : Session) (word : Option (List ℕ)) (result : Res
 help_answered session word (Ok x) text = λ s h. (refl, refl)
 help_answered session word (Err refusal) text = λ other s h. tt
 
--- memory is wanting
+-- memory ran out
 pub query_lacking : {A : Type 0} (session : Session) (r : Request) (result : Result A Refusal) (text : List ℕ)
     → IsErrAnd result (λ e. e ≡ refusals.Memory) → EndsQuery session r result text
 query_lacking session r (Ok x) text err = absurd err

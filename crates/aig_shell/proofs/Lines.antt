@@ -151,7 +151,7 @@ export_calms (exports.Wave file) s text texts after h = ap (λ (t : SessionState
 abbrev pub Calls : Type 0
 Calls = Option (List Call)
 
--- a refusal answers a request, where memory is not wanting
+-- a refusal answers a request, unless memory ran out
 refusal_answers : (session : Session) (r : Request) (refusal : Refusal) (calls : List Call) → r ≢ quit
     → (refusal ≢ refusals.Memory → (s : SessionState) → IsIn session s → IsRefused s r calls)
     → refusal ≢ refusals.Memory → (s : SessionState) → IsIn session s → (text : List ℕ) → IsRefusal text
@@ -378,7 +378,7 @@ line_answered old mid new line spaced next old_calls new_calls same warned e h s
       got,
     )
 
--- memory is wanting: the state is the one before, or calm
+-- memory ran out: the state is the one before, or calm
 lacks : (s : SessionState) (new : Conversation) (line : List ℕ) (old_calls new_calls : Calls) (called : List Call)
     → new_calls ≡ with_calls old_calls called → WritesNone called → IsAt new s ⊎ IsAt new (calm s)
     → (calls : List Call) × (after : SessionState) × LineAnswer s line no_memory calls false after × IsAt new after

@@ -94,7 +94,7 @@ pub no_row : (p : CircuitAndRows) (first count : ℕ) (name : List ℕ) → IsCi
 no_row p first count name circuit unknown row (literals, means, is, cells) =
     means_none p.circuit (small_variables p.circuit circuit) name literals unknown means
 
--- a refusal that is handed on
+-- a refusal that is returned as it came
 pub handed_on : {A P : Type 0} (result : Result A Refusal) (refusal : Refusal) → IsErrAnd result (λ e. e ≡ refusal)
     → (refusal ≢ refusals.Memory → P) → IfErr result (λ e. e ≢ refusals.Memory → P)
 handed_on (Ok x) refusal is none = absurd is

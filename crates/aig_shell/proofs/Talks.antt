@@ -104,7 +104,7 @@ pub replies_same : {E : Type 0} {result : Result Next E} {old new : Conversation
 replies_same {E} {result} {old} {new} {before} {now} held piece nothing r =
     subst (λ (t : List ℕ). Replies old (t ++ piece) before now result new) (sym nothing) r
 
--- memory is wanting for the line
+-- there is no memory for the line
 pub lacks_memory : (c : Conversation) (line : List ℕ) (calls : Option (List Call))
     → AnswersLine c line no_memory calls calls false c
 lacks_memory c line calls s at = ([], s, inr (inr (inr (refl, inl refl, refl, inl refl))), at, with_none calls)
@@ -542,7 +542,7 @@ part_finished {start} {old} {now} {person} {input} what done more f says begins 
 
 -- ---- what a call answers
 
--- the last line, be there one
+-- the last line, if there is one
 pub finishes : {E : Type 0} {start old now : Moment} {person : Bool} {s : SessionState} {input : List ℕ} {t : Talker} (u : Talker) (result : Result Next E)
     → Stands start old person s input t → ((text : List ℕ) → HoldsLine text t.line → text ≢ [])
     → ((held : List ℕ) → HoldsLine held t.line → Replies t.conversation (held ++ []) old now result u.conversation)

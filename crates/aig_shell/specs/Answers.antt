@@ -186,7 +186,7 @@ IsSilent ws = (ws ≡ []) ⊎ ((rest : List ℕ) × (more : List (List ℕ)) × 
 abbrev pub WritesNone : List Call → Type 0
 WritesNone calls = (calls ≡ []) ⊎ ((texts : List KeptText) × (calls ≡ refused texts ∷ []))
 
--- memory was wanting: the line did nothing; or files were refused, and there was no memory to say so
+-- memory ran out: the line did nothing; or files were refused, and there was no memory to say so
 abbrev pub LacksMemory : SessionState → List ℕ → List Call → Bool → SessionState → Type 0
 LacksMemory s text calls ends after =
     (text ≡ codes "no: out of memory\n") × WritesNone calls × (ends ≡ false) × ((after ≡ s) ⊎ (after ≡ calm s))

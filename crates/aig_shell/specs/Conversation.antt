@@ -33,7 +33,7 @@ use Rattle.aig_shell.specs.State.{SessionState}
 abbrev pub IsPiece : List ℕ → Type 0
 IsPiece bytes = All (λ b. b ≢ 10) bytes
 
--- what a person sees before a line, and what stands before the first prompt
+-- what a person sees before a line, and what comes before the first prompt
 abbrev pub prompt : Bool → List ℕ
 prompt true = codes "aig> "
 prompt false = []
@@ -65,7 +65,7 @@ pub record IsAt (c : Conversation) (s : SessionState) : Type 0 where
   pub state : IsIn c.session s
   pub warned : s.has_warned ≡ c.has_warned
 
--- the answer where memory is wanting
+-- the answer when memory runs out
 abbrev pub no_memory : List ℕ
 no_memory = codes "no: out of memory\n"
 
@@ -91,7 +91,7 @@ EndsQuit old warned (Ok next) new =
 EndsQuit old warned (Err _) new = (s : SessionState) → IsIn old.session s → IsAt new (calm s)
 
 -- What a request makes of a conversation that is calm, after a `quit` or not: it is answered; or it is refused, and
--- calm: then any refusal answers it, or memory is wanting.
+-- calm: then any refusal answers it, or memory ran out.
 abbrev pub EndsRequest : Conversation → Bool → Request → Result Next Refusal → Option (List Call) → Option (List Call)
     → Conversation → Type 0
 EndsRequest old warned r (Ok next) old_calls new_calls new =
@@ -105,7 +105,7 @@ EndsRequest old warned r (Err refusal) old_calls new_calls new =
     → AnswersRequest s r text calls false (calm s))
 
 -- What the words of a line make of a conversation: they are answered; or they are refused: then any refusal answers
--- them, or memory is wanting, and nothing is done.
+-- them, or memory ran out, and nothing is done.
 abbrev pub EndsWords : Conversation → List (List ℕ) → Result Next Refusal → Option (List Call) → Option (List Call)
     → Conversation → Type 0
 EndsWords old ws (Ok next) old_calls new_calls new =
@@ -183,7 +183,7 @@ pub record BreaksDown {Y X Z : Type 0} (passes : Passes Y X Z) (person : Bool) (
 abbrev pub NothingPasses : {Y X Z : Type 0} → Passes Y X Z → Type 0
 NothingPasses passes = (passes.reader.new ≡ passes.reader.old) × Got passes.out [] × (passes.files_after ≡ passes.files)
 
--- the rows are too many for the circuit, or memory is wanting
+-- the rows are too many for the circuit, or memory ran out
 abbrev pub RefusesRows : Raw → List (List Tern) → RunFault → Type 0
 RefusesRows raw rows (run_faults.Bench benches.Limit) = cell_limit < (raw.max_var + 1) * length rows
 RefusesRows raw rows (run_faults.Bench benches.Memory) = Unit {0}
@@ -228,7 +228,7 @@ HoldsSession passes person raw given Ends =
     × Ends passes person (first_state raw pair)
 
 -- How `shell` ends: all that is read is answered; or the circuit or its run is refused, and nothing passes; or a read
--- or a write fails, be it a flush after a refusal.
+-- or a write fails, also a flush after a refusal.
 abbrev pub EndsShell : {Y X Z : Type 0} → Passes Y X Z → Bool → List ℕ → Given (List ℕ) → Result (Unit {0}) RunFault
     → Type 0
 EndsShell passes person file given (Ok done) =

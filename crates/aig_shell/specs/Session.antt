@@ -59,7 +59,7 @@ pub record KeepsRun (kept : KeptRun) (p : CircuitAndRows) : Type 0 where
 abbrev pub own_circuit : Session → Raw
 own_circuit s = record s.run.bench.pair.circuit { latches = s.run.latches.items }
 
--- each section has the same entries, but for which literals the outputs have
+-- each section has the same entries, except which literals the outputs have
 pub record HasSameEntries (old new : Raw) : Type 0 where
   pub outputs : length old.outputs ≡ length new.outputs
   pub others : (kind : Kind) → kind ≢ Output → literals_of old kind ≡ literals_of new kind

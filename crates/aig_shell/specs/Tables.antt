@@ -41,7 +41,7 @@ IsCellOrDot p literals t cell =
 abbrev pub IsSignalCell : CircuitAndRows → Signal → ℕ → List ℕ → Type 0
 IsSignalCell p signal t cell = IsCellOrDot p (signal_literals p.circuit signal) t cell
 
--- what stands below a text: `=` for the same, else the old one
+-- what is below a text: `=` for the same, else the old one
 abbrev pub IsBelow : List ℕ → List ℕ → List ℕ → Type 0
 IsBelow cell old below = ((old ≡ cell) × (below ≡ 61 ∷ [])) ⊎ ((old ≢ cell) × (below ≡ old))
 

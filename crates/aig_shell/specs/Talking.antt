@@ -96,7 +96,7 @@ pub record Finished (start now : Moment) (person : Bool) (s : SessionState) (inp
   pub count : now.failures ≡ start.failures
   pub called : now.calls ≡ with_calls start.calls calls
 
--- the last line is answered, be there one: the input is finished, or ends the session, or a write fails
+-- the last line is answered, if there is one: the input is finished, or ends the session, or a write fails
 abbrev pub Finishes : {E : Type 0} → Moment → Moment → Bool → SessionState → List ℕ → Result Next E → Talker → Type 0
 Finishes start now person s input (Ok next.GoesOn) t = Finished start now person s input t
 Finishes start now person s input (Ok next.Ends) t = Done start now person s input true

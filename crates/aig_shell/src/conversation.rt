@@ -28,7 +28,7 @@ pub(crate) enum Next {
 #[derive(Drop)]
 pub(crate) struct Conversation {
     pub(crate) session: Session,
-    /// Whether the last command was a `quit` that told what is unsaved.
+    /// Whether the last command was a `quit` that said what is unsaved.
     pub(crate) has_warned: bool,
     /// The answer to a line.
     pub(crate) text: Vec<u8>,

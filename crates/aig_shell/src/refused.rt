@@ -217,7 +217,7 @@ fn push_reason(
     Ok(())
 }
 
-/// Adds `no: `, and why a line does nothing. Where memory is wanting, nothing is added.
+/// Adds `no: `, and why a line does nothing. If memory runs out, it adds nothing.
 pub(crate) fn push_refusal(
     alloc: Global,
     text: &mut Vec<u8>,

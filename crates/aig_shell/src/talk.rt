@@ -239,7 +239,7 @@ impl Talker {
         Ok(())
     }
 
-    /// Answers a last line without an LF, be there one.
+    /// Answers a last line without an LF, if there is one.
     fn end_last_line<K: Keep, W: Write>(
         &mut self,
         alloc: Global,

@@ -1,4 +1,4 @@
-"""Folders and bundles that somebody made to harm whoever reads them: links, pipes, sizes, letters, races."""
+"""Folders and bundles that somebody made to harm their reader: links, pipes, sizes, letters, races."""
 
 from __future__ import annotations
 

@@ -5,14 +5,20 @@ import os
 
 import aig
 from library import runs
+from library.dump_reader import Dump
 from package.common import CHAIN, CLAIMS_0, CONFIRMED, NO_CLAIM, STAYS, example, raised, running
+
+# Rows of which the one at frame 0 has d[1], the one at frame 1 d[2], and so on, and the last has none.
+ROWS = ["0" * (frame + 1) + "1" + "0" * (11 - frame) for frame in range(12)] + ["0" * 13]
+# The latches a and b take the inputs, and the bad state is (a | b) & (a | !b) & (!a | b) & (!a | !b). Propagation shows
+# that the resets are not bad. For the step it needs the clause of the first input at frame 0.
+NEVER = "aag 11 2 2 0 7 1\n2\n4\n6 2\n8 4\n22\n10 9 7\n12 8 7\n14 9 6\n16 8 6\n18 13 11\n20 17 15\n22 20 18\n"
 
 
 def many(program, tally, _):
     """A circuit with 13 properties, of which the property P is first reached at frame P, but for the first: each answer
     is about the property and the number of frames that were asked for."""
-    chain = aig.Circuit(CHAIN)
-    rows = ["0" * (frame + 1) + "1" + "0" * (11 - frame) for frame in range(12)] + ["0" * 13]
+    chain, rows = aig.Circuit(CHAIN), ROWS
     trace = chain.simulate(rows)
     tally.compare("a vector of 13 bits", trace.vector("d"), [2 << frame for frame in range(12)] + [0])
     tally.compare("a vector of 12 bits", trace.vector("q"), [0] + [1 << frame for frame in range(12)])
@@ -58,6 +64,35 @@ def many(program, tally, _):
     tally.compare("the claims", chain.certified(NO_CLAIM, "p12").strengthened().simulate(rows)["o0"], trace["o12"])
 
 
+def asked(_, tally, __):
+    """Each option, each row and each name of a call reaches the program."""
+    chain, wraps, never = aig.Circuit(CHAIN), example("wraps.aag"), aig.Circuit(NEVER)
+    formula = chain.certified(NO_CLAIM, 12).cnf()
+    tally.compare("the formula of a certificate", formula.text.split(b"\n")[0],
+                  b"c aig cnf --certificate --property 12 p12")
+    tally.compare("the frames of a step", max(frame for _, frame in never.cnf(4, step=True).inputs), 4)
+    tally.compare("of constraints", max(frame for _, frame in chain.cnf_alive(3).inputs), 2)
+    tally.compare("an induction whose step needs a proof", never.refute(1, b"", step=b"2 0\n"), "unreachable")
+    tally.compare("its proofs, changed over", raised(never.refute, 1, b"2 0\n", step=b"").part, "step proof")
+    tally.compare("property 0", raised(chain.witness, ROWS, 0).reason, "no run")
+    tally.check("an output is no property", isinstance(raised(chain.cnf, 1, "o12"), KeyError))
+    needed = [row.replace("0", "x") for row in ROWS]
+    needed = [row[:-1] + "0" if row[-1] == "x" else row[:-2] + "01" for row in needed]
+    tally.compare("reduced: the last 0 keeps the constraint", chain.witness(ROWS, 12).reduced().rows, needed)
+    tally.compare("why, to a depth", wraps.witness(["1"] * 4).why("count", depth=0),
+                  ["at 3, not explained: count=2'h3"])
+    for name, wave in (("rows", chain.wave(ROWS)), ("a witness", chain.witness(ROWS, 12).wave())):
+        tally.compare(f"the dump of {name}", Dump(wave).of("inputs"), ROWS)
+    tally.compare("unrolled for 12 frames", chain.unroll(12).info()["inputs"], 156)
+    odd = aig.Circuit("aag 5 5 0 0 0\n2\n4\n6\n8\n10\ni0 a.b[0]\ni1 axb[0]\ni2 axb[1]\ni3 c[1]\ni4 c[2]\n")
+    trace = odd.simulate(["01111", "10011"])
+    tally.compare("vectors whose names are alike", (trace.vector("a.b"), trace.vector("axb")), ([0, 1], [3, 0]))
+    tally.compare("entries by position", [chain.find(12 - at, letter).place for at, letter in enumerate("iobl")],
+                  ["i12", "o11", "b10", "l9"])
+    tally.compare("a row by names", chain.rows([{"d[10]": 1, "i2": 0}]), b"xx0xxxxxxx1xx\n")
+    tally.compare("no bit 0", raised(trace.vector, "c").args, ("there is no vector 'c'",))
+
+
 def models(_, tally, __):
     """Formulas as lists, and models of runs with zeros and ones: as text, as numbers and as truth values."""
     chain = aig.Circuit(CHAIN)
@@ -66,7 +101,9 @@ def models(_, tally, __):
     tally.compare("the clauses", formula.clauses, [[int(word) for word in words[:-1]] for words in lines])
     tally.compare("clause by clause", list(formula), formula.clauses)
     tally.compare("how many", len(lines), formula.size)
-    rows = ["0" * (frame + 1) + "1" + "0" * (11 - frame) for frame in range(5)]
+    large = chain.cnf(12, 12)
+    tally.check("over 1,000", len(large.clauses) == large.size > 1000, (len(large.clauses), large.size))
+    rows = ROWS[:5]
     values = {variable: rows[frame][at] == "1" for (at, frame), variable in formula.inputs.items()}
     numbers = [variable if value else -variable for variable, value in sorted(values.items())]
     truths = [values.get(variable) for variable in range(formula.variables + 1)]
@@ -85,7 +122,8 @@ def proof_of(formula):
 def killed(program, tally, _):
     """A program that is killed, or ends with another status, gives no answer, whatever it printed before."""
     wraps, certified = example("wraps.aag"), aig.Circuit(STAYS).certified(CLAIMS_0)
-    ends = {"killed": "kill -9 $$", "status 5": "exit 5", "status 1": "echo 'aig: x: y' >&2; exit 1",
+    ends = {"killed": "kill -9 $$", "status 1": "exit 1", "status 2": "exit 2", "status 3": "exit 3",
+            "status 5": "exit 5", "status 1 and a message": "echo 'aig: x: y' >&2; exit 1",
             "status 0 and a message": "echo 'aig: x: y' >&2; exit 0"}
     for name, end in ends.items():
         runs.write("ended", f"#!/bin/sh\necho unreachable\n{end}\n")
@@ -96,5 +134,6 @@ def killed(program, tally, _):
                      ("to", wraps.to, ("aag",)), ("rows", wraps.simulate, (["1"],)))
             for call, function, words in calls:
                 error = raised(function, *words)
-                wanted = aig.AigError if "message" in name or name == "status 1" else RuntimeError
-                tally.check(f"{name}: {call}", isinstance(error, wanted), error)
+                wanted = aig.AigError if "message" in name else RuntimeError
+                if (name, call) != ("status 1", "check"):  # that of a verdict
+                    tally.check(f"{name}: {call}", isinstance(error, wanted), error)

@@ -1,7 +1,7 @@
 """The workbench: edits, queries and replies."""
 
 import aig
-from package.common import example, raised
+from package.common import CHAIN, example, raised
 
 
 def bench(_, tally, __):
@@ -32,6 +32,7 @@ def bench(_, tally, __):
         tally.compare("an unknown line", edited.script(["q", "v 9 6"]), ["bad", "no 6"])
         for line in ("t", " u ", "v 3 6\nv 3 6"):
             tally.check("a line with a long reply", isinstance(raised(edited.script, [line]), ValueError), line)
+    some(tally)
     tally.check("a closed bench", isinstance(raised(edited.value, 2, 0), ValueError))
     error = raised(counter.bench, ["1"])
     tally.compare("rejected rows", (error.part, "line 1" in error.explanation), ("stimulus", True))
@@ -40,6 +41,20 @@ def bench(_, tally, __):
         edited.append({})
         tally.compare("a circuit without inputs", len(edited.trace()), 3)
     wide = aig.Circuit("aag 100000 100000 0 0 0\n" + "".join(f"{2 * it}\n" for it in range(1, 100_001)))
+    tally.compare("100,000 entries", (len(wide.inputs), wide.inputs[-1]), (100_000, "i99999"))
     with wide.bench(["1" * 100_000]) as edited:
         edited.append("0" * 100_000)
         tally.compare("a row longer than a pipe", edited.value(200_000, 1), 0)
+
+
+def some(tally):
+    """An edit is of the input, the frame, the latch and the output that it names."""
+    chain = aig.Circuit(CHAIN)
+    with chain.bench(["0" * 13] * 13) as edited:
+        edited.set("d[12]", 11, 1)
+        edited.reset("q[10]", "x")
+        edited.set_output("o11", "!d[12]")
+        trace = edited.trace()
+        tally.compare("an input at a frame", (trace["d[12]"], trace["d[9]"]), ("0" * 11 + "10", "0" * 13))
+        tally.compare("a latch", (trace["q[10]"], trace["q[9]"]), ("x" + "0" * 12, "0" * 13))
+        tally.compare("an output", (trace["o11"], trace["o9"]), ("1" * 11 + "01", "0" * 13))

@@ -32,6 +32,14 @@ def failures(program, tally, _):
         latches = "".join(f"{2 * it} 2\n" for it in range(1, 600_001))
         error = raised(aig.Circuit, f"aag 600000 0 600000 0 0\n{latches}")
         tally.check("out of memory", isinstance(error, aig.OutOfMemory), error)
+    text = counter.to("aag")
+    for most in (len(text), len(text) - 1):
+        error = raised(aig._program.run, "toaig", "--to", "aag", files=[counter.file], most=most)
+        tally.compare(f"{most} bytes at most", isinstance(error, aig.OutOfMemory), most < len(text))
+    runs.write("ends", f'#!/bin/sh\n"{program.path}" "$@"\n[ "$1" != bench ] || exit 3\n')
+    os.chmod("ends", 0o755)
+    with running("ends"), counter.bench(["10"]) as edited:
+        tally.check("a bench that ends with status 3", isinstance(raised(edited.save), RuntimeError))
     found(program, tally)
     with running("none"):
         tally.check("no program", isinstance(raised(aig.Circuit, b""), FileNotFoundError))

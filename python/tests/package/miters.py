@@ -25,7 +25,7 @@ def miters(_, tally, __):
         error = raised(both.witness, rows)
         tally.compare(f"{name}: where they differ", None if error else len(both.witness(rows).rows) - 1, differ)
         tally.compare(f"{name}: the property", both.properties, ["differ"])
-    turned = aig.Circuit("aag 3 2 0 1 1\n2\n4\n6\n6 4 2\ni0 b\ni1 a\no0 y\n")
+    turned = aig.Circuit("aag 3 2 0 1 1\n2\n4\n6\n6 2 5\ni0 b\ni1 a\no0 y\n")
     plain = aig.Circuit("aag 3 2 0 1 1\n2\n4\n6\n6 2 5\ni0 a\ni1 b\no0 y\n")
     rows = ["00", "01", "10", "11"]
     for by, turn in (("name", -1), ("position", 1)):
@@ -58,6 +58,9 @@ def miters(_, tally, __):
     tally.check("a start without a match", isinstance(raised(aig.miter, free, fixed, starts=True), ValueError))
     held = aig.Circuit("aag 1 1 0 1 0 0 1\n2\n2\n3\n")
     tally.compare("constraints of both", aig.miter(held, held).check("1\nb0\n\n1\n.\n").line, "constraint 0 0")
+    one, other = (aig.Circuit(f"aag 2 2 0 1 0 0 1\n2\n4\n2\n{literal}\n") for literal in (3, 5))
+    found = [aig.miter(one, other).check(f"1\nb0\n\n{row}\n.\n").line for row in ("00", "10", "01")]
+    tally.compare("constraints of each", found, ["not bad", "constraint 0 0", "constraint 0 1"])
 
 
 def each_output(tally):

@@ -33,6 +33,8 @@ def notebooks(_, tally, __):
     tally.compare("as text", printer.said, f"{witness!r}\n{witness.text.decode()}")
     tally.compare("a witness, shown", repr(witness), "<Witness of wraps at frame 3>")
     tally.compare("a trace, shown", repr(trace), "<Trace of 2 frames>")
+    numbers = [it.text for it in tree.fromstring(wraps.simulate(["1", "1", "0"]).svg()).findall(".//{*}text")]
+    tally.compare("the numbers of a vector", numbers[-3:], ["0", "1", "2"])
     wide = aig.Circuit("aag 30 30 0 0 0\n" + "".join(f"{2 * it}\n" for it in range(1, 31)))
     tally.check("signals that are left out", "6 more signals" in wide.simulate(["0" * 30]).svg())
     letters = aig.Circuit("aag 2 1 1 2 0\n2\n4 2\n4\n2\ni0 in\nl0 state\no0 out\n").simulate(["1", "0"]).svg()

@@ -3,6 +3,7 @@
 import os
 import re
 import shutil
+import sys
 import threading
 from pathlib import Path
 
@@ -58,11 +59,45 @@ def solvers(_, tally, __):
     tally.check("options for prove", isinstance(raised(aig.prove, stays, solver=["cadical", "--sat"]), ValueError))
 
 
+def small(_, tally, __):
+    """Each verdict by a small solver, which is there where cadical is not, and what shows it."""
+    solver = Path(PYTHON, "tests", "bundles", "small_solver.py")
+    runs.write("small", f'#!/bin/sh\nexec "{sys.executable}" -S -E "{solver}" "$@"\n')
+    os.chmod("small", 0o755)
+    chain, stays = aig.Circuit(chain_of(4)), aig.Circuit(STAYS)
+    for position, wanted in ((0, ("unreachable", "induction", 1, "")), (3, ("confirmed", "run", 4, "")),
+                             (4, ("unreachable within 4", "bound", 4, ""))):
+        found = aig.prove(chain, f"p{position}", frames=4, solver="./small")
+        tally.compare(f"property {position}", (found.line, found.by, found.frames, found.vacuous), wanted)
+        said = chain.refute(found.frames - (position == 3), found.proof, position, step=found.step)
+        tally.compare(f"its proof, {position}", said, {3: "unreachable within 3"}.get(position, found.line))
+        tally.compare(f"its run, {position}", found.witness and found.witness.position, 3 if position == 3 else None)
+    last = aig.Circuit("aag 1 1 0 0 0 13\n2\n" + "0\n" * 12 + "2\n")
+    tally.compare("property 12 of 13", aig.prove(last, 12, frames=1, solver="./small").line, "confirmed")
+    contradict = aig.Circuit("aag 2 2 0 0 0 1 2\n2\n4\n4\n2\n3\n")
+    both = aig.prove(contradict, frames=2, solver="./small")
+    tally.compare("vacuous", (both.line, both.vacuous), ("unreachable", "no run of 2 frames"))
+    tally.compare("its proof", contradict.refute_alive(2, both.files["alive"]), both.vacuous)
+    certified = stays.certified(CLAIMS_0)
+    found = aig.certify(certified, "./small")
+    tally.compare("certified", (found, found.by), ("unreachable", "certificate"))
+    tally.compare("its certificate", found.certificate, certified.certificate)
+    tally.compare("its proof is checked", certified.refute(found.proof), "unreachable")
+    witness = aig.certify(stays.certified(CLAIMS_1), "./small")
+    tally.compare("a wrong certificate", witness.circuit.check(witness).line, "confirmed")
+    formula = chain.cnf(4, 3)
+    solved = aig.solve(formula, "./small")
+    tally.compare("a model", (formula.witness(solved.model).position, solved.proof), (3, None))
+    solved = aig.solve(chain.cnf(3, 3), "./small")
+    tally.compare("a proof", (solved.model, chain.refute(3, solved.proof, 3)), (None, "unreachable within 3"))
+
+
 def bounds(_, tally, __):
     """Searches that are ended: by a bound, and by another thread."""
     wraps = example("wraps.aag")
     formula = wraps.cnf(3)
-    written = {"slow": "sleep 60", "gives_up": "exit 0", "counts": 'case "$*" in *"-c 7"*) exit 0;; esac; exit 1'}
+    written = {"slow": "sleep 60", "gives_up": "exit 0", "counts": 'case "$*" in *"-c 7"*) exit 0;; esac; exit 1',
+               "lies": "echo 0 > proof; exit 20"}
     for name, body in written.items():
         runs.write(name, f"#!/bin/sh\n{body}\n")
         os.chmod(name, 0o755)
@@ -72,12 +107,15 @@ def bounds(_, tally, __):
     tally.check("another bound", isinstance(raised(aig.solve, formula, "./counts", conflicts=8), RuntimeError))
     found = aig.prove(wraps, solver="./slow", seconds=1)
     tally.compare("prove", (found, bool(found), found.files, len(found.notes)), ("undecided", False, {}, 1))
+    tally.check("prove: after so many seconds", "did not end in 1 s" in found.notes[0], found.notes)
     found = aig.prove(wraps, solver="./counts", conflicts=7)
     tally.check("prove: the bound is that of the solver", "within its bounds" in found.notes[0], found.notes)
     certified = aig.Circuit(STAYS).certified(CLAIMS_0)
     for name, limits in (("gives_up", {"seconds": 5}), ("counts", {"conflicts": 7})):
         found = aig.certify(certified, f"./{name}", **limits)
         tally.compare(f"certify: {name}", (found, len(found.notes)), ("undecided", 1))
+    error = raised(aig.certify, aig.Circuit(STAYS).certified(CLAIMS_1), "./lies")
+    tally.check("certify: a wrong proof", isinstance(error, aig.AigError) and error.part == "proof", error)
     calls = (("solve", aig.solve, (formula, "./slow")), ("prove", aig.prove, (wraps, 0, 20, "./slow")),
              ("certify", aig.certify, (certified, "./slow")))
     for name, call, words in calls:
@@ -95,6 +133,8 @@ def texts(program, tally, _):
     line = "unreachable within 3"
     tally.compare("equal to its line", (found == line, found != "unreachable", f"{found}", {found: 1}[line]),
                   (True, True, line, 1))
+    tally.compare("what was found", [(it.unreachable, it.confirmed) for it in (found, aig.Verdict("unreachable"))],
+                  [(False, False), (True, False)])
     tally.compare("equal to another", [found == other for other in (aig.Verdict(line), aig.Verdict("x"), 3)],
                   [True, False, False])
     tally.compare("shown", repr(found), "Verdict(line='unreachable within 3', by='bound', frames=3)")

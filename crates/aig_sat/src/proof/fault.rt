@@ -50,7 +50,7 @@ impl From<AllocFailed<Lit>> for ReadFault {
     }
 }
 
-/// Why a proof is refused: a step is not read, or whoever checks the steps refuses one.
+/// Why a proof is refused: a step is not read, or the caller that checks the steps refuses one.
 #[derive(Clone, Copy, PartialEq, Eq, Debug, Error)]
 pub enum ProofFault {
     /// The format does not want it here; `at` counts bytes from 0.

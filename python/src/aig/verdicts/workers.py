@@ -5,6 +5,7 @@ from __future__ import annotations
 import os
 from concurrent.futures import Executor, Future, ThreadPoolExecutor
 from dataclasses import replace
+from importlib import import_module
 from pathlib import Path
 from types import TracebackType
 from typing import Any, Callable, Optional, Type
@@ -55,11 +56,10 @@ class Dask:
 
     def __init__(self, address: str):
         try:
-            import dask.distributed as distributed
+            distributed: Any = import_module("dask.distributed")
         except ImportError:
             raise ToolFailed("--dask needs the package distributed") from None
-        make: Any = distributed.Client
-        self._client = make(address, timeout="30s")
+        self._client = distributed.Client(address, timeout="30s")
         self.executor: Executor = self._client.get_executor(pure=False)
 
     def share(self, sent: Sent) -> Any:
