@@ -9,7 +9,7 @@ use Rattle.aig_dump_header.specs.declared.signals.Signal.{Signal}
 use Rattle.aig_dump_header.specs.Header.{name_lines, signal_line, moves, scope_line, closings, section_scope}
 use Rattle.aig_dump_header.specs.Names.{names_of}
 use Rattle.aig_dump_header.specs.Paths.{path_of, scopes_of, leaf_of}
-use Rattle.aig_dump_header.specs.Signals.{entries, columns, section_names}
+use Rattle.aig_dump_header.specs.Signals.{entries, section_names}
 use Rattle.aig_dump_header.specs.state.Naming.{named, name_text, entry_names}
 
 -- ---- entries
@@ -33,21 +33,22 @@ pub no_scopes_at_first : scopes_of [] ≡ []
 unfolding path_of
 no_scopes_at_first = refl
 
--- the line of one name more
-pub lines_more : (shape before name : List ℕ) (xs : List Signal) (i : ℕ) (d : Signal) (text new all : List ℕ) → i < length xs
-    → name ≡ name_text (get_or xs i d).name
-    → new ≡ text ++ (moves (scopes_of before) (scopes_of name) ++ signal_line shape (get_or xs i d).number (leaf_of name))
+-- the line of one name more, after those that lead to its scopes
+pub lines_more : (shape before name leaf : List ℕ) (xs : List Signal) (i : ℕ) (d : Signal) (text mid new all : List ℕ)
+    → i < length xs → name ≡ name_text (get_or xs i d).name → mid ≡ text ++ moves (scopes_of before) (scopes_of name)
+    → leaf ≡ leaf_of name → new ≡ mid ++ signal_line shape (get_or xs i d).number leaf
     → text ++ name_lines shape (scopes_of before) (map named (drop i xs)) ≡ all
     → new ++ name_lines shape (scopes_of name) (map named (drop (i + 1) xs)) ≡ all
 unfolding name_lines
-lines_more shape before name xs i d text new all lt is more h =
+lines_more shape before name leaf xs i d text mid new all lt is way own more h =
     let rest : List (ℕ × List ℕ) = map named (drop (i + 1) xs) in
     let n : ℕ = (get_or xs i d).number in
     let leads : List ℕ = moves (scopes_of before) (scopes_of name) in
+    let after : List ℕ = name_lines shape (scopes_of name) rest in
     let line : List ℕ = signal_line shape n (leaf_of name) in
-    ap (λ (t : List ℕ). t ++ name_lines shape (scopes_of name) rest) more
-    ∙ append_assoc text (leads ++ line) (name_lines shape (scopes_of name) rest)
-    ∙ ap (λ (t : List ℕ). text ++ t) (append_assoc leads line (name_lines shape (scopes_of name) rest))
+    ap (λ (t : List ℕ). t ++ after) (more ∙ ap (λ (w : List ℕ). mid ++ signal_line shape n w) own)
+    ∙ append_assoc mid line after ∙ ap (λ (t : List ℕ). t ++ (line ++ after)) way
+    ∙ append_assoc text leads (line ++ after)
     ∙ ap (λ (w : List ℕ). text ++ name_lines shape (scopes_of before) ((n, w) ∷ rest)) is
     ∙ ap (λ (ys : List Signal). text ++ name_lines shape (scopes_of before) (map named ys)) (sym (drop_more xs i d lt)) ∙ h
 

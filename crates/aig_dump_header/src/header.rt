@@ -59,22 +59,22 @@ fn push_signal(text: &mut Vec<u8>, shape: &[u8], number: u32, name: &[u8]) -> Re
     Ok(())
 }
 
-// Adds the line of a name and those that lead to its scopes from the ones of the name before it.
-fn push_name(
+// Adds the lines that lead to the scopes of a name from the ones of the name before it, and returns the name's last
+// piece, its name there.
+fn push_path<'a>(
     alloc: Global,
     text: &mut Vec<u8>,
-    shape: &[u8],
     before: &[u8],
-    number: u32,
-    name: &[u8],
-) -> Result<(), Memory>
-    ensures { OnOk result (text.new.items ≡ text.old.items ++ (moves (scopes_of before.now) (scopes_of name.now)
-        ++ signal_line shape.now number (leaf_of name.now))) }
+    name: &'a [u8],
+) -> Result<&'a [u8], Memory>
+    ensures text { OnOk result (text.new.items
+        ≡ text.old.items ++ moves (scopes_of before.now) (scopes_of name.now)) }
+    ensures leaf { IfOk result (λ leaf. leaf.now ≡ leaf_of name.now) }
 {
     let open = Path::of(alloc, before)?;
     let path = Path::of(alloc, name)?;
     push_moves(text, &open.scopes, &path.scopes)?;
-    push_signal(text, shape, number, path.leaf)
+    Ok(path.leaf)
 }
 
 // Adds the lines of signals in their scopes.
@@ -90,32 +90,33 @@ fn push_signals(
     let mut name = Vec::new(alloc);
     for signal in signals {
         show(&mut name, signal.name)?;
-        push_name(alloc, text, shape, &before, signal.number, &name)?;
+        let leaf = push_path(alloc, text, &before, &name)?;
+        push_signal(text, shape, signal.number, leaf)?;
         swap(&mut before, &mut name);
     }
     let open = Path::of(alloc, &before)?;
     push_closings(text, open.scopes.len())
 }
 
-// Adds the scope of a section; none where it has no entries.
+// Adds the scope of a section, whose signals are numbered from the first on; none where it has no entries.
 fn push_section(
     alloc: Global,
     text: &mut Vec<u8>,
     symbols: &Symbols,
-    section: &Section,
-    scope: &[u8],
-    shape: &[u8],
+    row: &Row<'_>,
+    first: u32,
 ) -> Result<(), Memory>
     requires once { AllPairs (λ x y. x ≢ y) (keys_of symbols.now) }
-    requires few { section.now.first + section.now.count < 2 ^ 32 }
+    requires few { first + row.now.1 < 2 ^ 32 }
     ensures { OnOk result (text.new.items ≡ text.old.items
-        ++ section_scope symbols.now section.now.kind scope.now shape.now
-        section.now.first section.now.count) }
+        ++ section_scope symbols.now row.now.0 row.now.2.now row.now.3.now first row.now.1) }
 {
-    if section.count == 0 {
+    let (kind, count, scope, shape) = *row;
+    if count == 0 {
         return Ok(());
     }
-    let signals = signals_of(alloc, symbols, section)?;
+    let section = Section { kind, first, count };
+    let signals = signals_of(alloc, symbols, &section)?;
     push_scope(text, scope)?;
     push_signals(alloc, text, shape, &signals)?;
     push_closings(text, 1)
@@ -133,14 +134,9 @@ fn push_rows(
     ensures { OnOk result (text.new.items ≡ text.old.items ++ rows_text symbols.now 0 rows.now) }
 {
     let mut first = 0;
-    for (kind, count, scope, shape) in rows {
-        let section = Section {
-            kind: *kind,
-            first,
-            count: *count,
-        };
-        push_section(alloc, text, symbols, &section, scope, shape)?;
-        first += *count;
+    for row in rows {
+        push_section(alloc, text, symbols, row, first)?;
+        first += row.1;
     }
     Ok(())
 }

@@ -86,57 +86,6 @@ fn write_start<W: Write>(
     write_all(out, b"\n")
 }
 
-// Writes the line of an input at a frame after a prefix.
-fn write_input_line<W: Write>(
-    out: &mut W,
-    prefix: &[u8],
-    circuit: &Circuit,
-    position: u64,
-    frame: u32,
-    input: u32,
-) -> Result<(), Io>
-    ensures { Writes W.written W.failures out.old out.new
-        (prefix.now ++ origin_line circuit.now position (inputs.input frame input)) result }
-{
-    write_all(out, prefix)?;
-    write_input(out, circuit, position, frame, input)
-}
-
-// Writes the line of the start of a latch after a prefix.
-fn write_start_line<W: Write>(
-    out: &mut W,
-    prefix: &[u8],
-    circuit: &Circuit,
-    position: u64,
-    latch: u32,
-) -> Result<(), Io>
-    ensures { Writes W.written W.failures out.old out.new
-        (prefix.now ++ origin_line circuit.now position (inputs.start latch)) result }
-{
-    write_all(out, prefix)?;
-    write_start(out, circuit, position, latch)
-}
-
-// Writes the lines of the inputs at a frame, the first of which has this number.
-fn write_frame<W: Write>(
-    out: &mut W,
-    prefix: &[u8],
-    circuit: &Circuit,
-    inputs: u32,
-    position: u64,
-    frame: u32,
-) -> Result<(), Io>
-    requires inputs { inputs ≡ length circuit.now.inputs }
-    requires position { position ≤ 2 ^ 33 * limit }
-    ensures { Writes W.written W.failures out.old out.new
-        (origin_lines prefix.now circuit.now position (frame_origins circuit.now frame)) result }
-{
-    for input in 0..inputs {
-        write_input_line(out, prefix, circuit, position + input as u64, frame, input)?;
-    }
-    Ok(())
-}
-
 // How many inputs there are.
 fn input_count(circuit: &Circuit) -> u32
     ensures value { result ≡ length circuit.now.inputs }
@@ -155,68 +104,98 @@ fn in_frames(frames: u32, inputs: u32) -> u64
     frames as u64 * inputs as u64
 }
 
-// Writes the lines of the inputs at all frames, the first of which has this number.
-fn write_frames<W: Write>(
-    out: &mut W,
-    prefix: &[u8],
-    circuit: &Circuit,
-    inputs: u32,
-    first: u32,
-    frames: u32,
-) -> Result<(), Io>
-    requires inputs { inputs ≡ length circuit.now.inputs }
-    requires few { inputs ≤ limit }
-    ensures { Writes W.written W.failures out.old out.new
-        (origin_lines prefix.now circuit.now first (parts.frames (frame_origins circuit.now) frames)) result }
-{
-    for frame in 0..frames {
-        let position = first as u64 + in_frames(frame, inputs);
-        write_frame(out, prefix, circuit, inputs, position, frame)?;
-    }
-    Ok(())
+// What all lines of a map share: the circuit, and the text that each line begins with.
+#[derive(Clone, Copy, Drop)]
+struct MapWriter<'a> {
+    prefix: &'a [u8],
+    circuit: &'a Circuit,
 }
 
-// Writes the line of a latch that has this number if it is uninitialised, and returns the number after it.
-fn write_start_of<W: Write>(
-    out: &mut W,
-    prefix: &[u8],
-    circuit: &Circuit,
-    position: u64,
-    place: u32,
-    latch: &Latch,
-) -> Result<u64, Io>
-    requires { position < 2 ^ 63 }
-    ensures written { Writes W.written W.failures out.old out.new
-        (start_line prefix.now circuit.now position place latch.now) result }
-    ensures next_position { IfOk result (λ next_position. next_position ≡ position_after position latch.now) }
-    ensures few { IfOk result (λ next_position. next_position ≤ position + 1) }
-{
-    if is_uninitialised(latch) {
-        write_start_line(out, prefix, circuit, position, place)?;
-        Ok(position + 1)
-    } else {
-        Ok(position)
+impl<'a> MapWriter<'a> {
+    // Writes the line of an input at a frame after the prefix.
+    fn write_input_line<W: Write>(
+        &self,
+        out: &mut W,
+        position: u64,
+        frame: u32,
+        input: u32,
+    ) -> Result<(), Io>
+        ensures { Writes W.written W.failures out.old out.new
+            (self.now.prefix.now ++ origin_line self.now.circuit.now position (inputs.input frame input)) result }
+    {
+        write_all(out, self.prefix)?;
+        write_input(out, self.circuit, position, frame, input)
     }
-}
 
-// Writes the lines of those of these latches that are uninitialised, the first of which has this number.
-fn write_starts<W: Write>(
-    out: &mut W,
-    prefix: &[u8],
-    circuit: &Circuit,
-    first: u64,
-    latches: &[Latch],
-) -> Result<(), Io>
-    requires first { first ≤ 2 ^ 33 * limit }
-    requires latches { length latches.now ≤ limit }
-    ensures { Writes W.written W.failures out.old out.new
-        (origin_lines prefix.now circuit.now first (start_origins 0 latches.now)) result }
-{
-    let mut position = first;
-    for (place, latch) in latches.iter().enumerate() {
-        position = write_start_of(out, prefix, circuit, position, place as u32, latch)?;
+    // Writes the line of the start of a latch after the prefix.
+    fn write_start_line<W: Write>(&self, out: &mut W, position: u64, latch: u32) -> Result<(), Io>
+        ensures { Writes W.written W.failures out.old out.new
+            (self.now.prefix.now ++ origin_line self.now.circuit.now position (inputs.start latch)) result }
+    {
+        write_all(out, self.prefix)?;
+        write_start(out, self.circuit, position, latch)
     }
-    Ok(())
+
+    // Writes the lines of the inputs at a frame, the first of which has this number.
+    fn write_frame<W: Write>(&self, out: &mut W, position: u64, frame: u32) -> Result<(), Io>
+        requires { position ≤ 2 ^ 33 * limit }
+        ensures { Writes W.written W.failures out.old out.new (origin_lines self.now.prefix.now self.now.circuit.now
+            position (frame_origins self.now.circuit.now frame)) result }
+    {
+        for input in 0..input_count(self.circuit) {
+            self.write_input_line(out, position + input as u64, frame, input)?;
+        }
+        Ok(())
+    }
+
+    // Writes the lines of the inputs at all frames, the first of which has this number.
+    fn write_frames<W: Write>(&self, out: &mut W, first: u32, frames: u32) -> Result<(), Io>
+        ensures { Writes W.written W.failures out.old out.new (origin_lines self.now.prefix.now self.now.circuit.now
+            first (parts.frames (frame_origins self.now.circuit.now) frames)) result }
+    {
+        let inputs = input_count(self.circuit);
+        for frame in 0..frames {
+            let position = first as u64 + in_frames(frame, inputs);
+            self.write_frame(out, position, frame)?;
+        }
+        Ok(())
+    }
+
+    // Writes the line of a latch that has this number if it is uninitialised, and returns the number after it.
+    fn write_start_of<W: Write>(
+        &self,
+        out: &mut W,
+        position: u64,
+        place: u32,
+        latch: &Latch,
+    ) -> Result<u64, Io>
+        requires { position < 2 ^ 63 }
+        ensures written { Writes W.written W.failures out.old out.new
+            (start_line self.now.prefix.now self.now.circuit.now position place latch.now) result }
+        ensures next_position { IfOk result (λ next_position. next_position ≡ position_after position latch.now) }
+        ensures few { IfOk result (λ next_position. next_position ≤ position + 1) }
+    {
+        if is_uninitialised(latch) {
+            self.write_start_line(out, position, place)?;
+            Ok(position + 1)
+        } else {
+            Ok(position)
+        }
+    }
+
+    // Writes the lines of those of these latches that are uninitialised, the first of which has this number.
+    fn write_starts<W: Write>(&self, out: &mut W, first: u64, latches: &[Latch]) -> Result<(), Io>
+        requires first { first ≤ 2 ^ 33 * limit }
+        requires latches { length latches.now ≤ limit }
+        ensures { Writes W.written W.failures out.old out.new
+            (origin_lines self.now.prefix.now self.now.circuit.now first (start_origins 0 latches.now)) result }
+    {
+        let mut position = first;
+        for (place, latch) in latches.iter().enumerate() {
+            position = self.write_start_of(out, position, place as u32, latch)?;
+        }
+        Ok(())
+    }
 }
 
 /// Writes what the inputs of the circuit unrolled for this many frames are, one line each, in order, as
@@ -233,10 +212,10 @@ pub fn write_input_lines<W: Write>(
         (origin_lines prefix.now circuit.now first (origins circuit.now frames)) result }
 {
     circuit.facts();
-    let inputs = input_count(circuit);
-    write_frames(out, prefix, circuit, inputs, first, frames)?;
-    let starts = first as u64 + in_frames(frames, inputs);
-    write_starts(out, prefix, circuit, starts, circuit.latches())
+    let map = MapWriter { prefix, circuit };
+    map.write_frames(out, first, frames)?;
+    let starts = first as u64 + in_frames(frames, input_count(circuit));
+    map.write_starts(out, starts, circuit.latches())
 }
 
 /// Writes what the inputs of the circuit unrolled for this many frames are, one line each, in order. An input of the

@@ -13,21 +13,21 @@ returns c =
     let t1 = c.push_scope.new.text.items in
     let t2 = c.push_signals.new.text.items in
     let t3 = c.push_closings.new.text.items in
-    let s = c.args.section.now in
-    let names = section_names c.args.symbols.now s.kind s.first s.count in
-    let lines = name_lines c.args.shape.now [] names in
+    let (kind, count, scope, shape) = c.args.row.now in
+    let names = section_names c.args.symbols.now kind c.args.first count in
+    let lines = name_lines shape.now [] names in
     let is : map named c.deref.result.now ≡ names = ap (map named) c.deref.ensures.value ∙ c.in_ok-signals.ensures in
     on_ok_weaker c.push_closings.result
     (λ h.
-    append_then old t1 t3 (scope_line c.args.scope.now) (lines ++ closings 1) c.in_ok-push_scope.ensures
+    append_then old t1 t3 (scope_line scope.now) (lines ++ closings 1) c.in_ok-push_scope.ensures
     (append_then t1 t2 t3 lines (closings 1)
-    (c.in_ok-push_signals.ensures ∙ ap (λ xs. t1 ++ name_lines c.args.shape.now [] xs) is) h)
-    ∙ ap (λ (xs : List ℕ). old ++ xs) (section_of c.args.symbols.now s.kind c.args.scope.now c.args.shape.now s.first s.count (omega (arith, c.if-section-eq0.false))))
+    (c.in_ok-push_signals.ensures ∙ ap (λ xs. t1 ++ name_lines shape.now [] xs) is) h)
+    ∙ ap (λ (xs : List ℕ). old ++ xs) (section_of c.args.symbols.now kind scope.now shape.now c.args.first count (omega (arith, c.if-count-eq0.false))))
     c.push_closings.ensures
 
-pub returns-then-section-eq0 : goal.returns-then-section-eq0
-returns-then-section-eq0 c =
-    let s = c.args.section.now in
+pub returns-then-count-eq0 : goal.returns-then-count-eq0
+returns-then-count-eq0 c =
+    let (kind, count, scope, shape) = c.args.row.now in
     sym (ap (λ (xs : List ℕ). c.args.text.now.items ++ xs)
-    (sym (no_section c.args.symbols.now s.kind c.args.scope.now c.args.shape.now s.first s.count c.if-section-eq0.true))
+    (sym (no_section c.args.symbols.now kind scope.now shape.now c.args.first count c.if-count-eq0.true))
     ∙ append-nil c.args.text.now.items)

@@ -16,12 +16,16 @@ pub loop-signal-preserved : goal.loop-signal-preserved
 loop-signal-preserved c =
     let shape = c.args.shape.now in
     let rest = map named (drop (c.loop-signal.signal-index + 1) c.args.signals.now) in
-    let text = c.push_name.new.text.items in
+    let before = c.deref.result.now in
+    let name = c.deref-in-loop-signal.result.now in
+    let old = c.loop-signal.text.items in
+    let text = c.push_signal.new.text.items in
     ap (λ v. text ++ name_lines shape (scopes_of v.items) rest) c.swap.ensures.x_after
     ∙ ap (λ (w : List ℕ). text ++ name_lines shape (scopes_of w) rest) (sym c.deref-in-loop-signal.ensures.value)
-    ∙ lines_more shape c.deref.result.now c.deref-in-loop-signal.result.now c.args.signals.now c.loop-signal.signal-index _
-    c.loop-signal.text.items text _ c.loop-signal-test.true (c.deref-in-loop-signal.ensures.value ∙ c.in_ok-show.ensures) c.in_ok-push_name.ensures
-    (ap (λ (w : List ℕ). c.loop-signal.text.items ++ name_lines shape (scopes_of w) (map named (drop c.loop-signal.signal-index c.args.signals.now))) c.deref.ensures.value
+    ∙ lines_more shape before name c.in_ok-leaf.leaf.now c.args.signals.now c.loop-signal.signal-index _
+    old c.push_path.new.text.items text _ c.loop-signal-test.true (c.deref-in-loop-signal.ensures.value ∙ c.in_ok-show.ensures)
+    c.in_ok-leaf.ensures.text c.in_ok-leaf.ensures.leaf c.in_ok-push_signal.ensures
+    (ap (λ (w : List ℕ). old ++ name_lines shape (scopes_of w) (map named (drop c.loop-signal.signal-index c.args.signals.now))) c.deref.ensures.value
     ∙ c.loop-signal.invariant)
 
 pub returns : goal.returns

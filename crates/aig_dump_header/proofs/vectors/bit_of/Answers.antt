@@ -1,4 +1,4 @@
-use Rattle.std.proofs.Common.{◌≡◌, ◌-◌, Some, take, arith, refl, sym, ◌∙◌}
+use Rattle.std.proofs.Common.{◌-◌, Some, take, arith, refl, sym, ◌∙◌}
 use Rattle.aig_dump_header.proofs.Bits.{bit_none, bit_at, bit_not_at}
 use Rattle.aig_dump_header.proofs.vectors.bit_of.Goals as goal
 

@@ -15,7 +15,7 @@ pub returns : goal.returns
 returns g c =
     let raw = c.args.circuit.now in
     let at = ap (λ m. c.args.first + m)
-    (c.in_frames.ensures.value ∙ ap (λ m. c.args.frames * m) c.input_count-inputs.ensures.value) in
+    (c.in_frames.ensures.value ∙ ap (λ m. c.args.frames * m) c.input_count.ensures.value) in
     let starts = rw c.latches.ensures at c.write_starts.ensures in
     writes_same (writes_then c.in_ok-write_frames.ensures starts)
     (whole_map c.args.prefix.now raw c.args.first (c.args.first + c.in_frames.result) c.args.frames at)

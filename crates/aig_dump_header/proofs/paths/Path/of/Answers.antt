@@ -1,4 +1,4 @@
-use Rattle.std.proofs.Common.{◌-◌, ◌<◌, ℕ, List, Some, map, take, length, get_or, sym, ap, ◌∙◌, arith}
+use Rattle.std.proofs.Common.{◌-◌, ◌<◌, ℕ, Some, map, take, length, get_or, sym, ap, ◌∙◌, arith}
 use Rattle.std.specs.Option.{unwrap_or}
 use Rattle.aig_dump_header.proofs.PathLemmas.{whole_path, cut_path, no_scopes, own_leaf, all_but_last, last_piece}
 use Rattle.aig_dump_header.proofs.PathLemmas.{some_piece}

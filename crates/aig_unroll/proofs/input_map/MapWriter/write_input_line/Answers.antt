@@ -1,8 +1,8 @@
 use Rattle.aig_bytes.proofs.WriteLemmas.{writes_then, writes_stop}
-use Rattle.aig_unroll.proofs.input_map.write_start_line.Goals as goal
+use Rattle.aig_unroll.proofs.input_map.MapWriter.write_input_line.Goals as goal
 
 pub returns-in_err-write_all : goal.returns-in_err-write_all
 returns-in_err-write_all g c = writes_stop _ c.in_err-write_all.ensures c.from_residual.ensures.0
 
 pub returns : goal.returns
-returns g c = writes_then c.in_ok-write_all.ensures c.write_start.ensures
+returns g c = writes_then c.in_ok-write_all.ensures c.write_input.ensures
