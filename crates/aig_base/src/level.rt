@@ -28,11 +28,20 @@ use std::marker::Model;
 
 /// The levels of a circuit's variables: 0 for variable 0, an input or a latch, one more than the greater level of its
 /// right sides for a gate (our own choice).
-#[derive(Drop)]
 pub struct Levels {
     pub(crate) levels: Vec<u32>,
     // For `rewire`, idle, with room for all variables.
     pub(crate) worklist: Worklist,
+}
+
+// By hand: a value then ends in one call, which is one step of a proof (docs/PROOFS.md, Habits).
+impl Drop for Levels {
+    fn drop(self) {
+        let Levels {
+            levels: _,
+            worklist: _,
+        } = self;
+    }
 }
 
 impl Model for Levels {

@@ -19,7 +19,7 @@ use std::alloc::{AllocError, Global};
 use thiserror::Error;
 
 /// A section of properties that can be selected.
-#[derive(Clone, Copy, PartialEq, Eq, Debug)]
+#[derive(Clone, Copy, PartialEq, Eq)]
 pub enum PropertySection {
     /// Bad state properties (AIGER 1.9).
     Bad,

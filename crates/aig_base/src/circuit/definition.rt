@@ -1,7 +1,7 @@
 //! What defines a variable.
 
 /// The place that defines a variable: a position in the inputs, the latches or the gates, counted from 0.
-#[derive(Clone, Copy, PartialEq, Eq, Debug)]
+#[derive(Clone, Copy, PartialEq, Eq)]
 pub enum Definition {
     Input(u32),
     Latch(u32),

@@ -8,7 +8,7 @@ use aig_bytes::Memory;
 use std::alloc::Global;
 
 /// The variables that were visited, with room for all of them.
-#[derive(Drop, Debug)]
+#[derive(Drop)]
 pub(crate) struct Visits {
     /// Whether each variable was visited.
     pub(crate) met: Vec<bool>,

@@ -18,7 +18,7 @@ const NEAR: usize = 4;
 const FAR: u32 = 5;
 
 /// The list of a variable, or where it is.
-#[derive(Clone, Copy, Debug)]
+#[derive(Clone, Copy)]
 pub(crate) struct Slot {
     // How many gates the list has, or `FAR`.
     count: u32,

@@ -9,7 +9,7 @@ use aig_bytes::Memory;
 const SHORT: u32 = 64;
 
 /// The places of a gate in the lists of the two variables that it reads, in any order. One below `SHORT` is not kept.
-#[derive(Clone, Copy, Debug)]
+#[derive(Clone, Copy)]
 pub(crate) struct Places {
     pub(crate) first: u32,
     pub(crate) second: u32,

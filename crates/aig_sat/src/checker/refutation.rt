@@ -13,9 +13,15 @@ use std::marker::Model;
 /// Clauses are sets: a literal counts once. A clause of both signs of a variable stands until it is deleted, and
 /// nothing follows from it. Literals of variables that it does not have are kept in the clauses, and never found to
 /// be true.
-#[derive(Drop)]
 pub struct Refutation {
     checker: Checker,
+}
+
+// By hand: a value then ends in one call, which is one step of a proof (docs/PROOFS.md, Habits).
+impl Drop for Refutation {
+    fn drop(self) {
+        let Refutation { checker: _ } = self;
+    }
 }
 
 impl Model for Refutation {

@@ -9,7 +9,7 @@ use std::alloc::Global;
 use std::marker::Model;
 
 /// A value for each variable below some number, a byte each: 0, 1, or x where none is known.
-#[derive(Drop, Debug)]
+#[derive(Drop)]
 pub struct Assignment {
     values: Vec<Tern>,
 }

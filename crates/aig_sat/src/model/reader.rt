@@ -15,7 +15,7 @@ use crate::model::number::parse_literal;
 use std::alloc::Global;
 
 /// How far the text of a model was read.
-#[derive(Clone, Copy, PartialEq, Eq, Debug)]
+#[derive(Clone, Copy, PartialEq, Eq)]
 pub enum Phase {
     /// Before the line that says that there is a model, and before all literals.
     Before,
@@ -26,7 +26,7 @@ pub enum Phase {
 }
 
 /// What a solver answers.
-#[derive(Clone, Copy, PartialEq, Eq, Debug)]
+#[derive(Clone, Copy, PartialEq, Eq)]
 pub enum Answer {
     Satisfiable,
     Unsatisfiable,

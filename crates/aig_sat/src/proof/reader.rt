@@ -122,7 +122,6 @@ fn rename(names: &mut Names, spelled: &[Lit], clause: &mut Vec<Lit>) -> Result<(
 }
 
 /// Reads the steps of a proof one by one. It keeps the clause of the last one, and a block of bytes that were read.
-#[derive(Drop)]
 pub struct ProofReader {
     bytes: ProofBytes,
     // `None` until the first step is asked for.
@@ -131,6 +130,19 @@ pub struct ProofReader {
     // The last clause as it was spelled.
     spelled: Vec<Lit>,
     clause: Vec<Lit>,
+}
+
+// By hand: a value then ends in one call, which is one step of a proof (docs/PROOFS.md, Habits).
+impl Drop for ProofReader {
+    fn drop(self) {
+        let ProofReader {
+            bytes: _,
+            spelling: _,
+            names: _,
+            spelled: _,
+            clause: _,
+        } = self;
+    }
 }
 
 impl Model for ProofReader {

@@ -1,7 +1,7 @@
 //! How a proof is spelled.
 
 /// How the steps of a proof are spelled.
-#[derive(Clone, Copy, PartialEq, Eq, Debug)]
+#[derive(Clone, Copy, PartialEq, Eq)]
 pub enum Spelling {
     Text,
     Binary,
