@@ -64,24 +64,6 @@ fn push_words(
     Ok(())
 }
 
-/// Adds the words X[n] of an entry.
-fn push_entry(
-    bits: &mut Vec<WordBit>,
-    buffer: &mut Vec<u8>,
-    circuit: &Circuit,
-    name: &[u8],
-    kind: Kind,
-    position: u32,
-) -> Result<(), Memory>
-    requires { position < length (literals_of circuit.now kind) }
-    ensures { OnOk result (bits.new.items ≡ bits.old.items ++ entry_bits circuit.now name.now kind position) }
-{
-    circuit.facts();
-    let symbol = symbol_at(circuit.symbols(), kind, position);
-    let literal = literal_at(circuit, kind, position);
-    push_words(bits, buffer, symbol, name, literal)
-}
-
 /// Adds the words X[n] of a section.
 fn push_section(
     bits: &mut Vec<WordBit>,
@@ -92,8 +74,11 @@ fn push_section(
 ) -> Result<(), Memory>
     ensures { OnOk result (bits.new.items ≡ bits.old.items ++ spec.section_bits circuit.now name.now kind) }
 {
+    circuit.facts();
     for position in 0..count_of(circuit, kind) {
-        push_entry(bits, buffer, circuit, name, kind, position)?;
+        let symbol = symbol_at(circuit.symbols(), kind, position);
+        let literal = literal_at(circuit, kind, position);
+        push_words(bits, buffer, symbol, name, literal)?;
     }
     Ok(())
 }

@@ -30,79 +30,80 @@ enum Rule {
     Position,
 }
 
-/// Whether a rule gives an entry a name.
-fn has_name(
-    buffer: &mut Vec<u8>,
-    circuit: &Circuit,
-    name: &[u8],
-    rule: Rule,
-    kind: Kind,
-    position: u32,
-) -> Result<bool, Memory>
-    ensures { IfOk result (λ has. has ≡ spec.has_name circuit.now name.now rule kind position) }
-{
-    buffer.clear();
-    match rule {
-        Rule::FirstName => push_first_name(buffer, circuit, kind, position)?,
-        Rule::FurtherWord => return has_further_name(buffer, circuit, kind, position, name),
-        Rule::Position => push_position(buffer, kind, position)?,
-    }
-    Ok(buffer.as_slice() == name)
+/// A name, and the circuit in which entries of it are looked for.
+#[derive(Clone, Copy, Drop)]
+struct NameSearch<'a> {
+    circuit: &'a Circuit,
+    name: &'a [u8],
 }
 
-/// The earliest position of a section to which a rule gives a name.
-fn position_in(
-    buffer: &mut Vec<u8>,
-    circuit: &Circuit,
-    name: &[u8],
-    rule: Rule,
-    kind: Kind,
-) -> Result<Option<u32>, Memory>
-    ensures named { IfOk result (λ found.
-        found ≡ least (spec.has_name circuit.now name.now rule kind) (length (literals_of circuit.now kind))) }
-    ensures within { IfOk result (λ found. IfSome found (λ p. p < length (literals_of circuit.now kind))) }
-{
-    for position in 0..count_of(circuit, kind) {
-        let has = has_name(buffer, circuit, name, rule, kind, position)?;
-        if has {
-            return Ok(Some(position));
+impl<'a> NameSearch<'a> {
+    /// Whether a rule gives an entry the name.
+    fn has_name(
+        &self,
+        buffer: &mut Vec<u8>,
+        rule: Rule,
+        kind: Kind,
+        position: u32,
+    ) -> Result<bool, Memory>
+        ensures { IfOk result (λ has.
+            has ≡ spec.has_name self.now.circuit.now self.now.name.now rule kind position) }
+    {
+        buffer.clear();
+        match rule {
+            Rule::FirstName => push_first_name(buffer, self.circuit, kind, position)?,
+            Rule::FurtherWord => {
+                return has_further_name(buffer, self.circuit, kind, position, self.name);
+            }
+            Rule::Position => push_position(buffer, kind, position)?,
         }
+        Ok(buffer.as_slice() == self.name)
     }
-    Ok(None)
-}
 
-/// The literal of the earliest entry of these sections to which a rule gives a name.
-fn literal_in(
-    alloc: Global,
-    circuit: &Circuit,
-    name: &[u8],
-    rule: Rule,
-    kinds: &[Kind],
-) -> Result<Option<Lit>, Memory>
-    ensures { IfOk result (λ found.
-        found ≡ option_map (entry_literal circuit.now) (in_sections circuit.now name.now rule kinds.now)) }
-{
-    let mut buffer = Vec::new(alloc);
-    for kind in kinds {
-        let found = position_in(&mut buffer, circuit, name, rule, *kind)?;
-        if let Some(position) = found {
-            return Ok(Some(literal_at(circuit, *kind, position)));
+    /// The earliest position of a section to which a rule gives the name.
+    fn position_in(
+        &self,
+        buffer: &mut Vec<u8>,
+        rule: Rule,
+        kind: Kind,
+    ) -> Result<Option<u32>, Memory>
+        ensures named { IfOk result (λ found.
+            found ≡ least (spec.has_name self.now.circuit.now self.now.name.now rule kind)
+            (length (literals_of self.now.circuit.now kind))) }
+        ensures within { IfOk result (λ found.
+            IfSome found (λ p. p < length (literals_of self.now.circuit.now kind))) }
+    {
+        for position in 0..count_of(self.circuit, kind) {
+            let has = self.has_name(buffer, rule, kind, position)?;
+            if has {
+                return Ok(Some(position));
+            }
         }
+        Ok(None)
     }
-    Ok(None)
-}
 
-/// The literal of the earliest entry to which a rule gives a name.
-fn literal_by(
-    alloc: Global,
-    circuit: &Circuit,
-    name: &[u8],
-    rule: Rule,
-) -> Result<Option<Lit>, Memory>
-    ensures { IfOk result (λ found.
-        found ≡ option_map (entry_literal circuit.now) (spec.entry_by circuit.now name.now rule)) }
-{
-    literal_in(alloc, circuit, name, rule, &SECTIONS)
+    /// The literal of the earliest entry of these sections to which a rule gives the name.
+    fn literal_in(&self, alloc: Global, rule: Rule, kinds: &[Kind]) -> Result<Option<Lit>, Memory>
+        ensures { IfOk result (λ found. found ≡ option_map (entry_literal self.now.circuit.now)
+            (in_sections self.now.circuit.now self.now.name.now rule kinds.now)) }
+    {
+        let mut buffer = Vec::new(alloc);
+        for kind in kinds {
+            let found = self.position_in(&mut buffer, rule, *kind)?;
+            if let Some(position) = found {
+                return Ok(Some(literal_at(self.circuit, *kind, position)));
+            }
+        }
+        Ok(None)
+    }
+
+    /// The literal of the earliest entry to which a rule gives the name.
+    fn literal_by(&self, alloc: Global, rule: Rule) -> Result<Option<Lit>, Memory>
+        ensures { IfOk result (λ found. found ≡ option_map (entry_literal self.now.circuit.now)
+            (spec.entry_by self.now.circuit.now self.now.name.now rule)) }
+    {
+        self.literal_in(alloc, rule, &SECTIONS)
+    }
 }
 
 /// The literals of neighbours of a section, from the first up to the end.
@@ -184,7 +185,8 @@ fn literals_called(
     requires { signals.now ≡ signals_spec.signals_of circuit.now }
     ensures { IfOk result (λ found. found ≡ literals_called circuit.now name.now) }
 {
-    let first = literal_by(alloc, circuit, name, Rule::FirstName)?;
+    let search = NameSearch { circuit, name };
+    let first = search.literal_by(alloc, Rule::FirstName)?;
     if let Some(literal) = first {
         return list_of(alloc, Some(literal));
     }
@@ -192,7 +194,7 @@ fn literals_called(
     if let Some(literals) = called {
         return Ok(Some(literals));
     }
-    let further = literal_by(alloc, circuit, name, Rule::FurtherWord)?;
+    let further = search.literal_by(alloc, Rule::FurtherWord)?;
     if let Some(literal) = further {
         return list_of(alloc, Some(literal));
     }
@@ -200,7 +202,7 @@ fn literals_called(
     if let Some(literals) = bits {
         return Ok(Some(literals));
     }
-    let last = literal_by(alloc, circuit, name, Rule::Position)?;
+    let last = search.literal_by(alloc, Rule::Position)?;
     list_of(alloc, last)
 }
 
@@ -284,14 +286,15 @@ pub fn entry_named(
     ensures named { IfOk result (λ found. found ≡ spec.entry_in circuit.now name.now kind) }
     ensures within { IfOk result (λ found. IfSome found (λ p. p < length (literals_of circuit.now kind))) }
 {
+    let search = NameSearch { circuit, name };
     let mut buffer = Vec::new(alloc);
-    let first = position_in(&mut buffer, circuit, name, Rule::FirstName, kind)?;
+    let first = search.position_in(&mut buffer, Rule::FirstName, kind)?;
     if let Some(position) = first {
         return Ok(Some(position));
     }
-    let further = position_in(&mut buffer, circuit, name, Rule::FurtherWord, kind)?;
+    let further = search.position_in(&mut buffer, Rule::FurtherWord, kind)?;
     if let Some(position) = further {
         return Ok(Some(position));
     }
-    position_in(&mut buffer, circuit, name, Rule::Position, kind)
+    search.position_in(&mut buffer, Rule::Position, kind)
 }

@@ -71,45 +71,6 @@ fn see(
     }
 }
 
-/// Hashers that have taken in the first names of all these runs.
-fn hash_of(alloc: Global, circuit: &Circuit, kind: Kind, runs: &[Run]) -> Result<NameHash, Memory>
-    ensures { IfOk result (λ hash.
-        hash ≡ hash_by (map (λ run. first_name circuit.now kind run.first) runs.now)) }
-{
-    let mut hash = NameHash::new();
-    let mut name = Vec::new(alloc);
-    for run in runs {
-        name.clear();
-        push_first_name(&mut name, circuit, kind, run.first)?;
-        hash.mix(name.as_slice());
-    }
-    Ok(hash)
-}
-
-/// The names of the vectors among runs, each with whether it is that of only one.
-fn names_seen(
-    alloc: Global,
-    circuit: &Circuit,
-    kind: Kind,
-    runs: &[Run],
-) -> Result<IndexMap<Vec<u8>, bool, NameHash>, Memory>
-    requires { All (λ run. run.first ≤ run.end) runs.now }
-    ensures seen { IfOk result (λ map. (x : List ℕ) → get_by (λ key. bytes_eq x key.items) map
-        ≡ seen (count_called circuit.now kind x runs.now)) }
-    ensures hash { IfOk result (λ known. hasher_of known
-        ≡ hash_by (map (λ run. first_name circuit.now kind run.first) runs.now)) }
-{
-    let hash = hash_of(alloc, circuit, kind, runs)?;
-    let mut map = IndexMap::with_hasher(alloc, hash);
-    let mut name = Vec::new(alloc);
-    for run in runs {
-        name.clear();
-        push_first_name(&mut name, circuit, kind, run.first)?;
-        see(alloc, &mut map, name.as_slice(), run.end - run.first)?;
-    }
-    Ok(map)
-}
-
 /// The name of a vector of so many bits, from bit n up.
 fn vector_name(
     alloc: Global,
@@ -142,53 +103,94 @@ fn is_only(known: &IndexMap<Vec<u8>, bool, NameHash>, name: &[u8]) -> bool
     matches!(known.get(name), Some(true))
 }
 
-/// The name of a run, where the names of all vectors of its section have been seen.
-fn name_of(
-    alloc: Global,
-    known: &IndexMap<Vec<u8>, bool, NameHash>,
-    circuit: &Circuit,
+/// The runs of a section.
+#[derive(Clone, Copy, Drop)]
+struct SectionRuns<'a> {
+    circuit: &'a Circuit,
     kind: Kind,
-    run: Run,
-) -> Result<Bytes, Memory>
-    requires { run.first < run.end }
-    ensures { IfOk result (λ name. name ≡ name_by (first_name circuit.now kind run.first)
-        (bit_in circuit.now kind run) (size_of run)
-        (λ x. is_once (get_by (λ key. bytes_eq x key.items) known.now))) }
-{
-    let mut name = Vec::new(alloc);
-    push_first_name(&mut name, circuit, kind, run.first)?;
-    let size = run.end - run.first;
-    if let Some(bit) = first_bit(name.as_slice(), size) {
-        let only = is_only(known, bit.vector);
-        return vector_name(alloc, bit.vector, bit.index, size, only);
-    }
-    Ok(List::from_vec(name))
+    runs: &'a [Run],
 }
 
-/// Adds the signals of some runs of a section, where the names of all its vectors have been seen.
-fn push_runs(
-    alloc: Global,
-    signals: &mut Vec<Signal>,
-    known: &IndexMap<Vec<u8>, bool, NameHash>,
-    circuit: &Circuit,
-    kind: Kind,
-    runs: &[Run],
-) -> Result<(), Memory>
-    requires some { All (λ run. run.first < run.end) runs.now }
-    requires known { (x : List ℕ) → get_by (λ key. bytes_eq x key.items) known.now
-        ≡ seen (count_called circuit.now kind x runs.now) }
-    ensures { OnOk result (signals.new.items ≡ signals.old.items
-        ++ map (signal_of circuit.now kind runs.now) runs.now) }
-{
-    for run in runs {
-        signals.push(Signal {
-            kind,
-            first: run.first,
-            end: run.end,
-            name: name_of(alloc, known, circuit, kind, *run)?,
-        })?;
+impl<'a> SectionRuns<'a> {
+    /// Hashers that have taken in the first names of all runs.
+    fn hash_of(&self, alloc: Global) -> Result<NameHash, Memory>
+        ensures { IfOk result (λ hash. hash
+            ≡ hash_by (map (λ run. first_name self.now.circuit.now self.now.kind run.first) self.now.runs.now)) }
+    {
+        let mut hash = NameHash::new();
+        let mut name = Vec::new(alloc);
+        for run in self.runs {
+            name.clear();
+            push_first_name(&mut name, self.circuit, self.kind, run.first)?;
+            hash.mix(name.as_slice());
+        }
+        Ok(hash)
     }
-    Ok(())
+
+    /// The names of the vectors among the runs, each with whether it is that of only one.
+    fn names_seen(&self, alloc: Global) -> Result<IndexMap<Vec<u8>, bool, NameHash>, Memory>
+        requires { All (λ run. run.first ≤ run.end) self.now.runs.now }
+        ensures seen { IfOk result (λ map. (x : List ℕ) → get_by (λ key. bytes_eq x key.items) map
+            ≡ seen (count_called self.now.circuit.now self.now.kind x self.now.runs.now)) }
+        ensures hash { IfOk result (λ known. hasher_of known
+            ≡ hash_by (map (λ run. first_name self.now.circuit.now self.now.kind run.first) self.now.runs.now)) }
+    {
+        let hash = self.hash_of(alloc)?;
+        let mut map = IndexMap::with_hasher(alloc, hash);
+        let mut name = Vec::new(alloc);
+        for run in self.runs {
+            name.clear();
+            push_first_name(&mut name, self.circuit, self.kind, run.first)?;
+            see(alloc, &mut map, name.as_slice(), run.end - run.first)?;
+        }
+        Ok(map)
+    }
+
+    /// The name of a run, where the names of all vectors of the section have been seen.
+    fn name_of(
+        &self,
+        alloc: Global,
+        known: &IndexMap<Vec<u8>, bool, NameHash>,
+        run: Run,
+    ) -> Result<Bytes, Memory>
+        requires { run.first < run.end }
+        ensures { IfOk result (λ name. name ≡ name_by (first_name self.now.circuit.now self.now.kind run.first)
+            (bit_in self.now.circuit.now self.now.kind run) (size_of run)
+            (λ x. is_once (get_by (λ key. bytes_eq x key.items) known.now))) }
+    {
+        let mut name = Vec::new(alloc);
+        push_first_name(&mut name, self.circuit, self.kind, run.first)?;
+        let size = run.end - run.first;
+        if let Some(bit) = first_bit(name.as_slice(), size) {
+            let only = is_only(known, bit.vector);
+            return vector_name(alloc, bit.vector, bit.index, size, only);
+        }
+        Ok(List::from_vec(name))
+    }
+
+    /// Adds the signals of the runs, where the names of all vectors of the section have been seen.
+    fn push_runs(
+        &self,
+        alloc: Global,
+        signals: &mut Vec<Signal>,
+        known: &IndexMap<Vec<u8>, bool, NameHash>,
+    ) -> Result<(), Memory>
+        requires some { All (λ run. run.first < run.end) self.now.runs.now }
+        requires known { (x : List ℕ) → get_by (λ key. bytes_eq x key.items) known.now
+            ≡ seen (count_called self.now.circuit.now self.now.kind x self.now.runs.now) }
+        ensures { OnOk result (signals.new.items ≡ signals.old.items
+            ++ map (signal_of self.now.circuit.now self.now.kind self.now.runs.now) self.now.runs.now) }
+    {
+        for run in self.runs {
+            signals.push(Signal {
+                kind: self.kind,
+                first: run.first,
+                end: run.end,
+                name: self.name_of(alloc, known, *run)?,
+            })?;
+        }
+        Ok(())
+    }
 }
 
 /// Adds the signals of a section.
@@ -201,8 +203,13 @@ fn push_section(
     ensures { OnOk result (signals.new.items ≡ signals.old.items ++ section_signals circuit.now kind) }
 {
     let runs = runs_of(alloc, circuit, kind)?;
-    let known = names_seen(alloc, circuit, kind, runs.as_slice())?;
-    push_runs(alloc, signals, &known, circuit, kind, runs.as_slice())
+    let section = SectionRuns {
+        circuit,
+        kind,
+        runs: runs.as_slice(),
+    };
+    let known = section.names_seen(alloc)?;
+    section.push_runs(alloc, signals, &known)
 }
 
 /// The signals of a section.

@@ -1,6 +1,7 @@
-use Rattle.std.proofs.Common.{ℕ, List, ◌-◌, length, ap, refl, arith}
-use Rattle.aig_signals.specs.Bits.{entry_bits}
-use Rattle.aig_signals.specs.Names.{literals_of}
+use Rattle.std.proofs.Common.{ℕ, List, ◌++◌, ◌-◌, length, map, filter_map, ap, ◌∙◌, refl, arith}
+use Rattle.aig_dump_header.specs.Names.{words, symbol_of}
+use Rattle.aig_signals.specs.Bits.{entry_bits, word_bit}
+use Rattle.aig_signals.specs.Names.{literals_of, readable}
 use Rattle.aig_signals.proofs.BitLemmas.{entries_start, entries_more, entries_end}
 use Rattle.aig_signals.proofs.bits.push_section.Goals as goal
 
@@ -9,9 +10,15 @@ loop-position-init c = entries_start c.args.circuit.now c.args.name.now c.args.k
 
 pub loop-position-preserved : goal.loop-position-preserved
 loop-position-preserved c =
-    entries_more (entry_bits c.args.circuit.now c.args.name.now c.args.kind) c.loop-position.bits.items c.push_entry.new.bits.items _
+    let name = c.args.name.now in
+    let old = c.loop-position.bits.items in
+    let symbol = c.symbol_at-symbol.ensures
+    ∙ ap (λ symbols. symbol_of symbols c.args.kind c.loop-position.position) c.symbols.ensures in
+    let entry = c.in_ok-push_words.ensures
+    ∙ (λ i. old ++ filter_map (word_bit name (c.literal_at-literal.ensures i)) (map readable (words (symbol i)))) in
+    entries_more (entry_bits c.args.circuit.now name c.args.kind) old c.push_words.new.bits.items _
     c.loop-position.position (length (literals_of c.args.circuit.now c.args.kind))
-    (omega (arith, c.loop-position-test.true, c.count_of-position-end.ensures.count)) c.in_ok-push_entry.ensures c.loop-position.invariant
+    (omega (arith, c.loop-position-test.true, c.count_of-position-end.ensures.count)) entry c.loop-position.invariant
 
 pub returns : goal.returns
 returns c =
