@@ -9,6 +9,7 @@ use crate::questions::{QuestionFile, question_of, read_question};
 use aig_base::Std;
 use aig_commands::{cnf, model_witness, refute};
 use aig_files::{Exit, Part, output, read_whole};
+use aig_run::RunFault;
 use std::io::Read;
 
 /// Writes the formula of a question.
@@ -25,7 +26,8 @@ pub fn cnf<R: AllocGlobal + Print, F: Read + Drop>(
     let file = circuit.as_slice();
     let asked = question_of(&read);
     let mut out = output(rt);
-    ended(cnf::cnf(rt.alloc(), file, asked, &mut out))
+    let done = cnf::cnf(rt.alloc(), file, asked, &mut out);
+    ended(done, &mut out, RunFault::Output)
 }
 
 /// Writes the witness of the run that a solver's model of the question's formula names.
@@ -46,7 +48,8 @@ pub fn model_witness<R: AllocGlobal + Print, F: Read + Drop>(
     let asked = question_of(&read);
     let text = model.as_slice();
     let mut out = output(rt);
-    ended(model_witness::model_witness(rt.alloc(), file, asked, text, &mut out))
+    let done = model_witness::model_witness(rt.alloc(), file, asked, text, &mut out);
+    ended(done, &mut out, RunFault::Output)
 }
 
 /// Checks a proof about the question's formula, and writes the answer. The file `step` has the proof of the step of an
@@ -70,5 +73,6 @@ pub fn refute<R: AllocGlobal + Print, F: Read + Drop>(
     let mut proof = Std::new(proof);
     let mut step = Std::new(step);
     let mut out = output(rt);
-    ended(refute::refute(rt.alloc(), file, asked, &mut proof, &mut step, &mut out))
+    let done = refute::refute(rt.alloc(), file, asked, &mut proof, &mut step, &mut out);
+    ended(done, &mut out, RunFault::Output)
 }

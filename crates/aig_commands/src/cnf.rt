@@ -9,7 +9,7 @@ ghost use Rattle.aig_commands.specs.Questions.{WritesFor, WritesQuestion, asked_
 use crate::question::Question;
 use aig_base::{Circuit, Io, Write};
 use aig_cnf::{Formula, Heading};
-use aig_run::{RunFault, flushed};
+use aig_run::RunFault;
 use std::alloc::Global;
 
 /// Writes a formula, and what its variables are.
@@ -42,23 +42,9 @@ fn make_and_write<W: Write>(
     write_text(&formula, circuit, question.heading(), out)
 }
 
-/// Reads a circuit and writes the formula, without a flush at the end.
-fn read_and_write<W: Write>(
-    alloc: Global,
-    file: &[u8],
-    question: Question<'_>,
-    out: &mut W,
-) -> Result<(), RunFault>
-    ensures { CommandEnds (flow W.written W.failures out.old out.new) RunFault.Output
-        (WritesQuestion (asked_of question.entry) file.now) result }
-{
-    let mut circuit = question.circuit(alloc, file)?;
-    make_and_write(alloc, &mut circuit, question, out)
-}
-
 /// The command `cnf`: reads a circuit and writes the formula of a question about it in DIMACS, with comment lines that
 /// say what was asked for and what its variables are. If a file is rejected, or there is no such formula, nothing is
-/// written. Justice and fairness are ignored. It flushes the writer before it returns.
+/// written. Justice and fairness are ignored.
 ///
 /// - Some assignment satisfies the formula of `Question::Within` exactly where there is a confirmed witness of at most
 ///   so many frames (`law_of_formula` of `aig_laws`).
@@ -76,8 +62,7 @@ pub fn cnf<W: Write>(
 ) -> Result<(), RunFault>
     ensures ends { CommandEnds (flow W.written W.failures out.old out.new) RunFault.Output
         (WritesQuestion (asked_of question.entry) file.now) result }
-    ensures flushed { W.failures out.new ≡ W.failures out.old → W.is_flushed out.new }
 {
-    let done = read_and_write(alloc, file, question, out);
-    flushed(done, out, RunFault::Output)
+    let mut circuit = question.circuit(alloc, file)?;
+    make_and_write(alloc, &mut circuit, question, out)
 }

@@ -15,7 +15,7 @@ use crate::named_run::find_named;
 use crate::question::Question;
 use aig_base::{Circuit, Tern, Write};
 use aig_cnf::{CnfFault, Formula, Query};
-use aig_run::{RunFault, flushed};
+use aig_run::RunFault;
 use aig_sat::{Assignment, ModelFault, read_model};
 use std::alloc::Global;
 
@@ -114,21 +114,6 @@ fn answer<W: Write>(
     }
 }
 
-/// The same for a circuit's file, without a flush at the end.
-fn read_and_write<W: Write>(
-    alloc: Global,
-    file: &[u8],
-    question: Question<'_>,
-    model: &[u8],
-    out: &mut W,
-) -> Result<(), RunFault>
-    ensures { CommandEnds (flow W.written W.failures out.old out.new) RunFault.Output
-        (NamesQuestion (asked_of question.entry) model.now file.now) result }
-{
-    let mut circuit = question.circuit(alloc, file)?;
-    answer(alloc, &mut circuit, question, model, out)
-}
-
 /// The command `witness --model`: reads a circuit and a SAT solver's model of the formula that `cnf` writes for a
 /// question. The model names a run: a start, where an uninitialised latch has the value of its variable, for a step or
 /// a certificate each latch; and rows. What no literal names is x. It writes the witness of the first frame at which
@@ -137,7 +122,7 @@ fn read_and_write<W: Write>(
 /// Nothing is written if a file or the model is rejected, there is no such formula, or no frame reaches the property.
 /// One does if the model makes a literal of each clause of the formula of `Question::Within` true
 /// (`law_of_partial_models` of `aig_laws`). A witness is of a property, so for `Question::Alive` there is none, with
-/// the fault `CnfFault::Property`. It flushes the writer before it returns.
+/// the fault `CnfFault::Property`.
 pub fn model_witness<W: Write>(
     alloc: Global,
     file: &[u8],
@@ -147,8 +132,7 @@ pub fn model_witness<W: Write>(
 ) -> Result<(), RunFault>
     ensures ends { CommandEnds (flow W.written W.failures out.old out.new) RunFault.Output
         (NamesQuestion (asked_of question.entry) model.now file.now) result }
-    ensures flushed { W.failures out.new ≡ W.failures out.old → W.is_flushed out.new }
 {
-    let done = read_and_write(alloc, file, question, model, out);
-    flushed(done, out, RunFault::Output)
+    let mut circuit = question.circuit(alloc, file)?;
+    answer(alloc, &mut circuit, question, model, out)
 }

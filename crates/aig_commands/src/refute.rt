@@ -15,7 +15,7 @@ use crate::question::Question;
 use aig_base::{Circuit, Io, Read, Write, write_all, write_number};
 use aig_cnf::{Formula, Goal, Query};
 use aig_refute::check;
-use aig_run::{RunFault, flushed};
+use aig_run::RunFault;
 use aig_sat::ProofFault;
 use std::alloc::Global;
 
@@ -182,27 +182,12 @@ fn write_checked<W: Write>(
     }
 }
 
-/// Writes the answer if a check went well, and flushes the writer.
-fn write_answer<W: Write>(
-    checked: Result<(), RunFault>,
-    goal: Goal,
-    frames: u32,
-    out: &mut W,
-) -> Result<(), RunFault>
-    ensures ends { CommandEnds (flow W.written W.failures out.old out.new) RunFault.Output
-        (Answers (answer_line goal frames) checked) result }
-    ensures flushed { W.failures out.new ≡ W.failures out.old → W.is_flushed out.new }
-{
-    let written = write_checked(checked, goal, frames, out);
-    flushed(written, out, RunFault::Output)
-}
-
 /// The command `refute`: reads a circuit and checks a solver's proof that no assignment satisfies the formula that
 /// `cnf` writes for a question. If it is one, that says something of the file, whatever values are unknown, and one
 /// line says so. Nothing is believed of a certificate or of a proof. The proof is never held whole, and is not read if
 /// a file is rejected, if there is no such formula, or if propagation alone refutes it. Only `Question::Step` reads
 /// `step`: `proof` is then about the formula of `Question::Within`, and `step` about that of the step. Neither is read
-/// before it is known that there are both formulas. It flushes the writer before it returns.
+/// before it is known that there are both formulas.
 ///
 /// - `Question::Within`: no run from a start that the resets allow reaches the property within the frames.
 /// - `Question::Step`, `Question::Certified`: no run of any length from such a start reaches it.
@@ -225,9 +210,8 @@ pub fn refute<R: Read, S: Read, W: Write>(
         S.failures step.new ≡ S.failures step.old + step_reads_failed result }
     ensures whole { result ≡ Err (RunFault.Proof ProofFault.NoRefutation) → IfSome (R.left proof.old) IsProof }
     ensures whole_step { result ≡ Err (RunFault.StepProof ProofFault.NoRefutation) → IfSome (S.left step.old) IsProof }
-    ensures flushed { W.failures out.new ≡ W.failures out.old → W.is_flushed out.new }
 {
     let checked = read_and_check(alloc, file, question, proof, step);
     let query = question.query();
-    write_answer(checked, query.goal, query.frames, out)
+    write_checked(checked, query.goal, query.frames, out)
 }

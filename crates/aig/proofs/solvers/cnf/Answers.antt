@@ -1,9 +1,9 @@
 use Rattle.std.proofs.Common.{◌∙◌, subst}
 use Rattle.aig_commands.specs.Questions.{Asked, WritesQuestion}
 use Rattle.aig_terminal.specs.declared.part.Part.TheVariants as parts
-use Rattle.aig.specs.Ends.{Ends, as_meant, end_of}
+use Rattle.aig.specs.Ends.{Ends, end_of}
 use Rattle.aig.specs.Questions.{asked_by, claims_left}
-use Rattle.aig.proofs.Endings.{answers, ends_unread, of_any_two, of_both, slice_whole}
+use Rattle.aig.proofs.Endings.{answers, ends_flushed, ends_unread, of_any_two, of_both, slice_whole}
 use Rattle.aig.proofs.solvers.cnf.Goals as goal
 
 pub returns : goal.returns
@@ -16,7 +16,7 @@ returns g c =
           (slice_whole (g.F.Read.remaining c.args.circuit) _ _ c.as_slice-file.ensures.value c.in_ok-circuit.ensures.whole) read.2
           (λ xs ys. Ends end_of (WritesQuestion (asked_by c.args.question (λ certificate. ys)) xs) c.ended.result)
           (subst (λ (a : Asked). Ends end_of (WritesQuestion a file) c.ended.result) (c.question_of-asked.ensures ∙ read.1)
-          (as_meant c.cnf.result (answers _ _ c.cnf.result c.cnf.ensures.ends) c.ended.ensures));
+          (ends_flushed _ _ c.cnf-done.result c.ended.result (answers _ _ c.cnf-done.result c.cnf-done.ensures.ends) c.ended.ensures.ends));
     }
 
 pub returns-in_err-circuit : goal.returns-in_err-circuit

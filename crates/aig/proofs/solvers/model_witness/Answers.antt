@@ -2,9 +2,9 @@ use Rattle.std.proofs.Common.{◌∙◌, subst}
 use Rattle.std.specs.Prelude.{IfSome}
 use Rattle.aig_commands.specs.Questions.{Asked, NamesQuestion}
 use Rattle.aig_terminal.specs.declared.part.Part.TheVariants as parts
-use Rattle.aig.specs.Ends.{Ends, as_meant, end_of}
+use Rattle.aig.specs.Ends.{Ends, end_of}
 use Rattle.aig.specs.Questions.{asked_by, claims_left}
-use Rattle.aig.proofs.Endings.{answers, ends_unread, of_any, of_any_two, of_both, of_whole, slice_whole}
+use Rattle.aig.proofs.Endings.{answers, ends_flushed, ends_unread, of_any, of_any_two, of_both, of_whole, slice_whole}
 use Rattle.aig.proofs.solvers.model_witness.Goals as goal
 
 pub returns : goal.returns
@@ -22,7 +22,7 @@ returns g c =
           (slice_whole (g.F.Read.remaining c.args.model) _ _ c.as_slice-text.ensures.value c.in_ok-model.ensures.whole)
           (λ zs. Ends end_of (NamesQuestion (asked_by c.args.question (λ certificate. read.0)) zs file) c.ended.result)
           (subst (λ (a : Asked). Ends end_of (NamesQuestion a text file) c.ended.result) (c.question_of-asked.ensures ∙ read.1)
-          (as_meant c.model_witness.result (answers _ _ c.model_witness.result c.model_witness.ensures.ends) c.ended.ensures)));
+          (ends_flushed _ _ c.model_witness-done.result c.ended.result (answers _ _ c.model_witness-done.result c.model_witness-done.ensures.ends) c.ended.ensures.ends)));
     }
 
 pub returns-in_err-circuit : goal.returns-in_err-circuit

@@ -1,10 +1,10 @@
 use Rattle.std.proofs.Common.{List, ℕ, OnOk, ◌∙◌, subst}
 use Rattle.aig_commands.specs.Questions.{Asked, RefutesQuestion, Says}
 use Rattle.aig_terminal.specs.declared.part.Part.TheVariants as parts
-use Rattle.aig.specs.Ends.{Ends, as_meant, end_of}
+use Rattle.aig.specs.Ends.{Ends, end_of}
 use Rattle.aig.specs.Questions.{asked_by, claims_left}
 use Rattle.aig.proofs.Asked.{some_claims}
-use Rattle.aig.proofs.Endings.{answers, ends_unread, no_end, of_any_two, of_both, ok_of, ok_whole, slice_whole}
+use Rattle.aig.proofs.Endings.{answers, ends_flushed, ends_unread, no_end, of_any_two, of_both, ok_flushed, ok_whole, slice_whole}
 use Rattle.aig.proofs.solvers.refute.Goals as goal
 
 pub returns-clause-says : goal.returns-clause-says
@@ -14,9 +14,9 @@ returns-clause-says g c =
     ok_whole c.ended.result (g.F.Read.remaining c.args.circuit) file
     (slice_whole (g.F.Read.remaining c.args.circuit) _ _ c.as_slice-file.ensures.value c.in_ok-circuit.ensures.whole)
     (λ file. (claims : List ℕ) × Says (asked_by c.args.question (λ certificate. claims)) file)
-    (ok_of _ c.refute.result c.ended.result c.ended.ensures
-    (some_claims c.refute.result (λ claims. Says (asked_by c.args.question (λ certificate. claims)) file) read.0
-    (subst (λ (a : Asked). OnOk c.refute.result (Says a file)) (c.question_of-asked.ensures ∙ read.1) c.refute.ensures.says)))
+    (ok_flushed _ _ _ c.refute-done.result c.ended.result c.ended.ensures.ends
+    (some_claims c.refute-done.result (λ claims. Says (asked_by c.args.question (λ certificate. claims)) file) read.0
+    (subst (λ (a : Asked). OnOk c.refute-done.result (Says a file)) (c.question_of-asked.ensures ∙ read.1) c.refute-done.ensures.says)))
 
 pub returns-in_err-circuit-clause-says : goal.returns-in_err-circuit-clause-says
 returns-in_err-circuit-clause-says g c =
@@ -34,7 +34,7 @@ returns-clause-ends g c =
     (slice_whole (g.F.Read.remaining c.args.circuit) _ _ c.as_slice-file.ensures.value c.in_ok-circuit.ensures.whole) read.2
     (λ xs ys. Ends end_of (RefutesQuestion (asked_by c.args.question (λ certificate. ys)) xs) c.ended.result)
     (subst (λ (a : Asked). Ends end_of (RefutesQuestion a file) c.ended.result) (c.question_of-asked.ensures ∙ read.1)
-    (as_meant c.refute.result (answers _ _ c.refute.result c.refute.ensures.ends) c.ended.ensures))
+    (ends_flushed _ _ c.refute-done.result c.ended.result (answers _ _ c.refute-done.result c.refute-done.ensures.ends) c.ended.ensures.ends))
 
 pub returns-in_err-circuit-clause-ends : goal.returns-in_err-circuit-clause-ends
 returns-in_err-circuit-clause-ends g c =
