@@ -4,9 +4,9 @@ ghost use Rattle.aig_bytes.specs.Bytes.{Writes};
 ghost use Rattle.aig_bytes.specs.Flow.{flow};
 ghost use Rattle.aig_cnf.specs.CnfText.{cnf_text};
 ghost use Rattle.aig_run.specs.Command.{CommandEnds};
-ghost use Rattle.aig_commands.specs.Questions.{WritesFor, WritesQuestion, asked_of};
+ghost use Rattle.aig_commands.specs.Questions.{WritesFor, WritesQuestion, asked_of, heading_of};
 
-use crate::question::Question;
+use crate::question::{Question, circuit_of, formula_of, heading_of};
 use aig_base::{Circuit, Io, Write};
 use aig_cnf::{Formula, Heading};
 use aig_run::RunFault;
@@ -32,14 +32,14 @@ fn write_text<W: Write>(
 fn make_and_write<W: Write>(
     alloc: Global,
     circuit: &mut Circuit,
-    question: Question<'_>,
+    question: Question<&[u8]>,
     out: &mut W,
 ) -> Result<(), RunFault>
     ensures { CommandEnds (flow W.written W.failures out.old out.new) RunFault.Output
-        (WritesFor (asked_of question.entry) circuit.old) result }
+        (WritesFor (heading_of (asked_of question.entry)) circuit.old) result }
 {
-    let formula = question.formula(alloc, circuit)?;
-    write_text(&formula, circuit, question.heading(), out)
+    let formula = formula_of(alloc, question, circuit)?;
+    write_text(&formula, circuit, heading_of(question), out)
 }
 
 /// The command `cnf`: reads a circuit and writes the formula of a question about it in DIMACS, with comment lines that
@@ -57,12 +57,12 @@ fn make_and_write<W: Write>(
 pub fn cnf<W: Write>(
     alloc: Global,
     file: &[u8],
-    question: Question<'_>,
+    question: Question<&[u8]>,
     out: &mut W,
 ) -> Result<(), RunFault>
     ensures ends { CommandEnds (flow W.written W.failures out.old out.new) RunFault.Output
         (WritesQuestion (asked_of question.entry) file.now) result }
 {
-    let mut circuit = question.circuit(alloc, file)?;
+    let mut circuit = circuit_of(alloc, question, file)?;
     make_and_write(alloc, &mut circuit, question, out)
 }

@@ -8,13 +8,13 @@ ghost use Rattle.aig_run.specs.Command.{CommandEnds};
 ghost use Rattle.aig_unroll.specs.FrameLiteral.{input_count};
 ghost use Rattle.aig_unroll.specs.Unrollable.{FitsLimits};
 ghost use Rattle.aig_commands.specs.ModelWitness.{RefusesModel, WritesModel, WritesNamed, variable_count};
-ghost use Rattle.aig_commands.specs.Questions.{NamesFor, NamesQuestion, asked_of};
+ghost use Rattle.aig_commands.specs.Questions.{NamesFor, NamesQuestion, asked_of, heading_of};
 ghost use Rattle.aig_sat.specs.model.ModelText.{IsModelOf};
 
 use crate::named_run::find_named;
-use crate::question::Question;
+use crate::question::{INDUCTION, Question, circuit_of, heading_of};
 use aig_base::{Circuit, Tern, Write};
-use aig_cnf::{CnfFault, Formula, Query};
+use aig_cnf::{CnfFault, Formula, Heading, Query};
 use aig_run::RunFault;
 use aig_sat::{Assignment, ModelFault, read_model};
 use std::alloc::Global;
@@ -98,19 +98,17 @@ fn read_model_and_write<W: Write>(
 fn answer<W: Write>(
     alloc: Global,
     circuit: &mut Circuit,
-    question: Question<'_>,
+    question: Question<&[u8]>,
     model: &[u8],
     out: &mut W,
 ) -> Result<(), RunFault>
     ensures { CommandEnds (flow W.written W.failures out.old out.new) RunFault.Output
-        (NamesFor (asked_of question.entry) model.now circuit.old) result }
+        (NamesFor (heading_of (asked_of question.entry)) model.now circuit.old) result }
 {
-    let query = question.query();
-    match question {
-        Question::Within { .. } => read_model_and_write(alloc, circuit, query, model, out),
-        Question::Step { .. } => read_model_and_write(alloc, circuit, query, model, out),
-        Question::Alive { .. } => Err(RunFault::Cnf(CnfFault::Property)),
-        Question::Certified { .. } => read_model_and_write(alloc, circuit, query, model, out),
+    match heading_of(question) {
+        Heading::Runs(query) => read_model_and_write(alloc, circuit, query, model, out),
+        Heading::Alive(_) => Err(RunFault::Cnf(CnfFault::Property)),
+        Heading::Certified(_) => read_model_and_write(alloc, circuit, INDUCTION, model, out),
     }
 }
 
@@ -126,13 +124,13 @@ fn answer<W: Write>(
 pub fn model_witness<W: Write>(
     alloc: Global,
     file: &[u8],
-    question: Question<'_>,
+    question: Question<&[u8]>,
     model: &[u8],
     out: &mut W,
 ) -> Result<(), RunFault>
     ensures ends { CommandEnds (flow W.written W.failures out.old out.new) RunFault.Output
         (NamesQuestion (asked_of question.entry) model.now file.now) result }
 {
-    let mut circuit = question.circuit(alloc, file)?;
+    let mut circuit = circuit_of(alloc, question, file)?;
     answer(alloc, &mut circuit, question, model, out)
 }

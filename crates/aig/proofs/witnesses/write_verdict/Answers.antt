@@ -9,4 +9,4 @@ returns-then-with_trace g c =
 
 pub returns-else-with_trace : goal.returns-else-with_trace
 returns-else-with_trace g c =
-    rw c.if-with_trace.false (command_ends _ _ (OfFile c.args.circuit.now (OfProperty c.args.property Checks c.args.witness.now)) c.check-done.result c.confirmed.result c.check-done.ensures.ends c.confirmed.ensures.ends)
+    rw c.if-with_trace.false (command_ends _ _ (OfFile c.args.circuit.now (OfProperty c.args.property Checks c.args.witness.now)) c.check-done.result c.confirmed-else-with_trace.result c.check-done.ensures.ends c.confirmed-else-with_trace.ensures.ends)
