@@ -8,6 +8,7 @@ use Rattle.aig_parts.specs.declared.raw.Raw.{Raw}
 use Rattle.aig_sim.specs.declared.witness.verdict.Verdict.{Verdict}
 use Rattle.aig_sim.specs.declared.witness.verdict.Verdict.TheVariants.{Initial, Constraint, NotBad, Confirmed}
 use Rattle.aig_run.specs.Command.{CommandEnds, EndsReading, OfCircuit, OfFile, OfReader, Text}
+use Rattle.aig_run.specs.Flushed.{IsFlushed, flushes, fails}
 use Rattle.aig_run.specs.declared.run_fault.RunFault.{RunFault}
 use Rattle.aig_run.specs.declared.run_fault.RunFault.TheVariants as run_faults
 use Rattle.aig_commands.specs.GoesWell.{GoesWell}
@@ -16,8 +17,8 @@ use Rattle.aig_files.specs.declared.exit.Exit.TheVariants as exits
 use Rattle.aig_files.specs.Known.{still_known}
 use Rattle.aig_terminal.specs.declared.part.Part.{Part}
 use Rattle.aig_terminal.specs.declared.part.Part.TheVariants as parts
-use Rattle.aig.specs.Ends.{Answers, AreConfirmed, ChecksWitness, Ends, ForSomeText, IsUnwritten, as_meant, end_of}
-use Rattle.aig.specs.Ends.{end_of_verdict, unread, writes}
+use Rattle.aig.specs.Ends.{Answers, AreConfirmed, ChecksWitness, Ends, EndsFlushed, ForSomeText, IsUnwritten, as_meant, end_of}
+use Rattle.aig.specs.Ends.{end_of_streamed, end_of_verdict, unread, writes}
 
 -- what holds of the bytes that were read holds of those that the file had left
 pub of_whole : {T : Type 0} (left : Option T) (bytes : T) → IfSome left (λ xs. bytes ≡ xs) → (Q : T → Type 0) → Q bytes
@@ -66,8 +67,8 @@ ends_unwritten (Err e) exit (inr why) is = unread e refl (inr (is ∙ why))
 -- a good answer whose files are written or not
 pub ends_written : {T : Type 0} (Means : Result T RunFault → List ℕ → Type 0) (value : T) (r : Result (Unit {0}) Exit)
     → Answers Means (Ok value) → IfErr r IsUnwritten → Ends end_of Means r
-ends_written Means value (Ok tt) answered fails = as_meant (Ok value) answered refl
-ends_written Means value (Err e) answered fails = ends_unwritten (Err e) e fails refl
+ends_written Means value (Ok tt) answered unwritten = as_meant (Ok value) answered refl
+ends_written Means value (Err e) answered unwritten = ends_unwritten (Err e) e unwritten refl
 
 -- then nothing is asked of a good end
 pub no_end : (P : Type 0) (r : Result (Unit {0}) Exit) (exit : Exit) → IsErrAnd r (λ e. e ≡ exit) → OnOk r P
@@ -79,6 +80,41 @@ pub answers : {X T : Type 0} (out : Flow X) (Means : Result T RunFault → List 
     → CommandEnds out run_faults.Output Means answer → Answers Means answer
 answers out Means answer (CommandEnds.writes_all bytes means got) = writes bytes means
 answers out Means answer (CommandEnds.breaks_off other bytes means breaks) = Answers.fails
+
+-- what it answers after the flush
+pub flushed_answers : {X T : Type 0} (out : Flow X) (Means : Result T RunFault → List ℕ → Type 0) (fault : RunFault)
+    (answer told : Result T RunFault) → Answers Means (Err fault) → Answers Means answer → IsFlushed out fault answer told
+    → Answers Means told
+flushed_answers out Means fault answer told none said (flushes kept count) = said
+flushed_answers out Means fault answer told none said (fails kept count) = none
+
+-- so the program ends as the command means
+pub ends_flushed_with : {X T : Type 0} {end : Result T RunFault → Result (Unit {0}) Exit} (out : Flow X)
+    (Means : Result T RunFault → List ℕ → Type 0) (fault : RunFault) (answer : Result T RunFault) (r : Result (Unit {0}) Exit)
+    → Answers Means (Err fault) → Answers Means answer → EndsFlushed out fault end answer r → Ends end Means r
+ends_flushed_with out Means fault answer r none said (told, flushed, is) =
+    as_meant told (flushed_answers out Means fault answer told none said flushed) is
+
+pub ends_flushed : {X T : Type 0} {end : Result T RunFault → Result (Unit {0}) Exit} (out : Flow X)
+    (Means : Result T RunFault → List ℕ → Type 0) (answer : Result T RunFault) (r : Result (Unit {0}) Exit)
+    → Answers Means answer → EndsFlushed out run_faults.Output end answer r → Ends end Means r
+ends_flushed out Means answer r = ends_flushed_with out Means run_faults.Output answer r Answers.fails
+
+pub command_ends : {X Y T : Type 0} {end : Result T RunFault → Result (Unit {0}) Exit} (out : Flow X) (flushed : Flow Y)
+    (Means : Result T RunFault → List ℕ → Type 0) (answer : Result T RunFault) (r : Result (Unit {0}) Exit)
+    → CommandEnds out run_faults.Output Means answer → EndsFlushed flushed run_faults.Output end answer r → Ends end Means r
+command_ends out flushed Means answer r ends = ends_flushed flushed Means answer r (answers out Means answer ends)
+
+-- the same of one that reads a text meanwhile
+pub text_fails : {T : Type 0} (fault : RunFault) (Means : Text → Result T RunFault → List ℕ → Type 0)
+    → Answers (ForSomeText fault Means) (Err fault)
+text_fails fault Means = writes [] (inl refl)
+
+pub text_flushed : {X T : Type 0} {end : Result T RunFault → Result (Unit {0}) Exit} (out : Flow X) (fault : RunFault)
+    (Means : Text → Result T RunFault → List ℕ → Type 0) (answer : Result T RunFault) (r : Result (Unit {0}) Exit)
+    → Answers (ForSomeText fault Means) answer → EndsFlushed out fault end answer r → Ends end (ForSomeText fault Means) r
+text_flushed out fault Means answer r =
+    ends_flushed_with out (ForSomeText fault Means) fault answer r (text_fails fault Means)
 
 -- and with another meaning
 pub answers_changed : {T : Type 0} (Said Means : Result T RunFault → List ℕ → Type 0)
@@ -102,17 +138,23 @@ file_answers circuit Means file is answer whole (writes bytes said) = writes byt
 file_answers circuit Means file is answer whole Answers.fails = Answers.fails
 
 -- so it ends as it means for these bytes, or the file was not read
-pub streamed_ends : {X Y : Type 0} (out : Flow X) (circuit : Flow Y)
+streamed_told : {Y : Type 0} (circuit : Flow Y) (Means : Raw → Result (Unit {0}) RunFault → List ℕ → Type 0) (file : List ℕ)
+    → circuit.bytes circuit.old ≡ Some file → (told : Result (Unit {0}) RunFault) (r : Result (Unit {0}) Exit)
+    → Answers (OfReader circuit Means) told → r ≡ end_of_streamed told → Ends end_of (OfFile file Means) r
+streamed_told circuit Means file is (Err (run_faults.Circuit circuits.Io)) r said ends =
+    unread (exits.Unread parts.Circuit) ends (inl (parts.Circuit, refl))
+streamed_told circuit Means file is told r said ends =
+    as_meant told (file_answers circuit Means file is told (λ e. cc) said) ends
+
+pub streamed_ends : {X Y Z : Type 0} (out : Flow X) (flushed : Flow Z) (circuit : Flow Y)
     (Means : Raw → Result (Unit {0}) RunFault → List ℕ → Type 0) (file : List ℕ) → circuit.bytes circuit.old ≡ Some file
     → (answer : Result (Unit {0}) RunFault) (r : Result (Unit {0}) Exit)
     → CommandEnds out run_faults.Output (OfReader circuit Means) answer
-    → (answer ≡ Err (run_faults.Circuit circuits.Io) → r ≡ Err (exits.Unread parts.Circuit))
-    → (answer ≢ Err (run_faults.Circuit circuits.Io) → r ≡ end_of answer) → Ends end_of (OfFile file Means) r
-streamed_ends out circuit Means file is (Err (run_faults.Circuit circuits.Io)) r ends failed others =
-    unread (exits.Unread parts.Circuit) (failed refl) (inl (parts.Circuit, refl))
-streamed_ends out circuit Means file is answer r ends failed others =
-    as_meant answer (file_answers circuit Means file is answer (λ e. cc) (answers out (OfReader circuit Means) answer ends))
-    (others (λ e. cc))
+    → EndsFlushed flushed run_faults.Output end_of_streamed answer r → Ends end_of (OfFile file Means) r
+streamed_ends out flushed circuit Means file is answer r ends (told, flush, e) =
+    streamed_told circuit Means file is told r
+    (flushed_answers flushed (OfReader circuit Means) run_faults.Output answer told Answers.fails
+    (answers out (OfReader circuit Means) answer ends) flush) e
 
 -- a reader that knew its bytes at first knows them now
 pub known_at_first : (first now : Option (List ℕ)) (file : List ℕ) → first ≡ Some file → now ≡ Some file
@@ -149,15 +191,21 @@ pub goes_well : {T : Type 0} (Means : Result T RunFault → List ℕ → Type 0)
 goes_well Means value (writes bytes means) = (value, bytes, means)
 
 -- only a good answer is a good end
-pub ok_of : {T : Type 0} (P : Type 0) (answer : Result T RunFault) (r : Result (Unit {0}) Exit) → r ≡ end_of answer → OnOk answer P
+ok_of : {T : Type 0} (P : Type 0) (answer : Result T RunFault) (r : Result (Unit {0}) Exit) → r ≡ end_of answer → OnOk answer P
     → OnOk r P
 ok_of P (Ok value) (Ok done) is p = p
 ok_of P (Err fault) (Ok done) is p = cc
 ok_of P (Ok value) (Err e) is p = tt
 ok_of P (Err fault) (Err e) is p = tt
 
+-- also after the flush
+pub ok_flushed : {X T : Type 0} (P : Type 0) (out : Flow X) (fault : RunFault) (answer : Result T RunFault)
+    (r : Result (Unit {0}) Exit) → EndsFlushed out fault end_of answer r → OnOk answer P → OnOk r P
+ok_flushed {T = T} P out fault answer r (told, flushes kept count, is) p = ok_of P answer r is p
+ok_flushed {T = T} P out fault answer r (told, fails kept count, is) p = ok_of {T = T} P (Err fault) r is tt
+
 -- a good end of a check is that of a confirmed witness
-pub confirmed_file : (trace : Bool) (asked : Option ℕ) (file text : List ℕ) (answer : Result Verdict RunFault)
+confirmed_file : (trace : Bool) (asked : Option ℕ) (file text : List ℕ) (answer : Result Verdict RunFault)
     (r : Result (Unit {0}) Exit) → Answers (OfFile file (ChecksWitness trace asked text)) answer → r ≡ end_of_verdict answer
     → OnOk r (AreConfirmed asked file text)
 confirmed_file trace asked file text answer (Err e) a is = tt
@@ -173,6 +221,12 @@ confirmed_file true (Some property) file text (Ok Confirmed) (Ok done) (writes b
     (raw, is_file, means.0, of)
 confirmed_file false (Some property) file text (Ok Confirmed) (Ok done) (writes bytes (raw, is_file, (of, means))) is =
     (raw, is_file, means.0, of)
+
+pub confirmed_end : (trace : Bool) (asked : Option ℕ) (file text : List ℕ) (r : Result (Unit {0}) Exit)
+    → Ends end_of_verdict (OfFile file (ChecksWitness trace asked text)) r → OnOk r (AreConfirmed asked file text)
+confirmed_end trace asked file text r (as_meant answer said is) = confirmed_file trace asked file text answer r said is
+confirmed_end trace asked file text (Err e) (unread exit is why) = tt
+confirmed_end trace asked file text (Ok done) (unread exit is why) = let no : ⊥ = cc in absurd no
 
 -- what holds of a good end, of bytes that were read
 pub ok_whole : (r : Result (Unit {0}) Exit) (left : Option (List ℕ)) (bytes : List ℕ) → IfSome left (λ xs. bytes ≡ xs)

@@ -10,12 +10,12 @@ use Rattle.aig_run.specs.Position.{IsPositionIn}
 use Rattle.aig_files.specs.Source.{source_remaining}
 use Rattle.aig_files.specs.declared.source.Source.{Source}
 use Rattle.aig_cli.specs.Held.{HoldsFlag, HoldsNumber}
+use Rattle.aig_commands.specs.declared.question.Question.{Question}
+use Rattle.aig_commands.specs.declared.question.Question.TheVariants as questions
 use Rattle.aig_why.specs.declared.command.Span.{Span}
 use Rattle.aig.specs.GivenFiles.{IsWitness}
 use Rattle.aig.specs.declared.command.Command.{Command}
 use Rattle.aig.specs.declared.command.Command.TheVariants as commands
-use Rattle.aig.specs.declared.questions.QuestionFile.{QuestionFile}
-use Rattle.aig.specs.declared.questions.QuestionFile.TheVariants as files
 
 -- a text names the bad state property at this position: by its number, or else by its name in the circuit that is read,
 -- whose bytes are all there
@@ -44,14 +44,14 @@ HoldsClaim matches circuit frames property =
     HoldsNumber matches (codes "K") (Some frames) × HoldsProperty matches circuit property
 
 -- what is asked of the circuit, where `step` says whether it is the step of an induction
-abbrev pub HoldsAsked : {F : Type 0} → ArgMatches → Bool → Source F → QuestionFile (Source F) → Type 0
-HoldsAsked matches step circuit (files.Within k p) = (step ≡ false) × HoldsClaim matches circuit k p
-HoldsAsked matches step circuit (files.Step k p) = (step ≡ true) × HoldsClaim matches circuit k p
-HoldsAsked matches step circuit (files.Alive k) = HoldsNumber matches (codes "K") (Some k)
-HoldsAsked matches step circuit (files.Certified certificate p) = HoldsProperty matches circuit p
+abbrev pub HoldsAsked : {F : Type 0} → ArgMatches → Bool → Source F → Question (Source F) → Type 0
+HoldsAsked matches step circuit (questions.Within k p) = (step ≡ false) × HoldsClaim matches circuit k p
+HoldsAsked matches step circuit (questions.Step k p) = (step ≡ true) × HoldsClaim matches circuit k p
+HoldsAsked matches step circuit (questions.Alive k) = HoldsNumber matches (codes "K") (Some k)
+HoldsAsked matches step circuit (questions.Certified certificate p) = HoldsProperty matches circuit p
 
 -- the same, by the flag of the step
-abbrev pub HoldsQuestion : {F : Type 0} → ArgMatches → Source F → QuestionFile (Source F) → Type 0
+abbrev pub HoldsQuestion : {F : Type 0} → ArgMatches → Source F → Question (Source F) → Type 0
 HoldsQuestion matches circuit question =
     (step : Bool) × HoldsFlag matches (codes "step") step × HoldsAsked matches step circuit question
 

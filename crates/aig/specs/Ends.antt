@@ -1,6 +1,8 @@
 -- How the program takes a command's answer. Standard output is the system's: no clause says which bytes reach it.
 -- Examples: `bench` with a faulty stimulus ends with the stimulus's fault; `not bad` ends as `NotConfirmed`.
 use Rattle.std.specs.Prelude.{◌≡◌, ◌⊎◌, ℕ, List, Bool, true, false, Option, Result, Ok, Err, IfSome}
+use Rattle.aig_bytes.specs.Flow.{Flow}
+use Rattle.aig_parts.specs.declared.fault.Fault.TheVariants as circuits
 use Rattle.aig_parts.specs.declared.raw.Raw.{Raw}
 use Rattle.aig_sim.specs.declared.witness.verdict.Verdict.{Verdict}
 use Rattle.aig_sim.specs.declared.witness.verdict.Verdict.TheVariants.{Initial, Constraint, NotBad, Confirmed}
@@ -8,11 +10,13 @@ use Rattle.aig_sim.specs.WitnessText.{IsWitnessOf}
 use Rattle.aig_base.specs.declared.select.PropertySection.{PropertySection}
 use Rattle.aig_format.specs.declared.reader.header.Format.{Format}
 use Rattle.aig_run.specs.Command.{IsFileOf, OfCircuit, Text}
+use Rattle.aig_run.specs.Flushed.{IsFlushed}
 use Rattle.aig_run.specs.declared.run_fault.RunFault.{RunFault}
 use Rattle.aig_run.specs.declared.run_fault.RunFault.TheVariants as run_faults
 use Rattle.aig_files.specs.declared.exit.Exit.{Exit}
 use Rattle.aig_files.specs.declared.exit.Exit.TheVariants as exits
 use Rattle.aig_terminal.specs.declared.part.Part.{Part}
+use Rattle.aig_terminal.specs.declared.part.Part.TheVariants as parts
 use Rattle.aig_commands.specs.Check.{Checks, ChecksAndTraces, OfProperty, ShowsVerdict}
 use Rattle.aig_commands.specs.Select.{SelectsNamed}
 use Rattle.aig_commands.specs.declared.select.NamedSelection.{NamedSelection}
@@ -34,6 +38,11 @@ abbrev pub end_of : {T : Type 0} → Result T RunFault → Result (Unit {0}) Exi
 end_of (Ok value) = Ok tt
 end_of (Err fault) = Err (exits.Run fault)
 
+-- the same where the circuit is streamed: one that was not read to its end is reported as a file is
+abbrev pub end_of_streamed : Result (Unit {0}) RunFault → Result (Unit {0}) Exit
+end_of_streamed (Err (run_faults.Circuit circuits.Io)) = Err (exits.Unread parts.Circuit)
+end_of_streamed answer = end_of answer
+
 -- How it ends for a verdict: as a success for `confirmed` alone.
 abbrev pub end_of_verdict : Result Verdict RunFault → Result (Unit {0}) Exit
 end_of_verdict (Ok (Initial latch)) = Err exits.NotConfirmed
@@ -41,6 +50,12 @@ end_of_verdict (Ok (Constraint frame constraint)) = Err exits.NotConfirmed
 end_of_verdict (Ok NotBad) = Err exits.NotConfirmed
 end_of_verdict (Ok Confirmed) = Ok tt
 end_of_verdict (Err fault) = Err (exits.Run fault)
+
+-- how it ends for an answer whose writer is flushed then: where that fails, for this fault
+abbrev pub EndsFlushed : {X T : Type 0} → Flow X → RunFault → (Result T RunFault → Result (Unit {0}) Exit)
+    → Result T RunFault → Result (Unit {0}) Exit → Type 0
+EndsFlushed {T = T} out fault end answer result =
+    (told : Result T RunFault) × IsFlushed out fault answer told × (result ≡ end told)
 
 -- a file was not read to its end, or memory for it was missing
 abbrev pub IsUnread : Exit → Type 0

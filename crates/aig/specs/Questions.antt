@@ -1,20 +1,17 @@
 -- What a command asks of a circuit, by the file of a certificate.
 -- Example: a certificate whose file has two bytes left is a question about these two.
-use Rattle.std.specs.Prelude.{ℕ, List, [], Option, Some}
-use Rattle.aig_commands.specs.Questions.{Asked, alive, by_certificate, by_step, within_frames}
-use Rattle.aig.specs.declared.questions.QuestionFile.{QuestionFile}
-use Rattle.aig.specs.declared.questions.QuestionFile.TheVariants as files
+use Rattle.std.specs.Prelude.{ℕ, List, [], Option, None, Some}
+use Rattle.aig_commands.specs.Questions.{Asked, certificate_of, question_map}
+use Rattle.aig_commands.specs.declared.question.Question.{Question}
 
 -- what is asked, by the bytes of the certificate
-abbrev pub asked_by : {F : Type 0} → QuestionFile F → (F → List ℕ) → Asked
-asked_by (files.Within k p) bytes = within_frames k p
-asked_by (files.Step k p) bytes = by_step k p
-asked_by (files.Alive k) bytes = alive k
-asked_by (files.Certified certificate p) bytes = by_certificate (bytes certificate) p
+abbrev pub asked_by : {F : Type 0} → Question F → (F → List ℕ) → Asked
+asked_by question bytes = question_map bytes question
 
 -- the bytes that the certificate has left, where the type of an open file says which; without a certificate none
-abbrev pub claims_left : {F : Type 0} → (F → Option (List ℕ)) → QuestionFile F → Option (List ℕ)
-claims_left left (files.Within k p) = Some []
-claims_left left (files.Step k p) = Some []
-claims_left left (files.Alive k) = Some []
-claims_left left (files.Certified certificate p) = left certificate
+abbrev pub left_of : {F : Type 0} → (F → Option (List ℕ)) → Option (F × ℕ) → Option (List ℕ)
+left_of left (Some (certificate, p)) = left certificate
+left_of left None = Some []
+
+abbrev pub claims_left : {F : Type 0} → (F → Option (List ℕ)) → Question F → Option (List ℕ)
+claims_left left question = left_of left (certificate_of question)

@@ -10,6 +10,7 @@ use aig_commands::certified::Certified;
 use aig_commands::strengthen;
 use aig_files::{Exit, Part, output, read_whole};
 use aig_format::Format;
+use aig_run::RunFault;
 use std::io::Read;
 
 /// Writes a circuit that is strengthened by a certificate.
@@ -33,5 +34,6 @@ pub fn strengthen<R: AllocGlobal + Print, F: Read + Drop>(
         certificate: claims,
     };
     let mut out = output(rt);
-    ended(strengthen::strengthen(rt.alloc(), certified, to, &mut out))
+    let done = strengthen::strengthen(rt.alloc(), certified, to, &mut out);
+    ended(done, &mut out, RunFault::Output)
 }

@@ -11,8 +11,8 @@ use crate::properties::{
     open_circuit_and_properties, open_circuit_and_property, open_circuit_and_question,
     open_circuit_and_reached, open_circuit_and_runs,
 };
-use crate::questions::QuestionFile;
 use aig_cli::{has_flag, subcommand_of, text_of};
+use aig_commands::question::Question;
 use aig_files::{Exit, Part, Source, open};
 use aig_run::Given;
 use aig_terminal::{Terminal, Tracked};
@@ -310,7 +310,7 @@ fn open_refute_certified<'m, 't, R: Files + AllocGlobal + Clock + Eprint>(
     let (circuit, property) = open_circuit_and_property(terminal, matches)?;
     let proof = open_named(terminal, matches, "PROOF", Part::Proof)?;
     let certificate = open_certificate(terminal, matches)?;
-    let question = QuestionFile::Certified {
+    let question = Question::Certified {
         certificate,
         property,
     };

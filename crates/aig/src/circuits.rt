@@ -7,17 +7,17 @@ ghost use Rattle.aig_commands.specs.Names.{ListsNames};
 ghost use Rattle.aig_commands.specs.Select.{Selects};
 ghost use Rattle.aig_commands.specs.Toaig.{Converts};
 ghost use Rattle.aig_commands.specs.Unroll.{UnrollsKept};
-ghost use Rattle.aig.specs.Ends.{Answers, Ends, EndsSelectingNamed, end_of};
+ghost use Rattle.aig.specs.Ends.{Ends, EndsSelectingNamed, end_of};
 
 use crate::command::Selection;
 use crate::ended::{ended, streamed};
 use crate::kept::{begin_map, write_map};
-use aig_base::{Circuit, Std};
+use aig_base::Std;
 use aig_commands::select::NamedSelection;
-use aig_commands::{info, select, toaig, unroll};
+use aig_commands::{convert_from, info, select, unroll};
 use aig_files::{Exit, Known, OutputFile, Part, output, read_whole};
 use aig_format::Format;
-use aig_run::RunFault;
+use aig_run::{RunFault, flushed};
 use aig_terminal::Terminal;
 use std::fs::{Files, Metadata};
 use std::io::Read;
@@ -34,7 +34,8 @@ pub fn toaig<R: AllocGlobal + Print, F: Read + Drop>(
 {
     let mut circuit = Std::new(circuit);
     let mut out = output(rt);
-    ended(toaig::toaig(rt.alloc(), &mut circuit, to, &mut out))
+    let done = convert_from(rt.alloc(), &mut circuit, to, &mut out);
+    ended(done, &mut out, RunFault::Output)
 }
 
 /// Writes a circuit unrolled for `frames` frames.
@@ -49,7 +50,9 @@ pub fn unroll<R: AllocGlobal + Print, F: Read + Drop>(
 {
     let circuit = read_whole(rt.alloc(), circuit, Part::Circuit)?;
     let file = circuit.as_slice();
-    ended(write_unrolled(rt, frames, to, file))
+    let mut out = output(rt);
+    let done = unroll::unroll(rt.alloc(), file, frames, to, &mut out);
+    ended(done, &mut out, RunFault::Output)
 }
 
 /// Writes it, and to the file `map` what its inputs are. `opened` is the circuit's file, which the map must not
@@ -84,21 +87,10 @@ where
     R::File: AsFd,
     ensures { OnOk result (GoesWell (OfFile circuit.now (UnrollsKept frames to))) }
 {
-    let circuit = write_unrolled(terminal, frames, to, circuit)?;
+    let mut out = output(terminal);
+    let done = unroll::unroll(terminal.alloc(), circuit, frames, to, &mut out);
+    let circuit = flushed(done, &mut out, RunFault::Output)?;
     Ok(write_map(terminal.runtime(), &circuit, frames, map)?)
-}
-
-/// Writes the unrolled circuit, and returns the circuit that was read.
-fn write_unrolled<R: AllocGlobal + Print>(
-    rt: &R,
-    frames: u32,
-    to: Format,
-    circuit: &[u8],
-) -> Result<Circuit, RunFault>
-    ensures { Answers (OfFile circuit.now (UnrollsKept frames to)) result }
-{
-    let mut out = output(rt);
-    unroll::unroll(rt.alloc(), circuit, frames, to, &mut out)
 }
 
 /// Writes facts about a circuit.
@@ -108,7 +100,8 @@ pub fn info<R: AllocGlobal + Print, F: Read + Drop>(rt: &R, circuit: F) -> Resul
 {
     let mut circuit = Known::new(circuit);
     let mut out = output(rt);
-    streamed(info::info(rt.alloc(), &mut circuit, &mut out))
+    let done = info::info(rt.alloc(), &mut circuit, &mut out);
+    streamed(done, &mut out)
 }
 
 /// Writes the entries of a circuit with their names.
@@ -117,7 +110,8 @@ pub fn info_names<R: AllocGlobal + Print, F: Read + Drop>(rt: &R, circuit: F) ->
 {
     let mut circuit = Std::new(circuit);
     let mut out = output(rt);
-    ended(info::info_names(rt.alloc(), &mut circuit, &mut out))
+    let done = info::info_names(rt.alloc(), &mut circuit, &mut out);
+    ended(done, &mut out, RunFault::Output)
 }
 
 /// Writes a circuit with some of its properties.
@@ -131,7 +125,7 @@ pub fn select<R: AllocGlobal + Print, F: Read + Drop>(
 {
     let mut circuit = Std::new(circuit);
     let mut out = output(rt);
-    ended(select::select(
+    let done = select::select(
         rt.alloc(),
         &mut circuit,
         selection.from,
@@ -139,7 +133,8 @@ pub fn select<R: AllocGlobal + Print, F: Read + Drop>(
         selection.positions.as_slice(),
         to,
         &mut out,
-    ))
+    );
+    ended(done, &mut out, RunFault::Output)
 }
 
 /// Writes a circuit with some of its properties, under the names of a text.
@@ -164,5 +159,6 @@ pub fn select_named<R: AllocGlobal + Print, F: Read + Drop>(
         names: text,
     };
     let mut out = output(rt);
-    ended(select::select_named(rt.alloc(), &mut circuit, selection, to, &mut out))
+    let done = select::select_named(rt.alloc(), &mut circuit, selection, to, &mut out);
+    ended(done, &mut out, RunFault::Output)
 }

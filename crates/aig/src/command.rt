@@ -3,13 +3,13 @@ ghost use Rattle.aig.specs.Commands.{EndsAsMeant};
 
 use crate::certificates::strengthen;
 use crate::circuits::{info, info_names, select, select_named, toaig, unroll, unroll_and_map};
-use crate::questions::QuestionFile;
 use crate::sessions::shell;
 use crate::simulations::{bench, sim, wave};
 use crate::solvers::{cnf, model_witness, refute};
 use crate::why::why;
 use crate::witnesses::{check, reduce, wave_witness, witness};
 use aig_base::PropertySection;
+use aig_commands::question::Question;
 use aig_files::{Exit, Kept};
 use aig_format::Format;
 use aig_run::Given;
@@ -88,7 +88,7 @@ pub enum Command<'a, F> {
     },
     /// `cnf`: the formula of a question.
     Cnf {
-        question: QuestionFile<F>,
+        question: Question<F>,
         circuit: F,
     },
     /// `info`: facts about a circuit.
@@ -120,14 +120,14 @@ pub enum Command<'a, F> {
     },
     /// `witness --model`: that of a solver's model of a question's formula.
     ModelWitness {
-        question: QuestionFile<F>,
+        question: Question<F>,
         circuit: F,
         model: F,
     },
     /// `refute`: the check of a proof about a question's formula. The proof of a step is an empty file where none is
     /// asked for.
     Refute {
-        question: QuestionFile<F>,
+        question: Question<F>,
         circuit: F,
         proof: F,
         step: F,

@@ -1,28 +1,35 @@
-//! How the program ends for a command's answer.
-ghost use Rattle.std.specs.Prelude.{◌≡◌, ◌≢◌, Err, IfErr};
-ghost use Rattle.aig.specs.Ends.{IsUnwritten, end_of, end_of_verdict};
+//! How the program ends for a command's answer. What the command wrote is flushed first.
+ghost use Rattle.std.specs.Prelude.{◌≡◌, IfErr};
+ghost use Rattle.aig_bytes.specs.Flow.{flow};
+ghost use Rattle.aig.specs.Ends.{EndsFlushed, IsUnwritten, end_of, end_of_streamed, end_of_verdict};
 
-use aig_base::Fault;
+use aig_base::{Fault, Write};
 use aig_files::{Exit, OUTPUT, Part, Unwritten};
-use aig_run::RunFault;
+use aig_run::{RunFault, flushed};
 use aig_sim::Verdict;
 
-/// Without a fault it ends well.
-pub fn ended<T: Drop>(answer: Result<T, RunFault>) -> Result<(), Exit>
-    ensures { result ≡ end_of answer }
+/// Without a fault it ends well. If the flush fails, it ends with `part`.
+pub fn ended<T: Drop, W: Write>(
+    answer: Result<T, RunFault>,
+    out: &mut W,
+    part: RunFault,
+) -> Result<(), Exit>
+    ensures ends { EndsFlushed (flow W.written W.failures out.old out.new) part end_of answer result }
+    ensures flushed { W.failures out.new ≡ W.failures out.old → W.is_flushed out.new }
 {
-    match answer {
+    match flushed(answer, out, part) {
         Ok(_) => Ok(()),
         Err(fault) => Err(Exit::Run(fault)),
     }
 }
 
 /// Where a read of a circuit that is streamed failed, it ends as for a file that is read whole.
-pub fn streamed(answer: Result<(), RunFault>) -> Result<(), Exit>
-    ensures unread { answer ≡ Err (RunFault.Circuit Fault.Io) → result ≡ Err (Exit.Unread Part.Circuit) }
-    ensures others { answer ≢ Err (RunFault.Circuit Fault.Io) → result ≡ end_of answer }
+pub fn streamed<W: Write>(answer: Result<(), RunFault>, out: &mut W) -> Result<(), Exit>
+    ensures ends { EndsFlushed (flow W.written W.failures out.old out.new) RunFault.Output end_of_streamed answer
+        result }
+    ensures flushed { W.failures out.new ≡ W.failures out.old → W.is_flushed out.new }
 {
-    match answer {
+    match flushed(answer, out, RunFault::Output) {
         Err(RunFault::Circuit(Fault::Io)) => Err(Exit::Unread(Part::Circuit)),
         Err(fault) => Err(Exit::Run(fault)),
         Ok(()) => Ok(()),
@@ -30,10 +37,12 @@ pub fn streamed(answer: Result<(), RunFault>) -> Result<(), Exit>
 }
 
 /// For a verdict other than `confirmed` it ends with another status, as the verdict is printed already.
-pub fn confirmed(answer: Result<Verdict, RunFault>) -> Result<(), Exit>
-    ensures { result ≡ end_of_verdict answer }
+pub fn confirmed<W: Write>(answer: Result<Verdict, RunFault>, out: &mut W) -> Result<(), Exit>
+    ensures ends { EndsFlushed (flow W.written W.failures out.old out.new) RunFault.Output end_of_verdict answer
+        result }
+    ensures flushed { W.failures out.new ≡ W.failures out.old → W.is_flushed out.new }
 {
-    match answer {
+    match flushed(answer, out, RunFault::Output) {
         Ok(Verdict::Confirmed) => Ok(()),
         Ok(Verdict::Initial(_) | Verdict::Constraint(..) | Verdict::NotBad) => {
             Err(Exit::NotConfirmed)

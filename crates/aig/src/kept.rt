@@ -4,7 +4,7 @@ use aig_base::{Buffered, Circuit, Std};
 use aig_bench::Bench;
 use aig_commands::unroll::unroll_map;
 use aig_files::{Kept, NewFile, OutputFile, Unwritten, find, open_pipe};
-use aig_run::RunFault;
+use aig_run::{RunFault, flushed};
 use aig_script::{keep_circuit, keep_stimulus};
 use aig_sim::PlaneGrid;
 use aig_terminal::Shown;
@@ -294,5 +294,6 @@ fn write_inputs<F: io::Write>(
     file: &mut F,
 ) -> Result<(), RunFault> {
     let mut out = Buffered::new(Std::new(file));
-    unroll_map(circuit, frames, &mut out)
+    let done = unroll_map(circuit, frames, &mut out);
+    flushed(done, &mut out, RunFault::Output)
 }

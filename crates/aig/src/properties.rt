@@ -4,9 +4,9 @@ ghost use Rattle.aig.specs.Chosen.{HoldsAsked, HoldsProperty, HoldsReached, Name
 
 use crate::named_files::{open_certificate, open_circuit, open_file};
 use crate::options::{frames_of, property_text};
-use crate::questions::QuestionFile;
 use aig_base::PropertySection;
 use aig_cli::{has_flag, text_of, texts_of};
+use aig_commands::question::Question;
 use aig_files::{Exit, Part, Source, read_whole};
 use aig_names::{number_of as number_in, position_of};
 use aig_run::{RunFault, position_in, read_circuit};
@@ -60,7 +60,7 @@ pub fn open_circuit_and_runs<'t, R: Files + AllocGlobal + Clock + Eprint>(
 ) -> Result<
     (
         Source<Tracked<'t, R, R::File>>,
-        QuestionFile<Source<Tracked<'t, R, R::File>>>,
+        Question<Source<Tracked<'t, R, R::File>>>,
     ),
     Exit,
 >
@@ -69,13 +69,13 @@ pub fn open_circuit_and_runs<'t, R: Files + AllocGlobal + Clock + Eprint>(
     let frames = frames_of(matches)?;
     if has_flag(matches, "alive") {
         let circuit = open_circuit(terminal, matches)?;
-        return Ok((circuit, QuestionFile::Alive { frames }));
+        return Ok((circuit, Question::Alive { frames }));
     }
     let (circuit, property) = open_circuit_and_property(terminal, matches)?;
     if step {
-        Ok((circuit, QuestionFile::Step { frames, property }))
+        Ok((circuit, Question::Step { frames, property }))
     } else {
-        Ok((circuit, QuestionFile::Within { frames, property }))
+        Ok((circuit, Question::Within { frames, property }))
     }
 }
 
@@ -87,7 +87,7 @@ pub fn open_circuit_and_question<'t, R: Files + AllocGlobal + Clock + Eprint>(
 ) -> Result<
     (
         Source<Tracked<'t, R, R::File>>,
-        QuestionFile<Source<Tracked<'t, R, R::File>>>,
+        Question<Source<Tracked<'t, R, R::File>>>,
     ),
     Exit,
 >
@@ -98,7 +98,7 @@ pub fn open_circuit_and_question<'t, R: Files + AllocGlobal + Clock + Eprint>(
     }
     let (circuit, property) = open_circuit_and_property(terminal, matches)?;
     let certificate = open_certificate(terminal, matches)?;
-    let question = QuestionFile::Certified {
+    let question = Question::Certified {
         certificate,
         property,
     };

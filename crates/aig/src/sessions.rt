@@ -8,7 +8,7 @@ use crate::given_file::{read_given_file, text_of_given};
 use crate::kept::{Failure, keep_texts};
 use aig_base::Std;
 use aig_files::{Exit, Kept, Part, Unwritten, output, read_whole};
-use aig_run::Given;
+use aig_run::{Given, RunFault};
 use aig_shell::{FileText, Keep, Reason, Unkept, run_shell};
 use aig_terminal::Terminal;
 use std::fs::Files;
@@ -128,7 +128,7 @@ where
     };
     let mut lines = Std::new(terminal.runtime().reader());
     let mut out = output(terminal);
-    ended(run_shell(
+    let done = run_shell(
         terminal.alloc(),
         circuit,
         given,
@@ -136,5 +136,6 @@ where
         &mut files,
         &mut lines,
         &mut out,
-    ))
+    );
+    ended(done, &mut out, RunFault::Shell)
 }

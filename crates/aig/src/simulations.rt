@@ -12,7 +12,7 @@ use crate::kept::BenchFiles;
 use aig_base::Std;
 use aig_commands::{sim, wave};
 use aig_files::{Exit, Kept, Part, output, read_whole};
-use aig_run::{RunFault, ScriptFault};
+use aig_run::{RunFault, ScriptFault, flushed};
 use aig_script::bench;
 use aig_sim::StimFault;
 use aig_terminal::Terminal;
@@ -33,7 +33,8 @@ pub fn sim<R: AllocGlobal + Print, F: Read + Drop>(
     let mut circuit = Std::new(circuit);
     let mut stimulus = Std::new(stimulus);
     let mut out = output(rt);
-    ended(sim::sim(rt.alloc(), &mut circuit, &mut stimulus, &mut out))
+    let done = sim::sim(rt.alloc(), &mut circuit, &mut stimulus, &mut out);
+    ended(done, &mut out, RunFault::Stimulus(StimFault::Io))
 }
 
 /// Writes the value change dump of a stimulus.
@@ -48,7 +49,8 @@ pub fn wave<R: AllocGlobal + Print, F: Read + Drop>(
     let mut circuit = Std::new(circuit);
     let mut stimulus = Std::new(stimulus);
     let mut out = output(rt);
-    ended(wave::wave(rt.alloc(), &mut circuit, &mut stimulus, &mut out))
+    let done = wave::wave(rt.alloc(), &mut circuit, &mut stimulus, &mut out);
+    ended(done, &mut out, RunFault::Stimulus(StimFault::Io))
 }
 
 /// Writes the replies to a script, and the files of `--circuit-out` and `--stimulus-out`.
@@ -85,7 +87,8 @@ where
 {
     let mut script = Std::new(script);
     let mut out = output(terminal);
-    match bench::bench(terminal.alloc(), circuit, stimulus, &mut script, &mut out) {
+    let done = bench::bench(terminal.alloc(), circuit, stimulus, &mut script, &mut out);
+    match flushed(done, &mut out, RunFault::Script(ScriptFault::Io)) {
         Ok(bench) => written(files.write(terminal.runtime(), &bench)),
         Err(fault) => Err(Exit::Run(fault)),
     }

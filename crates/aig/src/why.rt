@@ -8,7 +8,7 @@ ghost use Rattle.aig.specs.GivenFiles.{given_left};
 use crate::ended::ended;
 use crate::given_file::{read_given_file, text_of_given};
 use aig_files::{Exit, Part, output, read_whole};
-use aig_run::Given;
+use aig_run::{Given, RunFault};
 use aig_why::Span;
 use std::io::Read;
 
@@ -29,7 +29,8 @@ pub fn why<R: AllocGlobal + Print, F: Read + Drop>(
     let file = circuit.as_slice();
     let run = text_of_given(&given);
     let mut out = output(rt);
-    ended(aig_why::why(rt.alloc(), file, run, bytes_of(name), span, &mut out))
+    let done = aig_why::why(rt.alloc(), file, run, bytes_of(name), span, &mut out);
+    ended(done, &mut out, RunFault::Output)
 }
 
 /// Returns the bytes of a name if there is one.

@@ -4,13 +4,12 @@ ghost use Rattle.aig_run.specs.Command.{OfFile};
 ghost use Rattle.aig_commands.specs.Reduce.{Reduces};
 ghost use Rattle.aig_commands.specs.Wave.{DumpsRun};
 ghost use Rattle.aig_commands.specs.Witness.{WritesWitness};
-ghost use Rattle.aig.specs.Ends.{AreConfirmed, Answers, ChecksWitness, Ends, end_of, end_of_verdict};
+ghost use Rattle.aig.specs.Ends.{AreConfirmed, ChecksWitness, Ends, end_of, end_of_verdict};
 
 use crate::ended::{confirmed, ended};
 use aig_commands::{check, reduce, wave, witness};
 use aig_files::{Exit, Part, output, read_whole};
 use aig_run::RunFault;
-use aig_sim::Verdict;
 use std::io::Read;
 
 /// Writes the verdict on a witness, and before it the trace of its run if `with_trace`. If a property is asked for, a
@@ -31,7 +30,7 @@ pub fn check<R: AllocGlobal + Print, F: Read + Drop>(
     let witness = read_whole(rt.alloc(), witness, Part::Witness)?;
     let file = circuit.as_slice();
     let text = witness.as_slice();
-    confirmed(write_verdict(rt, with_trace, property, file, text))
+    write_verdict(rt, with_trace, property, file, text)
 }
 
 fn write_verdict<R: AllocGlobal + Print>(
@@ -40,14 +39,16 @@ fn write_verdict<R: AllocGlobal + Print>(
     property: Option<u32>,
     circuit: &[u8],
     witness: &[u8],
-) -> Result<Verdict, RunFault>
-    ensures { Answers (OfFile circuit.now (ChecksWitness with_trace property witness.now)) result }
+) -> Result<(), Exit>
+    ensures { Ends end_of_verdict (OfFile circuit.now (ChecksWitness with_trace property witness.now)) result }
 {
     let mut out = output(rt);
     if with_trace {
-        check::check_and_trace(rt.alloc(), circuit, witness, property, &mut out)
+        let done = check::check_and_trace(rt.alloc(), circuit, witness, property, &mut out);
+        confirmed(done, &mut out)
     } else {
-        check::check(rt.alloc(), circuit, witness, property, &mut out)
+        let done = check::check(rt.alloc(), circuit, witness, property, &mut out);
+        confirmed(done, &mut out)
     }
 }
 
@@ -65,7 +66,8 @@ pub fn reduce<R: AllocGlobal + Print, F: Read + Drop>(
     let file = circuit.as_slice();
     let text = witness.as_slice();
     let mut out = output(rt);
-    confirmed(reduce::reduce(rt.alloc(), file, text, &mut out))
+    let done = reduce::reduce(rt.alloc(), file, text, &mut out);
+    confirmed(done, &mut out)
 }
 
 /// Writes the value change dump of a witness's run.
@@ -82,7 +84,8 @@ pub fn wave_witness<R: AllocGlobal + Print, F: Read + Drop>(
     let file = circuit.as_slice();
     let text = witness.as_slice();
     let mut out = output(rt);
-    ended(wave::wave_witness(rt.alloc(), file, text, &mut out))
+    let done = wave::wave_witness(rt.alloc(), file, text, &mut out);
+    ended(done, &mut out, RunFault::Output)
 }
 
 /// Writes the witness that the run over a stimulus reaches a property.
@@ -100,5 +103,6 @@ pub fn witness<R: AllocGlobal + Print, F: Read + Drop>(
     let file = circuit.as_slice();
     let text = stimulus.as_slice();
     let mut out = output(rt);
-    ended(witness::witness(rt.alloc(), file, text, property, &mut out))
+    let done = witness::witness(rt.alloc(), file, text, property, &mut out);
+    ended(done, &mut out, RunFault::Output)
 }

@@ -1,7 +1,7 @@
 //! What a call returns: its status, and a text in the caller's room.
 ghost use Rattle.std.specs.Prelude.{◌≡◌, ◌≢◌, ◌<◌, ◌≤◌, false, length, take, true};
 ghost use Rattle.aig_run.specs.Status.{status_of};
-ghost use Rattle.aig_commands.specs.Questions.{asked_of, by_step, within_frames};
+ghost use Rattle.aig_commands.specs.Questions.{asked_of};
 ghost use Rattle.aig_c.specs.Answers.{format_of, is_confirmed};
 
 use aig_commands::question::Question;
@@ -89,9 +89,9 @@ pub(crate) fn format(binary: bool) -> Format
 }
 
 /// What a call asks of some frames: the step of an induction, or whether a run reaches the property within them.
-pub(crate) fn question(step: bool, frames: u32, property: u32) -> Question<'static>
-    ensures steps { step ≡ true → asked_of result ≡ by_step frames property }
-    ensures within { step ≡ false → asked_of result ≡ within_frames frames property }
+pub(crate) fn question(step: bool, frames: u32, property: u32) -> Question<&'static [u8]>
+    ensures steps { step ≡ true → asked_of result ≡ Question.Step frames property }
+    ensures within { step ≡ false → asked_of result ≡ Question.Within frames property }
 {
     if step {
         Question::Step { frames, property }

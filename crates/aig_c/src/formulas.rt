@@ -21,7 +21,7 @@ use std::alloc::Global;
 fn write_formula(
     alloc: Global,
     circuit: &[u8],
-    question: Question<'_>,
+    question: Question<&[u8]>,
     room: &mut [u8],
     written: &mut usize,
 ) -> u8
@@ -45,7 +45,7 @@ fn write_formula(
 fn write_named(
     alloc: Global,
     circuit: &[u8],
-    question: Question<'_>,
+    question: Question<&[u8]>,
     model: &[u8],
     room: &mut [u8],
     written: &mut usize,

@@ -20,7 +20,7 @@ use std::alloc::Global;
 fn refute_by(
     alloc: Global,
     circuit: &[u8],
-    question: Question<'_>,
+    question: Question<&[u8]>,
     proof: &[u8],
     step: &[u8],
     room: &mut [u8],

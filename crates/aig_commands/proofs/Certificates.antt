@@ -14,7 +14,7 @@ use Rattle.aig_run.proofs.Written.{ends_map, got_none}
 use Rattle.aig_commands.specs.Certified.{IsCertified, OfCertified, RefusesCertified}
 use Rattle.aig_commands.specs.Refute.{ChecksInduction, IsFileNeverReached}
 use Rattle.aig_commands.specs.declared.certified.Purpose.{Purpose}
-use Rattle.aig_commands.specs.state.Answered.{Answers}
+use Rattle.aig_commands.specs.state.About.{Answers}
 use Rattle.aig_commands.specs.state.Extended.{IsExtensionOf}
 
 module _ (purpose : Purpose) (file : List ℕ) (p : ℕ) (certificate : List ℕ)

@@ -1,7 +1,7 @@
 -- Nothing of a stimulus is read before the header of its dump is written.
 use Rattle.std.proofs.Common.{◌≡◌, ℕ, ◌<◌, ◌≤◌, List, [], ◌++◌, length, inl, inr, Result, Ok, Err, refl, sym, ◌∙◌, ap}
 use Rattle.std.proofs.Common.{subst}
-use Rattle.std.specs.Prelude.{Option, Some, true, false}
+use Rattle.std.specs.Prelude.{Some, true, false}
 use Rattle.std.proofs.lemmas.Bool.{ltb-true, ltb-false}
 use Rattle.std.proofs.lemmas.List.{take-append-drop, take-append-le}
 use Rattle.std.proofs.Math.ListN.{take, drop}
@@ -9,7 +9,7 @@ use Rattle.std.proofs.Math.Seq.{take-append_seam}
 use lib.Dec.{ltb}
 use Rattle.aig_parts.specs.declared.raw.Raw.{Raw}
 use Rattle.aig_bytes.specs.Bytes.{before, after}
-use Rattle.aig_bytes.specs.Flow.{Flow, flow}
+use Rattle.aig_bytes.specs.Flow.{Flow}
 use Rattle.aig_sim.specs.declared.stimulus.fault.StimFault.{StimFault}
 use Rattle.aig_sim.specs.declared.stimulus.fault.StimFault.TheVariants as stimuli
 use Rattle.aig_sim.specs.Dump.{closing}
@@ -75,10 +75,3 @@ pub header_of_file : {Z Y X : Type 0} (circuit : Flow Z) (reader : Flow Y) (out 
 header_of_file circuit reader out read answers first file raw is spelled =
     let same : read ≡ raw = (answers file is (λ e. let no : ⊥ = cc in no)).only raw spelled.spelled in
     subst (HeaderFirst reader out) same first
-
--- a flush writes nothing
-pub header_flushed : {Y X : Type 0} (reader : Flow Y) (written : X → Option (List ℕ)) (failures : X → ℕ) (old mid new : X)
-    (raw : Raw) → written new ≡ written mid → HeaderFirst reader (flow written failures old mid) raw
-    → HeaderFirst reader (flow written failures old new) raw
-header_flushed reader written failures old mid new raw kept (inl unread) = inl unread
-header_flushed reader written failures old mid new raw kept (inr (more, wrote)) = inr (more, kept ∙ wrote)

@@ -7,7 +7,7 @@ use Rattle.aig_run.specs.declared.run_fault.RunFault.{RunFault}
 use Rattle.aig_run.specs.declared.run_fault.RunFault.TheVariants as run_faults
 use Rattle.aig_run.specs.Command.{CommandEnds}
 use Rattle.aig_commands.specs.Refute.{ChecksStep, HasFormulas}
-use Rattle.aig_commands.specs.state.Answered.{Answers, IsOfStepProof}
+use Rattle.aig_commands.specs.state.About.{Answers, IsOfStepProof}
 
 pub then_ok : {T E : Type 0} (r : Result T E) {P Q : Type 0} → (P → Q) → OnOk r P → OnOk r Q
 then_ok (Ok x) f p = f p

@@ -1,6 +1,5 @@
 -- What proofs alone need. No contract of an exported function reaches it.
 pub mod About
-pub mod Answered
 pub mod Asked
 pub mod Extended
 pub mod NamedSelections

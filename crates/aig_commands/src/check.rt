@@ -10,7 +10,7 @@ ghost use Rattle.aig_commands.specs.state.Asked.{RefusesAsked};
 ghost use Rattle.aig_sim.specs.WitnessText.{IsWitnessOf};
 
 use aig_base::{Circuit, Io, Write, write_all, write_number};
-use aig_run::{RunFault, flushed, read_circuit};
+use aig_run::{RunFault, read_circuit};
 use aig_sim::{ReplayFault, Verdict, check_witness, trace_witness, witness_property};
 use std::alloc::Global;
 
@@ -81,26 +81,6 @@ fn refuse_other(circuit: &Circuit, witness: &[u8], asked: Option<u32>) -> Result
     Ok(())
 }
 
-/// Checks a witness of the property that is asked for against the circuit of a file, as `check_bytes` does.
-fn check_file<W: Write>(
-    alloc: Global,
-    circuit: &[u8],
-    witness: &[u8],
-    property: Option<u32>,
-    out: &mut W,
-) -> Result<Verdict, RunFault>
-    ensures ends { CommandEnds (flow W.written W.failures out.old out.new) RunFault.Output
-        (OfFile circuit.now (OfProperty property Checks witness.now)) result }
-    ensures count { W.failures out.new ≤ W.failures out.old + 1 }
-    ensures refused { IfErr result (λ fault. fault ≢ RunFault.Output → out.new ≡ out.old) }
-    ensures output { result ≡ Err RunFault.Output →
-        GoesWell (OfFile circuit.now (OfProperty property Checks witness.now)) }
-{
-    let circuit = read_circuit(alloc, circuit)?;
-    refuse_other(&circuit, witness, property)?;
-    check_circuit(alloc, &circuit, witness, out)
-}
-
 /// Checks a witness against the circuit of a file (AIGER 1.9, witnesses). It writes the verdict's line (`confirmed`,
 /// `initial P`, `constraint T P` or `not bad`) and answers the verdict, for every circuit file that is accepted and
 /// every witness for it. A circuit that is refused wins over the witness; at a refusal nothing is written. A failed
@@ -117,11 +97,11 @@ pub fn check_bytes<W: Write>(
     ensures refused { IfErr result (λ fault. fault ≢ RunFault.Output → out.new ≡ out.old) }
     ensures output { result ≡ Err RunFault.Output → GoesWell (OfFile circuit.now (Checks witness.now)) }
 {
-    check_file(alloc, circuit, witness, None, out)
+    check(alloc, circuit, witness, None, out)
 }
 
-/// The command `check`: checks as `check_bytes` does, and flushes the writer before it returns. If a property is asked
-/// for, it rejects a witness of another property: after the faults of the text, and before it runs the circuit.
+/// The command `check`: checks as `check_bytes` does. If a property is asked for, it rejects a witness of another
+/// property: after the faults of the text, and before it runs the circuit.
 pub fn check<W: Write>(
     alloc: Global,
     circuit: &[u8],
@@ -131,10 +111,14 @@ pub fn check<W: Write>(
 ) -> Result<Verdict, RunFault>
     ensures ends { CommandEnds (flow W.written W.failures out.old out.new) RunFault.Output
         (OfFile circuit.now (OfProperty property Checks witness.now)) result }
-    ensures flushed { W.failures out.new ≡ W.failures out.old → W.is_flushed out.new }
+    ensures count { W.failures out.new ≤ W.failures out.old + 1 }
+    ensures refused { IfErr result (λ fault. fault ≢ RunFault.Output → out.new ≡ out.old) }
+    ensures output { result ≡ Err RunFault.Output →
+        GoesWell (OfFile circuit.now (OfProperty property Checks witness.now)) }
 {
-    let done = check_file(alloc, circuit, witness, property, out);
-    flushed(done, out, RunFault::Output)
+    let circuit = read_circuit(alloc, circuit)?;
+    refuse_other(&circuit, witness, property)?;
+    check_circuit(alloc, &circuit, witness, out)
 }
 
 /// Writes the trace of a witness's run, and then the line of its verdict, which is known.
@@ -159,24 +143,8 @@ fn write_run<W: Write>(
     }
 }
 
-/// Reads the circuit, checks its witness, and writes the run and the verdict without a flush at the end.
-fn check_and_write_run<W: Write>(
-    alloc: Global,
-    circuit: &[u8],
-    witness: &[u8],
-    property: Option<u32>,
-    out: &mut W,
-) -> Result<Verdict, RunFault>
-    ensures { CommandEnds (flow W.written W.failures out.old out.new) RunFault.Output
-        (OfFile circuit.now (OfProperty property ChecksAndTraces witness.now)) result }
-{
-    let circuit = read_circuit(alloc, circuit)?;
-    refuse_other(&circuit, witness, property)?;
-    write_run(alloc, &circuit, witness, out)
-}
-
 /// The command `check --trace`: checks a witness as `check` does, and writes the trace of its run before the verdict's
-/// line. At a refusal nothing is written. It flushes the writer before it answers.
+/// line. At a refusal nothing is written.
 pub fn check_and_trace<W: Write>(
     alloc: Global,
     circuit: &[u8],
@@ -186,8 +154,8 @@ pub fn check_and_trace<W: Write>(
 ) -> Result<Verdict, RunFault>
     ensures ends { CommandEnds (flow W.written W.failures out.old out.new) RunFault.Output
         (OfFile circuit.now (OfProperty property ChecksAndTraces witness.now)) result }
-    ensures flushed { W.failures out.new ≡ W.failures out.old → W.is_flushed out.new }
 {
-    let done = check_and_write_run(alloc, circuit, witness, property, out);
-    flushed(done, out, RunFault::Output)
+    let read = read_circuit(alloc, circuit)?;
+    refuse_other(&read, witness, property)?;
+    write_run(alloc, &read, witness, out)
 }

@@ -4,12 +4,12 @@ ghost use Rattle.aig_bytes.specs.Bytes.{Writes};
 ghost use Rattle.aig_bytes.specs.Flow.{flow};
 ghost use Rattle.aig_cnf.specs.CnfText.{cnf_text};
 ghost use Rattle.aig_run.specs.Command.{CommandEnds};
-ghost use Rattle.aig_commands.specs.Questions.{WritesFor, WritesQuestion, asked_of};
+ghost use Rattle.aig_commands.specs.Questions.{WritesFor, WritesQuestion, asked_of, heading_of};
 
-use crate::question::Question;
+use crate::question::{Question, circuit_of, formula_of, heading_of};
 use aig_base::{Circuit, Io, Write};
 use aig_cnf::{Formula, Heading};
-use aig_run::{RunFault, flushed};
+use aig_run::RunFault;
 use std::alloc::Global;
 
 /// Writes a formula, and what its variables are.
@@ -32,33 +32,19 @@ fn write_text<W: Write>(
 fn make_and_write<W: Write>(
     alloc: Global,
     circuit: &mut Circuit,
-    question: Question<'_>,
+    question: Question<&[u8]>,
     out: &mut W,
 ) -> Result<(), RunFault>
     ensures { CommandEnds (flow W.written W.failures out.old out.new) RunFault.Output
-        (WritesFor (asked_of question.entry) circuit.old) result }
+        (WritesFor (heading_of (asked_of question.entry)) circuit.old) result }
 {
-    let formula = question.formula(alloc, circuit)?;
-    write_text(&formula, circuit, question.heading(), out)
-}
-
-/// Reads a circuit and writes the formula, without a flush at the end.
-fn read_and_write<W: Write>(
-    alloc: Global,
-    file: &[u8],
-    question: Question<'_>,
-    out: &mut W,
-) -> Result<(), RunFault>
-    ensures { CommandEnds (flow W.written W.failures out.old out.new) RunFault.Output
-        (WritesQuestion (asked_of question.entry) file.now) result }
-{
-    let mut circuit = question.circuit(alloc, file)?;
-    make_and_write(alloc, &mut circuit, question, out)
+    let formula = formula_of(alloc, question, circuit)?;
+    write_text(&formula, circuit, heading_of(question), out)
 }
 
 /// The command `cnf`: reads a circuit and writes the formula of a question about it in DIMACS, with comment lines that
 /// say what was asked for and what its variables are. If a file is rejected, or there is no such formula, nothing is
-/// written. Justice and fairness are ignored. It flushes the writer before it returns.
+/// written. Justice and fairness are ignored.
 ///
 /// - Some assignment satisfies the formula of `Question::Within` exactly where there is a confirmed witness of at most
 ///   so many frames (`law_of_formula` of `aig_refute`).
@@ -71,13 +57,12 @@ fn read_and_write<W: Write>(
 pub fn cnf<W: Write>(
     alloc: Global,
     file: &[u8],
-    question: Question<'_>,
+    question: Question<&[u8]>,
     out: &mut W,
 ) -> Result<(), RunFault>
     ensures ends { CommandEnds (flow W.written W.failures out.old out.new) RunFault.Output
         (WritesQuestion (asked_of question.entry) file.now) result }
-    ensures flushed { W.failures out.new ≡ W.failures out.old → W.is_flushed out.new }
 {
-    let done = read_and_write(alloc, file, question, out);
-    flushed(done, out, RunFault::Output)
+    let mut circuit = circuit_of(alloc, question, file)?;
+    make_and_write(alloc, &mut circuit, question, out)
 }

@@ -18,7 +18,7 @@ use aig_base::{
     write_all,
 };
 use aig_format::{Format, read_from, read_with_format};
-use aig_run::{RunFault, flushed};
+use aig_run::RunFault;
 use aig_unroll::uninitialised;
 use itoa::Buffer;
 use std::alloc::Global;
@@ -182,34 +182,20 @@ fn list_facts<W: Write>(
     }
 }
 
-/// Reads a circuit and writes what it is, without a flush at the end.
-fn read_and_list<R: Read, W: Write>(
-    alloc: Global,
-    circuit: &mut R,
-    out: &mut W,
-) -> Result<(), RunFault>
-    ensures { CommandEnds (flow W.written W.failures out.old out.new) RunFault.Output
+/// The command `info`: reads a circuit and writes what it is, a line for each fact, `name value`. The facts are its
+/// format and the counts of its parts, the bad state properties that are constants, the constraints that no run keeps,
+/// the latches that start at no known value and those that start at 1, its greatest level and fan-out, its names and
+/// the bytes of its comment. The last one is whether the binary format can hold it as it stands. For every circuit file
+/// that is accepted, the text is that of its circuit. The file is never held whole. Where it is refused, or no memory
+/// was found for levels or fan-outs, nothing is written.
+pub fn info<R: Read, W: Write>(alloc: Global, circuit: &mut R, out: &mut W) -> Result<(), RunFault>
+    ensures ends { CommandEnds (flow W.written W.failures out.old out.new) RunFault.Output
         (OfReader (flow R.left R.failures circuit.old circuit.new) (ListsFacts (R.left circuit.old))) result }
 {
     match read_with_format(alloc, circuit) {
         Ok((format, circuit)) => list_facts(alloc, format, &circuit, out),
         Err(fault) => Err(RunFault::Circuit(fault)),
     }
-}
-
-/// The command `info`: reads a circuit and writes what it is, a line for each fact, `name value`. The facts are its
-/// format and the counts of its parts, the bad state properties that are constants, the constraints that no run keeps,
-/// the latches that start at no known value and those that start at 1, its greatest level and fan-out, its names and
-/// the bytes of its comment. The last one is whether the binary format can hold it as it stands. For every circuit file
-/// that is accepted, the text is that of its circuit. The file is never held whole. Where it is refused, or no memory
-/// was found for levels or fan-outs, nothing is written. It flushes the writer before it answers.
-pub fn info<R: Read, W: Write>(alloc: Global, circuit: &mut R, out: &mut W) -> Result<(), RunFault>
-    ensures ends { CommandEnds (flow W.written W.failures out.old out.new) RunFault.Output
-        (OfReader (flow R.left R.failures circuit.old circuit.new) (ListsFacts (R.left circuit.old))) result }
-    ensures flushed { W.failures out.new ≡ W.failures out.old → W.is_flushed out.new }
-{
-    let done = read_and_list(alloc, circuit, out);
-    flushed(done, out, RunFault::Output)
 }
 
 /// Writes the names of a circuit's entries.
@@ -222,26 +208,11 @@ fn list_names<W: Write>(circuit: &Circuit, out: &mut W) -> Result<(), RunFault>
     }
 }
 
-/// Reads a circuit and writes the names of its entries, without a flush at the end.
-fn read_and_list_names<R: Read, W: Write>(
-    alloc: Global,
-    circuit: &mut R,
-    out: &mut W,
-) -> Result<(), RunFault>
-    ensures { CommandEnds (flow W.written W.failures out.old out.new) RunFault.Output
-        (OfReader (flow R.left R.failures circuit.old circuit.new) ListsNames) result }
-{
-    match read_from(alloc, circuit) {
-        Ok(circuit) => list_names(&circuit, out),
-        Err(fault) => Err(RunFault::Circuit(fault)),
-    }
-}
-
 /// The command `info --names`: reads a circuit and writes a line for each entry, section by section in the order of a
 /// file: `LETTER POSITION LITERAL NAME`. LETTER is that of the entry's symbol (AIGER 1.0, symbol table; AIGER 1.9), and
 /// POSITION counts from 0. LITERAL is `-` for a justice property. NAME is the symbol, and nothing where there is none.
 /// The file is never held whole, and memory is taken for its circuit alone. Where the file is refused, nothing is
-/// written. It flushes the writer before it answers.
+/// written.
 pub fn info_names<R: Read, W: Write>(
     alloc: Global,
     circuit: &mut R,
@@ -249,8 +220,9 @@ pub fn info_names<R: Read, W: Write>(
 ) -> Result<(), RunFault>
     ensures ends { CommandEnds (flow W.written W.failures out.old out.new) RunFault.Output
         (OfReader (flow R.left R.failures circuit.old circuit.new) ListsNames) result }
-    ensures flushed { W.failures out.new ≡ W.failures out.old → W.is_flushed out.new }
 {
-    let done = read_and_list_names(alloc, circuit, out);
-    flushed(done, out, RunFault::Output)
+    match read_from(alloc, circuit) {
+        Ok(circuit) => list_names(&circuit, out),
+        Err(fault) => Err(RunFault::Circuit(fault)),
+    }
 }

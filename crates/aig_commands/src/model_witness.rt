@@ -8,14 +8,14 @@ ghost use Rattle.aig_run.specs.Command.{CommandEnds};
 ghost use Rattle.aig_unroll.specs.FrameLiteral.{input_count};
 ghost use Rattle.aig_unroll.specs.Unrollable.{FitsLimits};
 ghost use Rattle.aig_commands.specs.ModelWitness.{RefusesModel, WritesModel, WritesNamed, variable_count};
-ghost use Rattle.aig_commands.specs.Questions.{NamesFor, NamesQuestion, asked_of};
+ghost use Rattle.aig_commands.specs.Questions.{NamesFor, NamesQuestion, asked_of, heading_of};
 ghost use Rattle.aig_sat.specs.model.ModelText.{IsModelOf};
 
 use crate::named_run::find_named;
-use crate::question::Question;
+use crate::question::{INDUCTION, Question, circuit_of, heading_of};
 use aig_base::{Circuit, Tern, Write};
-use aig_cnf::{CnfFault, Formula, Query};
-use aig_run::{RunFault, flushed};
+use aig_cnf::{CnfFault, Formula, Heading, Query};
+use aig_run::RunFault;
 use aig_sat::{Assignment, ModelFault, read_model};
 use std::alloc::Global;
 
@@ -98,35 +98,18 @@ fn read_model_and_write<W: Write>(
 fn answer<W: Write>(
     alloc: Global,
     circuit: &mut Circuit,
-    question: Question<'_>,
+    question: Question<&[u8]>,
     model: &[u8],
     out: &mut W,
 ) -> Result<(), RunFault>
     ensures { CommandEnds (flow W.written W.failures out.old out.new) RunFault.Output
-        (NamesFor (asked_of question.entry) model.now circuit.old) result }
+        (NamesFor (heading_of (asked_of question.entry)) model.now circuit.old) result }
 {
-    let query = question.query();
-    match question {
-        Question::Within { .. } => read_model_and_write(alloc, circuit, query, model, out),
-        Question::Step { .. } => read_model_and_write(alloc, circuit, query, model, out),
-        Question::Alive { .. } => Err(RunFault::Cnf(CnfFault::Property)),
-        Question::Certified { .. } => read_model_and_write(alloc, circuit, query, model, out),
+    match heading_of(question) {
+        Heading::Runs(query) => read_model_and_write(alloc, circuit, query, model, out),
+        Heading::Alive(_) => Err(RunFault::Cnf(CnfFault::Property)),
+        Heading::Certified(_) => read_model_and_write(alloc, circuit, INDUCTION, model, out),
     }
-}
-
-/// The same for a circuit's file, without a flush at the end.
-fn read_and_write<W: Write>(
-    alloc: Global,
-    file: &[u8],
-    question: Question<'_>,
-    model: &[u8],
-    out: &mut W,
-) -> Result<(), RunFault>
-    ensures { CommandEnds (flow W.written W.failures out.old out.new) RunFault.Output
-        (NamesQuestion (asked_of question.entry) model.now file.now) result }
-{
-    let mut circuit = question.circuit(alloc, file)?;
-    answer(alloc, &mut circuit, question, model, out)
 }
 
 /// The command `witness --model`: reads a circuit and a SAT solver's model of the formula that `cnf` writes for a
@@ -137,18 +120,17 @@ fn read_and_write<W: Write>(
 /// Nothing is written if a file or the model is rejected, there is no such formula, or no frame reaches the property.
 /// One does if the model makes a literal of each clause of the formula of `Question::Within` true
 /// (`law_of_partial_models` of `aig_refute`). A witness is of a property, so for `Question::Alive` there is none, with
-/// the fault `CnfFault::Property`. It flushes the writer before it returns.
+/// the fault `CnfFault::Property`.
 pub fn model_witness<W: Write>(
     alloc: Global,
     file: &[u8],
-    question: Question<'_>,
+    question: Question<&[u8]>,
     model: &[u8],
     out: &mut W,
 ) -> Result<(), RunFault>
     ensures ends { CommandEnds (flow W.written W.failures out.old out.new) RunFault.Output
         (NamesQuestion (asked_of question.entry) model.now file.now) result }
-    ensures flushed { W.failures out.new ≡ W.failures out.old → W.is_flushed out.new }
 {
-    let done = read_and_write(alloc, file, question, model, out);
-    flushed(done, out, RunFault::Output)
+    let mut circuit = circuit_of(alloc, question, file)?;
+    answer(alloc, &mut circuit, question, model, out)
 }

@@ -10,7 +10,7 @@ ghost use Rattle.aig_commands.specs.Reduce.{HasDecimalPosition, Reduces, Refuses
 use crate::check::write_verdict;
 use aig_base::{Circuit, Io, Write};
 use aig_reduce::{ReduceFault, Reduction, reduce_witness};
-use aig_run::{RunFault, flushed, read_circuit};
+use aig_run::{RunFault, read_circuit};
 use aig_sim::Verdict;
 use std::alloc::Global;
 
@@ -77,25 +77,11 @@ fn reduce_and_write<W: Write>(
     report(&reduction, out)
 }
 
-/// Reads a circuit and reduces its witness, without a flush at the end.
-fn read_and_reduce<W: Write>(
-    alloc: Global,
-    circuit: &[u8],
-    witness: &[u8],
-    out: &mut W,
-) -> Result<Verdict, RunFault>
-    ensures { CommandEnds (flow W.written W.failures out.old out.new) RunFault.Output
-        (OfFile circuit.now (Reduces witness.now)) result }
-{
-    let circuit = read_circuit(alloc, circuit)?;
-    reduce_and_write(alloc, circuit, witness, out)
-}
-
 /// The command `reduce`: writes a confirmed witness with x in place of each value that can be x while it stays
 /// confirmed, as `reduce_witness` finds them. What is written is confirmed, and no more of its values can be x. Of a
 /// witness with another verdict it writes the verdict's line, as `check` does, and nothing else. It answers the verdict
 /// of the given witness. Nothing is written where the circuit, the witness or, as for `bench`, the number of cells is
-/// refused, in this order. It flushes the writer before it answers.
+/// refused, in this order.
 pub fn reduce<W: Write>(
     alloc: Global,
     circuit: &[u8],
@@ -104,8 +90,7 @@ pub fn reduce<W: Write>(
 ) -> Result<Verdict, RunFault>
     ensures ends { CommandEnds (flow W.written W.failures out.old out.new) RunFault.Output
         (OfFile circuit.now (Reduces witness.now)) result }
-    ensures flushed { W.failures out.new ≡ W.failures out.old → W.is_flushed out.new }
 {
-    let done = read_and_reduce(alloc, circuit, witness, out);
-    flushed(done, out, RunFault::Output)
+    let circuit = read_circuit(alloc, circuit)?;
+    reduce_and_write(alloc, circuit, witness, out)
 }

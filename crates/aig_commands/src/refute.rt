@@ -6,16 +6,15 @@ ghost use Rattle.aig_bytes.specs.Flow.{flow};
 ghost use Rattle.aig_sat.specs.checker.Consequence.{IsUnsatisfiable};
 ghost use Rattle.aig_sat.specs.proof.Proofs.{IsProof};
 ghost use Rattle.aig_run.specs.Command.{CommandEnds};
-ghost use Rattle.aig_commands.specs.Questions.{RefutesQuestion, Says, asked_of};
+ghost use Rattle.aig_commands.specs.Questions.{ChecksFor, RefutesQuestion, Says, asked_of, heading_of};
 ghost use Rattle.aig_commands.specs.Refute.{ChecksStep, answer_line, proof_reads_failed, step_reads_failed};
-ghost use Rattle.aig_commands.specs.state.About.{ChecksFormula};
-ghost use Rattle.aig_commands.specs.state.Answered.{Answers, ChecksFor, IsChecked, IsOfStepProof};
+ghost use Rattle.aig_commands.specs.state.About.{Answers, ChecksFormula, IsChecked, IsOfStepProof};
 
-use crate::question::Question;
+use crate::question::{Question, circuit_of, formula_of, query_of};
 use aig_base::{Circuit, Io, Read, Write, write_all, write_number};
 use aig_cnf::{Formula, Goal, Query};
 use aig_refute::check;
-use aig_run::{RunFault, flushed};
+use aig_run::RunFault;
 use aig_sat::ProofFault;
 use std::alloc::Global;
 
@@ -23,16 +22,16 @@ use std::alloc::Global;
 fn check_formula<R: Read>(
     alloc: Global,
     circuit: &mut Circuit,
-    question: Question<'_>,
+    question: Question<&[u8]>,
     proof: &mut R,
 ) -> Result<(), RunFault>
-    ensures checks { ChecksFormula (asked_of question.entry) circuit.old result }
+    ensures checks { ChecksFormula (heading_of (asked_of question.entry)) circuit.old result }
     ensures reads { R.failures proof.new ≡ R.failures proof.old + proof_reads_failed result }
     ensures step { step_reads_failed result ≡ 0 }
     ensures whole { result ≡ Err (RunFault.Proof ProofFault.NoRefutation) → IfSome (R.left proof.old) IsProof }
     ensures whole_step { result ≢ Err (RunFault.StepProof ProofFault.NoRefutation) }
 {
-    let formula = question.formula(alloc, circuit)?;
+    let formula = formula_of(alloc, question, circuit)?;
     check(alloc, &formula, proof)?;
     Ok(())
 }
@@ -51,40 +50,32 @@ fn check_later<R: Read>(alloc: Global, later: &Formula, step: &mut R) -> Result<
     }
 }
 
-/// Checks both proofs that no run of any length reaches a property. Neither is read before both formulas are made.
+/// Checks both proofs that no run of any length reaches the property of a query, by an induction over its frames. Neither
+/// is read before both formulas are made.
 fn check_step<R: Read, S: Read>(
     alloc: Global,
     circuit: &mut Circuit,
-    frames: u32,
-    property: u32,
+    query: Query,
     proof: &mut R,
     step: &mut S,
 ) -> Result<(), RunFault>
-    ensures checks { ChecksStep frames property circuit.old result }
+    ensures checks { ChecksStep query.frames query.property circuit.old result }
     ensures reads { R.failures proof.new ≡ R.failures proof.old + proof_reads_failed result }
     ensures step { S.failures step.new ≡ S.failures step.old + step_reads_failed result }
     ensures whole { result ≡ Err (RunFault.Proof ProofFault.NoRefutation) → IfSome (R.left proof.old) IsProof }
     ensures whole_step { result ≡ Err (RunFault.StepProof ProofFault.NoRefutation) → IfSome (S.left step.old) IsProof }
 {
     circuit.facts();
-    let base = Formula::of(
-        alloc,
-        circuit,
-        Query {
-            goal: Goal::Within,
-            frames,
-            property,
-        },
-    )?;
-    let later = Formula::of(
-        alloc,
-        circuit,
-        Query {
-            goal: Goal::Step,
-            frames,
-            property,
-        },
-    )?;
+    let within = Query {
+        goal: Goal::Within,
+        ..query
+    };
+    let stepped = Query {
+        goal: Goal::Step,
+        ..query
+    };
+    let base = Formula::of(alloc, circuit, within)?;
+    let later = Formula::of(alloc, circuit, stepped)?;
     circuit.facts();
     check(alloc, &base, proof)?;
     check_later(alloc, &later, step)
@@ -94,7 +85,7 @@ fn check_step<R: Read, S: Read>(
 fn check_question<R: Read, S: Read>(
     alloc: Global,
     circuit: &mut Circuit,
-    question: Question<'_>,
+    question: Question<&[u8]>,
     proof: &mut R,
     step: &mut S,
 ) -> Result<(), RunFault>
@@ -105,13 +96,12 @@ fn check_question<R: Read, S: Read>(
     ensures whole_step { result ≡ Err (RunFault.StepProof ProofFault.NoRefutation) → IfSome (S.left step.old) IsProof }
 {
     circuit.facts();
-    match question {
-        Question::Within { .. } => check_formula(alloc, circuit, question, proof),
-        Question::Step { frames, property } => {
-            check_step(alloc, circuit, frames, property, proof, step)
-        }
-        Question::Alive { .. } => check_formula(alloc, circuit, question, proof),
-        Question::Certified { .. } => check_formula(alloc, circuit, question, proof),
+    let query = query_of(question);
+    match query.goal {
+        Goal::Within => check_formula(alloc, circuit, question, proof),
+        Goal::Last => check_formula(alloc, circuit, question, proof),
+        Goal::Step => check_step(alloc, circuit, query, proof, step),
+        Goal::Induction => check_formula(alloc, circuit, question, proof),
     }
 }
 
@@ -119,7 +109,7 @@ fn check_question<R: Read, S: Read>(
 fn read_and_check<R: Read, S: Read>(
     alloc: Global,
     file: &[u8],
-    question: Question<'_>,
+    question: Question<&[u8]>,
     proof: &mut R,
     step: &mut S,
 ) -> Result<(), RunFault>
@@ -130,7 +120,7 @@ fn read_and_check<R: Read, S: Read>(
     ensures whole { result ≡ Err (RunFault.Proof ProofFault.NoRefutation) → IfSome (R.left proof.old) IsProof }
     ensures whole_step { result ≡ Err (RunFault.StepProof ProofFault.NoRefutation) → IfSome (S.left step.old) IsProof }
 {
-    let mut circuit = question.circuit(alloc, file)?;
+    let mut circuit = circuit_of(alloc, question, file)?;
     circuit.facts();
     check_question(alloc, &mut circuit, question, proof, step)
 }
@@ -182,27 +172,12 @@ fn write_checked<W: Write>(
     }
 }
 
-/// Writes the answer if a check went well, and flushes the writer.
-fn write_answer<W: Write>(
-    checked: Result<(), RunFault>,
-    goal: Goal,
-    frames: u32,
-    out: &mut W,
-) -> Result<(), RunFault>
-    ensures ends { CommandEnds (flow W.written W.failures out.old out.new) RunFault.Output
-        (Answers (answer_line goal frames) checked) result }
-    ensures flushed { W.failures out.new ≡ W.failures out.old → W.is_flushed out.new }
-{
-    let written = write_checked(checked, goal, frames, out);
-    flushed(written, out, RunFault::Output)
-}
-
 /// The command `refute`: reads a circuit and checks a solver's proof that no assignment satisfies the formula that
 /// `cnf` writes for a question. If it is one, that says something of the file, whatever values are unknown, and one
 /// line says so. Nothing is believed of a certificate or of a proof. The proof is never held whole, and is not read if
 /// a file is rejected, if there is no such formula, or if propagation alone refutes it. Only `Question::Step` reads
 /// `step`: `proof` is then about the formula of `Question::Within`, and `step` about that of the step. Neither is read
-/// before it is known that there are both formulas. It flushes the writer before it returns.
+/// before it is known that there are both formulas.
 ///
 /// - `Question::Within`: no run from a start that the resets allow reaches the property within the frames.
 /// - `Question::Step`, `Question::Certified`: no run of any length from such a start reaches it.
@@ -211,7 +186,7 @@ fn write_answer<W: Write>(
 pub fn refute<R: Read, S: Read, W: Write>(
     alloc: Global,
     file: &[u8],
-    question: Question<'_>,
+    question: Question<&[u8]>,
     proof: &mut R,
     step: &mut S,
     out: &mut W,
@@ -225,9 +200,8 @@ pub fn refute<R: Read, S: Read, W: Write>(
         S.failures step.new ≡ S.failures step.old + step_reads_failed result }
     ensures whole { result ≡ Err (RunFault.Proof ProofFault.NoRefutation) → IfSome (R.left proof.old) IsProof }
     ensures whole_step { result ≡ Err (RunFault.StepProof ProofFault.NoRefutation) → IfSome (S.left step.old) IsProof }
-    ensures flushed { W.failures out.new ≡ W.failures out.old → W.is_flushed out.new }
 {
     let checked = read_and_check(alloc, file, question, proof, step);
-    let query = question.query();
-    write_answer(checked, query.goal, query.frames, out)
+    let query = query_of(question);
+    write_checked(checked, query.goal, query.frames, out)
 }

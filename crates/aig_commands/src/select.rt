@@ -9,7 +9,7 @@ use crate::toaig::write_converted;
 use aig_base::{Circuit, PropertySection, Read, Write};
 use aig_format::{Format, read_from};
 use aig_names::named;
-use aig_run::{RunFault, flushed};
+use aig_run::RunFault;
 use std::alloc::Global;
 
 /// Selects properties of a circuit, and writes it in a format.
@@ -29,30 +29,11 @@ fn write_selected<W: Write>(
     write_converted(alloc, circuit, to, out)
 }
 
-/// Reads a circuit, selects its properties and writes it, without a flush at the end.
-fn read_and_select<R: Read, W: Write>(
-    alloc: Global,
-    circuit: &mut R,
-    from: PropertySection,
-    into: PropertySection,
-    named: &[u32],
-    to: Format,
-    out: &mut W,
-) -> Result<(), RunFault>
-    ensures { CommandEnds (flow W.written W.failures out.old out.new) RunFault.Output
-        (OfReader (flow R.left R.failures circuit.old circuit.new) (Selects from into named.now to)) result }
-{
-    match read_from(alloc, circuit) {
-        Ok(mut circuit) => write_selected(alloc, &mut circuit, from, into, named, to, out),
-        Err(fault) => Err(RunFault::Circuit(fault)),
-    }
-}
-
-/// The command `select`: reads a circuit and writes it in a format, as `toaig` does, with some of its properties alone.
-/// They are those of the section `from` at the positions that are named, counted from 0, in the order in which they are
-/// named; all of the section where none is named. They are written in the section `into`. Inputs, latches, constraints,
-/// gates and the comment stay, and a kept property keeps its name. The file is never held whole. Where it is refused,
-/// or the section does not have a property that is named, nothing is written. It flushes the writer before it answers.
+/// The command `select`: reads a circuit and writes it in a format, as `convert_from` does, with some of its properties
+/// alone. They are those of the section `from` at the positions that are named, counted from 0, in the order in which
+/// they are named; all of the section where none is named. They are written in the section `into`. Inputs, latches,
+/// constraints, gates and the comment stay, and a kept property keeps its name. The file is never held whole. Where it
+/// is refused, or the section does not have a property that is named, nothing is written.
 pub fn select<R: Read, W: Write>(
     alloc: Global,
     circuit: &mut R,
@@ -64,10 +45,11 @@ pub fn select<R: Read, W: Write>(
 ) -> Result<(), RunFault>
     ensures ends { CommandEnds (flow W.written W.failures out.old out.new) RunFault.Output
         (OfReader (flow R.left R.failures circuit.old circuit.new) (Selects from into named.now to)) result }
-    ensures flushed { W.failures out.new ≡ W.failures out.old → W.is_flushed out.new }
 {
-    let done = read_and_select(alloc, circuit, from, into, named, to, out);
-    flushed(done, out, RunFault::Output)
+    match read_from(alloc, circuit) {
+        Ok(mut circuit) => write_selected(alloc, &mut circuit, from, into, named, to, out),
+        Err(fault) => Err(RunFault::Circuit(fault)),
+    }
 }
 
 /// Which properties of a circuit to keep, where, and the text of their names.
@@ -107,23 +89,6 @@ impl NamedSelection<'_> {
         let named = self.of(alloc, circuit)?;
         write_converted(alloc, &named, to, out)
     }
-
-    /// Reads a circuit and writes it so, without a flush at the end.
-    fn read_and_write<R: Read, W: Write>(
-        &self,
-        alloc: Global,
-        circuit: &mut R,
-        to: Format,
-        out: &mut W,
-    ) -> Result<(), RunFault>
-        ensures { CommandEnds (flow W.written W.failures out.old out.new) RunFault.Output
-            (OfReader (flow R.left R.failures circuit.old circuit.new) (SelectsNamed self.now to)) result }
-    {
-        match read_from(alloc, circuit) {
-            Ok(mut circuit) => self.write(alloc, &mut circuit, to, out),
-            Err(fault) => Err(RunFault::Circuit(fault)),
-        }
-    }
 }
 
 /// The command `select --names`: as `select`, and the properties that are kept have the names of a text, one per line,
@@ -138,8 +103,9 @@ pub fn select_named<R: Read, W: Write>(
 ) -> Result<(), RunFault>
     ensures ends { CommandEnds (flow W.written W.failures out.old out.new) RunFault.Output
         (OfReader (flow R.left R.failures circuit.old circuit.new) (SelectsNamed selection.entry to)) result }
-    ensures flushed { W.failures out.new ≡ W.failures out.old → W.is_flushed out.new }
 {
-    let done = selection.read_and_write(alloc, circuit, to, out);
-    flushed(done, out, RunFault::Output)
+    match read_from(alloc, circuit) {
+        Ok(mut circuit) => selection.write(alloc, &mut circuit, to, out),
+        Err(fault) => Err(RunFault::Circuit(fault)),
+    }
 }

@@ -8,7 +8,7 @@ ghost use Rattle.aig_commands.specs.state.Parts.{IsOfStimulus};
 
 use aig_base::{Circuit, Fault, Read, Write};
 use aig_format::read_from;
-use aig_run::{RunFault, flushed};
+use aig_run::RunFault;
 use aig_sim::{StimFault, simulate};
 use std::alloc::Global;
 
@@ -30,8 +30,11 @@ fn run<R: Read, W: Write>(
     }
 }
 
-/// Reads the circuit, and simulates it without a flush at the end.
-fn read_and_run<C: Read, R: Read, W: Write>(
+/// The command `sim`: reads the circuit and simulates it on a stimulus that is read row by row, from the start by its
+/// resets. For every circuit file that is accepted and every stimulus, the bytes that are written are those of the
+/// trace. It answers how many frames there were (`u64::MAX` for more). Where the circuit is refused, or a read of it
+/// fails, nothing of the stimulus is read.
+pub fn sim<C: Read, R: Read, W: Write>(
     alloc: Global,
     circuit: &mut C,
     stimulus: &mut R,
@@ -47,25 +50,4 @@ fn read_and_run<C: Read, R: Read, W: Write>(
         Ok(circuit) => run(alloc, &circuit, stimulus, out),
         Err(fault) => Err(RunFault::Circuit(fault)),
     }
-}
-
-/// The command `sim`: reads the circuit and simulates it on a stimulus that is read row by row, from the start by its
-/// resets. For every circuit file that is accepted and every stimulus, the bytes that are written are those of the
-/// trace. It answers how many frames there were (`u64::MAX` for more), and flushes the writer before it answers. Where
-/// the circuit is refused, or a read of it fails, nothing of the stimulus is read.
-pub fn sim<C: Read, R: Read, W: Write>(
-    alloc: Global,
-    circuit: &mut C,
-    stimulus: &mut R,
-    out: &mut W,
-) -> Result<u64, RunFault>
-    ensures ends { EndsReading (flow R.left R.failures stimulus.old stimulus.new)
-        (flow W.written W.failures out.old out.new)
-        (RunFault.Stimulus StimFault.Io)
-        (λ text. OfReader (flow C.left C.failures circuit.old circuit.new) (WritesSimulation text)) result }
-    ensures unread { (fault : Fault) → result ≡ Err (RunFault.Circuit fault) → stimulus.new ≡ stimulus.old }
-    ensures flushed { W.failures out.new ≡ W.failures out.old → W.is_flushed out.new }
-{
-    let done = read_and_run(alloc, circuit, stimulus, out);
-    flushed(done, out, RunFault::Stimulus(StimFault::Io))
 }

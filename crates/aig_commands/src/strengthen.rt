@@ -10,29 +10,14 @@ use crate::certified::{Certified, Purpose};
 use crate::toaig::write_converted;
 use aig_base::Write;
 use aig_format::Format;
-use aig_run::{RunFault, flushed};
+use aig_run::RunFault;
 use std::alloc::Global;
 
-/// Strengthens a circuit and writes it, without a flush at the end.
-fn strengthen_and_write<W: Write>(
-    alloc: Global,
-    certified: Certified<'_>,
-    to: Format,
-    out: &mut W,
-) -> Result<(), RunFault>
-    ensures { CommandEnds (flow W.written W.failures out.old out.new) RunFault.Output
-        (OfCertified Circuit certified.entry.circuit.now certified.entry.property certified.entry.certificate.now
-        (Converts to)) result }
-{
-    let circuit = certified.strengthened(alloc, Purpose::Circuit)?;
-    write_converted(alloc, &circuit, to, out)
-}
-
 /// The command `strengthen`: reads a circuit and a certificate, and writes the strengthened circuit in a format, as
-/// `toaig` does. Its one bad state property is 1 where the property of the circuit is, or where a claim of the
+/// `convert_from` does. Its one bad state property is 1 where the property of the circuit is, or where a claim of the
 /// certificate is broken; its outputs are these parts. The circuit is an extension of the one that was read: where no
 /// run reaches its property, none of the circuit reaches its own (`law_of_extension` of `aig_refute`). If a file is
-/// rejected, or the two do not go together, nothing is written. It flushes the writer before it returns.
+/// rejected, or the two do not go together, nothing is written.
 pub fn strengthen<W: Write>(
     alloc: Global,
     certified: Certified<'_>,
@@ -42,8 +27,7 @@ pub fn strengthen<W: Write>(
     ensures ends { CommandEnds (flow W.written W.failures out.old out.new) RunFault.Output
         (OfCertified Circuit certified.entry.circuit.now certified.entry.property certified.entry.certificate.now
         (Converts to)) result }
-    ensures flushed { W.failures out.new ≡ W.failures out.old → W.is_flushed out.new }
 {
-    let done = strengthen_and_write(alloc, certified, to, out);
-    flushed(done, out, RunFault::Output)
+    let circuit = certified.strengthened(alloc, Purpose::Circuit)?;
+    write_converted(alloc, &circuit, to, out)
 }

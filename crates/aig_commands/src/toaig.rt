@@ -9,7 +9,7 @@ ghost use Rattle.aig_commands.specs.Toaig.{Converts};
 
 use aig_base::{Circuit, Read, Write, is_binary_ready, renumber};
 use aig_format::{Format, read_from, write_ascii, write_binary};
-use aig_run::{RunFault, as_output, flushed, read_circuit};
+use aig_run::{RunFault, as_output, read_circuit};
 use std::alloc::Global;
 
 /// Writes a circuit as a binary file: a ready one as it stands, any other renumbered.
@@ -89,19 +89,4 @@ pub fn convert_from<R: Read, W: Write>(
         Ok(circuit) => write_converted(alloc, &circuit, to, out),
         Err(fault) => Err(RunFault::Circuit(fault)),
     }
-}
-
-/// The command `toaig`: converts as `convert_from` does, and flushes the writer before it answers.
-pub fn toaig<R: Read, W: Write>(
-    alloc: Global,
-    circuit: &mut R,
-    to: Format,
-    out: &mut W,
-) -> Result<(), RunFault>
-    ensures ends { CommandEnds (flow W.written W.failures out.old out.new) RunFault.Output
-        (OfReader (flow R.left R.failures circuit.old circuit.new) (Converts to)) result }
-    ensures flushed { W.failures out.new ≡ W.failures out.old → W.is_flushed out.new }
-{
-    let done = convert_from(alloc, circuit, to, out);
-    flushed(done, out, RunFault::Output)
 }

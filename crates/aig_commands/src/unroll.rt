@@ -11,7 +11,7 @@ ghost use Rattle.aig_commands.specs.Unroll.{IsMap, Unrolls, UnrollsKept, short_s
 
 use aig_base::{Circuit, Io, Levels, Write};
 use aig_format::{Format, write_ascii, write_binary};
-use aig_run::{RunFault, as_output, flushed, read_circuit};
+use aig_run::{RunFault, as_output, read_circuit};
 use aig_unroll::write_input_map;
 use std::alloc::Global;
 
@@ -67,26 +67,7 @@ pub fn unroll_bytes<W: Write>(
     unroll_circuit(alloc, &circuit, frames, to, out)
 }
 
-/// Unrolls the circuit of a file, and answers the circuit that was read, without a flush at the end.
-fn unroll_and_keep<W: Write>(
-    alloc: Global,
-    circuit: &[u8],
-    frames: u32,
-    to: Format,
-    out: &mut W,
-) -> Result<Circuit, RunFault>
-    ensures { CommandEnds (flow W.written W.failures out.old out.new) RunFault.Output
-        (OfFile circuit.now (UnrollsKept frames to)) result }
-{
-    let circuit = read_circuit(alloc, circuit)?;
-    match unroll_circuit(alloc, &circuit, frames, to, out) {
-        Ok(()) => Ok(circuit),
-        Err(fault) => Err(fault),
-    }
-}
-
-/// The command `unroll`: unrolls as `unroll_bytes` does, and flushes the writer before it answers. The answer is the
-/// circuit that was read, for `unroll_map`.
+/// The command `unroll`: unrolls as `unroll_bytes` does, and returns the circuit that was read, for `unroll_map`.
 pub fn unroll<W: Write>(
     alloc: Global,
     circuit: &[u8],
@@ -96,30 +77,22 @@ pub fn unroll<W: Write>(
 ) -> Result<Circuit, RunFault>
     ensures ends { CommandEnds (flow W.written W.failures out.old out.new) RunFault.Output
         (OfFile circuit.now (UnrollsKept frames to)) result }
-    ensures flushed { W.failures out.new ≡ W.failures out.old → W.is_flushed out.new }
 {
-    let done = unroll_and_keep(alloc, circuit, frames, to, out);
-    flushed(done, out, RunFault::Output)
+    let circuit = read_circuit(alloc, circuit)?;
+    match unroll_circuit(alloc, &circuit, frames, to, out) {
+        Ok(()) => Ok(circuit),
+        Err(fault) => Err(fault),
+    }
 }
 
-/// Writes the map of the inputs, without a flush at the end.
-fn write_map<W: Write>(circuit: &Circuit, frames: u32, out: &mut W) -> Result<(), RunFault>
-    ensures { CommandEnds (flow W.written W.failures out.old out.new) RunFault.Output (IsMap frames circuit.now)
+/// The map of `unroll --map`: writes what each input of the circuit unrolled for this many frames is, a line each. Only
+/// a write can fail.
+pub fn unroll_map<W: Write>(circuit: &Circuit, frames: u32, out: &mut W) -> Result<(), RunFault>
+    ensures ends { CommandEnds (flow W.written W.failures out.old out.new) RunFault.Output (IsMap frames circuit.now)
         result }
 {
     match write_input_map(circuit, frames, out) {
         Ok(()) => Ok(()),
         Err(Io) => Err(RunFault::Output),
     }
-}
-
-/// The map of `unroll --map`: writes what each input of the circuit unrolled for this many frames is, a line each, and
-/// flushes the writer before it answers. Only a write can fail.
-pub fn unroll_map<W: Write>(circuit: &Circuit, frames: u32, out: &mut W) -> Result<(), RunFault>
-    ensures ends { CommandEnds (flow W.written W.failures out.old out.new) RunFault.Output (IsMap frames circuit.now)
-        result }
-    ensures flushed { W.failures out.new ≡ W.failures out.old → W.is_flushed out.new }
-{
-    let done = write_map(circuit, frames, out);
-    flushed(done, out, RunFault::Output)
 }

@@ -9,7 +9,7 @@ ghost use Rattle.aig_commands.specs.state.Parts.{IsOfStimulus};
 
 use aig_base::{Circuit, Fault, Read, Write};
 use aig_format::read_from;
-use aig_run::{RunFault, flushed, read_circuit};
+use aig_run::{RunFault, read_circuit};
 use aig_sim::{ReplayFault, StimFault, dump, dump_witness};
 use std::alloc::Global;
 
@@ -33,8 +33,11 @@ fn run<R: Read, W: Write>(
     }
 }
 
-/// Reads the circuit, and dumps its run without a flush at the end.
-fn read_and_run<C: Read, R: Read, W: Write>(
+/// The command `wave`: reads the circuit and writes the value change dump (IEEE 1364) of its run on a stimulus that is
+/// read row by row, from the start by its resets. For every circuit file that is accepted and every stimulus, the bytes
+/// that are written are those of the dump. It answers how many frames there were (`u64::MAX` for more). Where a read of
+/// the circuit fails, no stimulus was read.
+pub fn wave<C: Read, R: Read, W: Write>(
     alloc: Global,
     circuit: &mut C,
     stimulus: &mut R,
@@ -55,30 +58,6 @@ fn read_and_run<C: Read, R: Read, W: Write>(
     }
 }
 
-/// The command `wave`: reads the circuit and writes the value change dump (IEEE 1364) of its run on a stimulus that is
-/// read row by row, from the start by its resets. For every circuit file that is accepted and every stimulus, the bytes
-/// that are written are those of the dump. It answers how many frames there were (`u64::MAX` for more), and flushes the
-/// writer before it answers. Where a read of the circuit fails, no stimulus was read.
-pub fn wave<C: Read, R: Read, W: Write>(
-    alloc: Global,
-    circuit: &mut C,
-    stimulus: &mut R,
-    out: &mut W,
-) -> Result<u64, RunFault>
-    ensures ends { EndsReading (flow R.left R.failures stimulus.old stimulus.new)
-        (flow W.written W.failures out.old out.new)
-        (RunFault.Stimulus StimFault.Io)
-        (λ text. OfReader (flow C.left C.failures circuit.old circuit.new) (WritesWave text)) result }
-    ensures unread { (fault : Fault) → result ≡ Err (RunFault.Circuit fault) → stimulus.new ≡ stimulus.old }
-    ensures header { (file : List ℕ) (raw : Raw) → C.left circuit.old ≡ Some file → IsFileOf file raw
-        → HeaderFirst (flow R.left R.failures stimulus.old stimulus.new) (flow W.written W.failures out.old out.new)
-        raw }
-    ensures flushed { W.failures out.new ≡ W.failures out.old → W.is_flushed out.new }
-{
-    let done = read_and_run(alloc, circuit, stimulus, out);
-    flushed(done, out, RunFault::Stimulus(StimFault::Io))
-}
-
 /// Dumps the run of a witness of a circuit.
 fn replay<W: Write>(
     alloc: Global,
@@ -96,25 +75,10 @@ fn replay<W: Write>(
     }
 }
 
-/// Reads the circuit, and dumps the run of its witness without a flush at the end.
-fn read_and_replay<W: Write>(
-    alloc: Global,
-    circuit: &[u8],
-    witness: &[u8],
-    out: &mut W,
-) -> Result<(), RunFault>
-    ensures { CommandEnds (flow W.written W.failures out.old out.new) RunFault.Output
-        (OfFile circuit.now (DumpsRun witness.now)) result }
-{
-    let circuit = read_circuit(alloc, circuit)?;
-    replay(alloc, &circuit, witness, out)
-}
-
 /// The command `wave --witness`: writes the value change dump (IEEE 1364) of the run that a witness of the circuit of a
 /// file describes, from the witness's own start, whatever its verdict. For every circuit file that is accepted and
 /// every witness for it, the bytes that are written are those of the dump. A circuit that is refused wins over the
-/// witness, which is refused where `check` refuses it; then nothing is written. It flushes the writer before it
-/// answers.
+/// witness, which is refused where `check` refuses it; then nothing is written.
 pub fn wave_witness<W: Write>(
     alloc: Global,
     circuit: &[u8],
@@ -123,8 +87,7 @@ pub fn wave_witness<W: Write>(
 ) -> Result<(), RunFault>
     ensures ends { CommandEnds (flow W.written W.failures out.old out.new) RunFault.Output
         (OfFile circuit.now (DumpsRun witness.now)) result }
-    ensures flushed { W.failures out.new ≡ W.failures out.old → W.is_flushed out.new }
 {
-    let done = read_and_replay(alloc, circuit, witness, out);
-    flushed(done, out, RunFault::Output)
+    let circuit = read_circuit(alloc, circuit)?;
+    replay(alloc, &circuit, witness, out)
 }

@@ -10,7 +10,7 @@ ghost use Rattle.aig_run.specs.Command.{CommandEnds, OfFile};
 ghost use Rattle.aig_commands.specs.Witness.{HasAsked, WritesWitness};
 
 use aig_base::{Circuit, Io, Tern, Write};
-use aig_run::{RunFault, flushed, read_circuit, read_rows};
+use aig_run::{RunFault, read_circuit, read_rows};
 use aig_sim::{ReachFault, Reached, Stimulus, first_reached, first_states, write_witness};
 use std::alloc::Global;
 
@@ -122,26 +122,11 @@ fn find_and_write<W: Write>(
     run.write(out)
 }
 
-/// Reads a circuit and writes the witness, without a flush at the end.
-fn read_and_find<W: Write>(
-    alloc: Global,
-    file: &[u8],
-    stimulus: &[u8],
-    asked: Option<u32>,
-    out: &mut W,
-) -> Result<(), RunFault>
-    ensures { CommandEnds (flow W.written W.failures out.old out.new) RunFault.Output
-        (OfFile file.now (WritesWitness asked stimulus.now)) result }
-{
-    let circuit = read_circuit(alloc, file)?;
-    find_and_write(alloc, &circuit, stimulus, asked, out)
-}
-
 /// The command `witness`: runs a circuit from the start by its resets over the rows of a stimulus, and writes the
 /// witness that the property at this position is reached: its frames up to the first at which the property is 1 and all
 /// constraints were 1 so far. Where no property is named, that is the first frame at which any is reached, and of it
 /// the least property. `check` confirms what is written. Nothing is written where the circuit or the stimulus is
-/// refused, the circuit lacks the property, or no frame reaches it. It flushes the writer before it answers.
+/// refused, the circuit lacks the property, or no frame reaches it.
 pub fn witness<W: Write>(
     alloc: Global,
     file: &[u8],
@@ -151,8 +136,7 @@ pub fn witness<W: Write>(
 ) -> Result<(), RunFault>
     ensures ends { CommandEnds (flow W.written W.failures out.old out.new) RunFault.Output
         (OfFile file.now (WritesWitness asked stimulus.now)) result }
-    ensures flushed { W.failures out.new ≡ W.failures out.old → W.is_flushed out.new }
 {
-    let done = read_and_find(alloc, file, stimulus, asked, out);
-    flushed(done, out, RunFault::Output)
+    let circuit = read_circuit(alloc, file)?;
+    find_and_write(alloc, &circuit, stimulus, asked, out)
 }

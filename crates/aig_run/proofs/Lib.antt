@@ -1,5 +1,4 @@
 pub mod CircuitFiles
 pub mod Files
-pub mod Flushes
 pub mod GivenRuns
 pub mod Written

@@ -12,8 +12,8 @@ use crate::script::run_script;
 use aig_base::{Io, Read, Write};
 use aig_bench::Bench;
 use aig_format::{law_of_round_trip, write_ascii};
-use aig_run::{RunFault, ScriptFault, as_output, flushed, read_circuit, read_rows};
-use aig_sim::{Grid, PlaneGrid, write_stimulus};
+use aig_run::{RunFault, ScriptFault, as_output, read_circuit, read_rows};
+use aig_sim::{Grid, write_stimulus};
 use std::alloc::Global;
 
 /// A bench of a circuit file and a stimulus file.
@@ -24,26 +24,6 @@ fn open_bench<G: Grid>(alloc: Global, circuit: &[u8], stimulus: &[u8]) -> Result
     let circuit = read_circuit(alloc, circuit)?;
     let stimulus = read_rows(alloc, &circuit, stimulus)?;
     Ok(Bench::new(alloc, circuit, stimulus)?)
-}
-
-/// Reads circuit and stimulus, makes the bench and runs the script on it. Answers the bench that the script leaves.
-fn bench_after<G: Grid, R: Read, W: Write>(
-    alloc: Global,
-    circuit: &[u8],
-    stimulus: &[u8],
-    script: &mut R,
-    out: &mut W,
-) -> Result<Bench<G>, RunFault>
-    ensures ends { EndsReading (flow R.left R.failures script.old script.new)
-        (flow W.written W.failures out.old out.new) (RunFault.Script ScriptFault.Io)
-        (LeavesBench circuit.now stimulus.now) result }
-    ensures count { R.failures script.new + W.failures out.new ≤ R.failures script.old + W.failures out.old + 1 }
-    ensures refused { IfErr result (λ fault. fault ≢ RunFault.Script ScriptFault.Io →
-        (script.new ≡ script.old) × (out.new ≡ out.old)) }
-{
-    let mut bench = open_bench::<G>(alloc, circuit, stimulus)?;
-    run_script(alloc, &mut bench, script, out)?;
-    Ok(bench)
 }
 
 /// Reads circuit and stimulus, makes the bench and runs the script on it: for every circuit file that is accepted,
@@ -64,26 +44,29 @@ pub fn run_bench<G: Grid, R: Read, W: Write>(
     ensures refused { IfErr result (λ fault. fault ≢ RunFault.Script ScriptFault.Io →
         (script.new ≡ script.old) × (out.new ≡ out.old)) }
 {
-    let _left = bench_after::<G, R, W>(alloc, circuit, stimulus, script, out)?;
+    let _left = bench::<G, R, W>(alloc, circuit, stimulus, script, out)?;
     Ok(())
 }
 
-/// The command `bench`: writes the replies to a script as `run_bench` does, and flushes the writer before it answers.
-/// It answers the bench that the script leaves, whose circuit and rows are those that the script's meaning ends with.
-pub fn bench<R: Read, W: Write>(
+/// The command `bench`: writes the replies to a script as `run_bench` does, and returns the bench that the script
+/// leaves. Its circuit and rows are those that the script's meaning ends with.
+pub fn bench<G: Grid, R: Read, W: Write>(
     alloc: Global,
     circuit: &[u8],
     stimulus: &[u8],
     script: &mut R,
     out: &mut W,
-) -> Result<Bench<PlaneGrid>, RunFault>
+) -> Result<Bench<G>, RunFault>
     ensures ends { EndsReading (flow R.left R.failures script.old script.new)
         (flow W.written W.failures out.old out.new) (RunFault.Script ScriptFault.Io)
         (LeavesBench circuit.now stimulus.now) result }
-    ensures flushed { W.failures out.new ≡ W.failures out.old → W.is_flushed out.new }
+    ensures count { R.failures script.new + W.failures out.new ≤ R.failures script.old + W.failures out.old + 1 }
+    ensures refused { IfErr result (λ fault. fault ≢ RunFault.Script ScriptFault.Io →
+        (script.new ≡ script.old) × (out.new ≡ out.old)) }
 {
-    let done = bench_after::<PlaneGrid, R, W>(alloc, circuit, stimulus, script, out);
-    flushed(done, out, RunFault::Script(ScriptFault::Io))
+    let mut bench = open_bench::<G>(alloc, circuit, stimulus)?;
+    run_script(alloc, &mut bench, script, out)?;
+    Ok(bench)
 }
 
 /// Writes the circuit of a bench as text, as it stands: gates and symbols in their order, an appended gate last, and

@@ -1,10 +1,9 @@
 -- How a session over files ends.
-use Rattle.std.proofs.Common.{◌≡◌, ◌⊎◌, inl, inr, ℕ, ◌+◌, ◌*◌, ◌≤◌, ◌<◌, Bool, false, List, [], ◌++◌, length, Option}
-use Rattle.std.proofs.Common.{Some, Result, Ok, Err, refl, sym, ap, subst, ◌∙◌, arith}
-use Rattle.std.specs.Prelude.{None, IfOk, IfErr, OnOk, OnErr}
-use Rattle.std.proofs.lemmas.List.{append-nil}
+use Rattle.std.proofs.Common.{◌≡◌, ◌⊎◌, inl, inr, ℕ, ◌+◌, ◌*◌, ◌<◌, Bool, false, List, [], length, Option}
+use Rattle.std.proofs.Common.{Result, Ok, Err, refl, sym, ap, subst, ◌∙◌}
+use Rattle.std.specs.Prelude.{IfOk, IfErr, OnOk, OnErr}
 use Rattle.std.proofs.lemmas.Result.{IfErr-weaker, IfOk-weaker}
-use Rattle.aig_bytes.specs.Bytes.{before, after, IsAtEnd, IsBeginning}
+use Rattle.aig_bytes.specs.Bytes.{before, IsAtEnd}
 use Rattle.aig_bytes.specs.Flow.{Flow, flow}
 use Rattle.aig_bytes.proofs.WriteLemmas.{after-nil}
 use Rattle.aig_parts.specs.Limits.{cell_limit}
@@ -12,9 +11,8 @@ use Rattle.aig_parts.specs.declared.raw.Raw.{Raw}
 use Rattle.aig_parts.specs.declared.ternary.Tern.{Tern}
 use Rattle.aig_bench.specs.declared.bench.fault.BenchFault.{BenchFault}
 use Rattle.aig_bench.specs.declared.bench.fault.BenchFault.TheVariants as benches
-use Rattle.aig_run.specs.Command.{Got, IsFileOf}
+use Rattle.aig_run.specs.Command.{IsFileOf}
 use Rattle.aig_run.specs.Given.{IsGiven, ReadRun}
-use Rattle.aig_run.specs.Flushed.{IsFlushed, flushes, fails}
 use Rattle.aig_run.specs.declared.given.Given.{Given}
 use Rattle.aig_run.specs.declared.run_fault.RunFault.{RunFault}
 use Rattle.aig_run.specs.declared.run_fault.RunFault.TheVariants as run_faults
@@ -33,159 +31,6 @@ use Rattle.aig_shell.specs.Talking.{Moment, HoldsLine, Done, Part, EndsInput}
 abbrev pub passes_of : {Y X Z : Type 0} → Flow Y → Flow X → (Z → Option (List Call)) → Z → Z → Passes Y X Z
 passes_of reader out calls files files_after =
     record { reader = reader; out = out; calls = calls; files = files; files_after = files_after }
-
-module _ {Y X Z : Type 0} (left : Y → Option (List ℕ)) (read_failures : Y → ℕ) (written : X → Option (List ℕ)) (failures : X → ℕ)
-    (calls : Z → Option (List Call)) (reader reader' : Y) (files files' : Z) (old mid new : X)
-    (same : written new ≡ written mid) (person : Bool) (s : SessionState) where
-  -- a flush after all
-  ended_on : failures new ≡ failures mid
-      → Ended (passes_of (flow left read_failures reader reader') (flow written failures old mid) calls files files') person s
-      → Ended (passes_of (flow left read_failures reader reader') (flow written failures old new) calls files files') person s
-  ended_on count e = record {
-    input = e.input;
-    text = e.text;
-    calls = e.calls;
-    quits = e.quits;
-    talk = e.talk;
-    read = e.read;
-    whole = e.whole;
-    got = record { got = same ∙ e.got.got; count = count ∙ e.got.count };
-    called = e.called;
-  }
-
-  -- it fails
-  ended_breaks : failures new ≡ failures mid + 1
-      → Ended (passes_of (flow left read_failures reader reader') (flow written failures old mid) calls files files') person s
-      → BreaksDown (passes_of (flow left read_failures reader reader') (flow written failures old new) calls files files') person s
-  ended_breaks count e = record {
-    input = e.input;
-    text = e.text;
-    calls = e.calls;
-    quits = e.quits;
-    talk = e.talk;
-    rest = [];
-    read = e.read ∙ ap (λ (i : List ℕ). before i (left reader')) (sym (append-nil e.input));
-    done = e.text;
-    beginning = ([], sym (append-nil e.text));
-    got = same ∙ e.got.got;
-    failed = inr (let c : failures mid ≡ failures old = e.got.count in omega (arith, count, c));
-    called = e.called;
-  }
-
-  broken_on : failures new ≡ failures mid
-      → BreaksDown (passes_of (flow left read_failures reader reader') (flow written failures old mid) calls files files') person s
-      → BreaksDown (passes_of (flow left read_failures reader reader') (flow written failures old new) calls files files') person s
-  broken_on count b = record {
-    input = b.input;
-    text = b.text;
-    calls = b.calls;
-    quits = b.quits;
-    talk = b.talk;
-    rest = b.rest;
-    read = b.read;
-    done = b.done;
-    beginning = b.beginning;
-    got = same ∙ b.got;
-    failed = elim b.failed [
-      | inl (more, unfailed) ↦ inl (more, count ∙ unfailed)
-      | inr more ↦ inr (omega (arith, count, more))
-    ];
-    called = b.called;
-  }
-
-  broken_breaks : failures new ≡ failures mid + 1
-      → BreaksDown (passes_of (flow left read_failures reader reader') (flow written failures old mid) calls files files') person s
-      → BreaksDown (passes_of (flow left read_failures reader reader') (flow written failures old new) calls files files') person s
-  broken_breaks count b = record {
-    input = b.input;
-    text = b.text;
-    calls = b.calls;
-    quits = b.quits;
-    talk = b.talk;
-    rest = b.rest;
-    read = b.read;
-    done = b.done;
-    beginning = b.beginning;
-    got = same ∙ b.got;
-    failed = elim b.failed [
-      | inl (more, unfailed) ↦ inr (omega (arith, count, unfailed))
-      | inr more ↦ inr (omega (arith, count, more))
-    ];
-    called = b.called;
-  }
-
-module _ {Y X Z : Type 0} (left : Y → Option (List ℕ)) (read_failures : Y → ℕ) (written : X → Option (List ℕ)) (failures : X → ℕ)
-    (calls : Z → Option (List Call)) (reader reader' : Y) (files files' : Z) (old mid new : X)
-    (person : Bool) (file : List ℕ) (given : Given (List ℕ)) where
-  -- the flush after a session
-  pub shell_flushed : (done result : Result (Unit {0}) RunFault)
-      → EndsShell (passes_of (flow left read_failures reader reader') (flow written failures old mid) calls files files') person file given done
-      → IsFlushed (flow written failures mid new) run_faults.Shell done result
-      → EndsShell (passes_of (flow left read_failures reader reader') (flow written failures old new) calls files files') person file given result
-  shell_flushed (Ok x) result (raw, is, (run, pair, given, at, e)) (flushes same count) =
-      (raw, is, (run, pair, given, at, ended_on left read_failures written failures calls reader reader' files files' old mid new same person _ count e))
-  shell_flushed (Ok x) result (raw, is, (run, pair, given, at, e)) (fails same count) =
-      inr (refl, inl (raw, is, (run, pair, given, at, ended_breaks left read_failures written failures calls reader reader' files files' old mid new same person _ count e)))
-  shell_flushed (Err fault) result (inl (refused, (reads, got, keeps))) (flushes same count) =
-      inl (refused, (reads, record { got = same ∙ got.got; count = count ∙ got.count }, keeps))
-  shell_flushed (Err fault) result (inl (refused, (reads, got, keeps))) (fails same count) =
-      inr (
-        refl,
-        inr (record {
-          reader = reads;
-          got = same ∙ got.got ∙ after-nil (written old);
-          failed = let c : failures mid ≡ failures old = got.count in omega (arith, count, c);
-          kept = keeps;
-        }),
-      )
-  shell_flushed (Err fault) result (inr (is_shell, inl (raw, is, (run, pair, given, at, b)))) (flushes same count) =
-      inr (is_shell, inl (raw, is, (run, pair, given, at, broken_on left read_failures written failures calls reader reader' files files' old mid new same person _ count b)))
-  shell_flushed (Err fault) result (inr (is_shell, inl (raw, is, (run, pair, given, at, b)))) (fails same count) =
-      inr (refl, inl (raw, is, (run, pair, given, at, broken_breaks left read_failures written failures calls reader reader' files files' old mid new same person _ count b)))
-  shell_flushed (Err fault) result (inr (is_shell, inr o)) (flushes same count) =
-      inr (
-        is_shell,
-        inr (record {
-          reader = o.reader;
-          got = same ∙ o.got;
-          failed = let more : failures old < failures mid = o.failed in omega (arith, count, more);
-          kept = o.kept;
-        }),
-      )
-  shell_flushed (Err fault) result (inr (is_shell, inr o)) (fails same count) =
-      inr (
-        refl,
-        inr (record {
-          reader = o.reader;
-          got = same ∙ o.got;
-          failed = let more : failures old < failures mid = o.failed in omega (arith, count, more);
-          kept = o.kept;
-        }),
-      )
-
-  -- no call fails fewer times than before
-  more_failures : (done : Result (Unit {0}) RunFault)
-      → EndsShell (passes_of (flow left read_failures reader reader') (flow written failures old mid) calls files files') person file given done
-      → failures old ≤ failures mid
-  more_failures (Ok x) (raw, is, (run, pair, given, at, e)) =
-      let c : failures mid ≡ failures old = e.got.count in omega (arith, c)
-  more_failures (Err fault) (inl (refused, (reads, got, keeps))) =
-      let c : failures mid ≡ failures old = got.count in omega (arith, c)
-  more_failures (Err fault) (inr (is_shell, inl (raw, is, (run, pair, given, at, b)))) =
-      elim b.failed [
-        | inl (more, unfailed) ↦ (let c : failures mid ≡ failures old = unfailed in omega (arith, c))
-        | inr more ↦ (let c : failures old < failures mid = more in omega (arith, c))
-      ]
-  more_failures (Err fault) (inr (is_shell, inr o)) =
-      let more : failures old < failures mid = o.failed in omega (arith, more)
-
-  pub shell_unfailed : (done result : Result (Unit {0}) RunFault)
-      → EndsShell (passes_of (flow left read_failures reader reader') (flow written failures old mid) calls files files') person file given done
-      → IsFlushed (flow written failures mid new) run_faults.Shell done result → failures new ≡ failures old
-      → failures new ≡ failures mid
-  shell_unfailed done result e (flushes same count) all = count
-  shell_unfailed done result e (fails same count) all =
-      let more = more_failures done e in omega (arith, count, more, all)
 
 module _ {Y X Z : Type 0} (left : Y → Option (List ℕ)) (read_failures : Y → ℕ) (written : X → Option (List ℕ)) (failures : X → ℕ)
     (calls : Z → Option (List Call)) (reader reader' : Y) (files files' : Z) (out out' : X) (person : Bool) (s : SessionState) where

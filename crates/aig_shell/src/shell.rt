@@ -9,7 +9,7 @@ use crate::keeper::Keep;
 use crate::session::Session;
 use crate::talk::Talker;
 use aig_base::{Io, Read, Write};
-use aig_run::{Given, GivenRun, RunFault, flushed, read_circuit, read_given};
+use aig_run::{Given, GivenRun, RunFault, read_circuit, read_given};
 use std::alloc::Global;
 
 /// The session of the files.
@@ -26,35 +26,8 @@ fn open_session(alloc: Global, file: &[u8], given: Given<&[u8]>) -> Result<Sessi
     Session::new(alloc, circuit, start.as_slice(), rows)
 }
 
-/// Opens the session, and answers lines to their end.
-fn converse<K: Keep, R: Read, W: Write>(
-    alloc: Global,
-    circuit: &[u8],
-    given: Given<&[u8]>,
-    has_prompt: bool,
-    files: &mut K,
-    reader: &mut R,
-    out: &mut W,
-) -> Result<(), RunFault>
-    ensures { EndsShell (record {
-      reader = flow R.left R.failures reader.old reader.new;
-      out = flow W.written W.failures out.old out.new;
-      calls = K.calls;
-      files = files.old;
-      files_after = files.new;
-    }) has_prompt circuit.now (given_text given.entry) result }
-{
-    let session = open_session(alloc, circuit, given)?;
-    let conversation = Conversation::new(alloc, session);
-    let mut talker = Talker::new(alloc, conversation, has_prompt);
-    match talker.run(alloc, files, reader, out) {
-        Ok(()) => Ok(()),
-        Err(Io) => Err(RunFault::Shell),
-    }
-}
-
 /// The command `shell`: reads lines to their end, or to a `quit`, and answers each about a circuit and a run, which
-/// lines edit. It flushes the writer before it reads on, and before it ends.
+/// lines edit. It flushes the writer before it reads on.
 pub fn run_shell<K: Keep, R: Read, W: Write>(
     alloc: Global,
     circuit: &[u8],
@@ -71,8 +44,12 @@ pub fn run_shell<K: Keep, R: Read, W: Write>(
       files = files.old;
       files_after = files.new;
     }) has_prompt circuit.now (given_text given.entry) result }
-    ensures flushed { W.failures out.new ≡ W.failures out.old → W.is_flushed out.new }
 {
-    let done = converse(alloc, circuit, given, has_prompt, files, reader, out);
-    flushed(done, out, RunFault::Shell)
+    let session = open_session(alloc, circuit, given)?;
+    let conversation = Conversation::new(alloc, session);
+    let mut talker = Talker::new(alloc, conversation, has_prompt);
+    match talker.run(alloc, files, reader, out) {
+        Ok(()) => Ok(()),
+        Err(Io) => Err(RunFault::Shell),
+    }
 }

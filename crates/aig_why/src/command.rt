@@ -17,7 +17,7 @@ use crate::lines::text_of;
 use crate::question::Question;
 use crate::run::{Frames, Run};
 use aig_base::{Circuit, Io, Tern, Write, write_all};
-use aig_run::{Given, GivenRun, RunFault, WhyFault, flushed, read_circuit, read_given};
+use aig_run::{Given, GivenRun, RunFault, WhyFault, read_circuit, read_given};
 use aig_signals::Naming;
 use aig_sim::{PlaneGrid, Stimulus};
 use std::alloc::Global;
@@ -142,27 +142,9 @@ fn write_text<W: Write>(text: &[u8], out: &mut W) -> Result<(), RunFault>
     }
 }
 
-/// Reads a circuit, and writes the lines for its run, without a flush at the end.
-fn read_and_explain<W: Write>(
-    alloc: Global,
-    circuit: &[u8],
-    given: Given<&[u8]>,
-    name: Option<&[u8]>,
-    span: Span,
-    out: &mut W,
-) -> Result<(), RunFault>
-    ensures { CommandEnds (flow W.written W.failures out.old out.new) RunFault.Output
-        (OfFile circuit.now (WritesWhy (given_text given.entry) (option_copied name.entry) span)) result }
-{
-    let circuit = read_circuit(alloc, circuit)?;
-    let text = explain_given(alloc, circuit, given, name, span)?;
-    write_text(&text, out)
-}
-
 /// The command `why`: writes why the literals that a name means are what they are at a frame of the run that is given,
 /// in lines of which each is right by itself. Without a name it explains the property of the witness that is given,
-/// whatever the verdict on that; without a witness nothing is asked for then, and `WhyFault::Name` is the answer. It
-/// flushes the writer before it returns.
+/// whatever the verdict on that; without a witness nothing is asked for then, and `WhyFault::Name` is the answer.
 pub fn why<W: Write>(
     alloc: Global,
     circuit: &[u8],
@@ -173,8 +155,8 @@ pub fn why<W: Write>(
 ) -> Result<(), RunFault>
     ensures ends { CommandEnds (flow W.written W.failures out.old out.new) RunFault.Output
         (OfFile circuit.now (WritesWhy (given_text given.entry) (option_copied name.entry) span)) result }
-    ensures flushed { W.failures out.new ≡ W.failures out.old → W.is_flushed out.new }
 {
-    let done = read_and_explain(alloc, circuit, given, name, span, out);
-    flushed(done, out, RunFault::Output)
+    let circuit = read_circuit(alloc, circuit)?;
+    let text = explain_given(alloc, circuit, given, name, span)?;
+    write_text(&text, out)
 }

@@ -3,8 +3,8 @@ use Rattle.aig_commands.specs.Certified.{OfCertified}
 use Rattle.aig_commands.specs.declared.certified.Purpose.TheVariants as purposes
 use Rattle.aig_commands.specs.Toaig.{Converts}
 use Rattle.aig_terminal.specs.declared.part.Part.TheVariants as parts
-use Rattle.aig.specs.Ends.{Ends, as_meant, end_of}
-use Rattle.aig.proofs.Endings.{answers, of_any, of_any_two, of_both, of_whole, slice_whole, ends_unread}
+use Rattle.aig.specs.Ends.{Ends, end_of}
+use Rattle.aig.proofs.Endings.{command_ends, ends_unread, of_any, of_any_two, of_both, of_whole, slice_whole}
 use Rattle.aig.proofs.certificates.strengthen.Goals as goal
 
 pub returns : goal.returns
@@ -17,7 +17,7 @@ returns g c =
           (slice_whole (g.F.Read.remaining c.args.circuit) _ _ c.as_slice-file.ensures.value c.in_ok-circuit.ensures.whole)
           (slice_whole (g.F.Read.remaining c.args.certificate) _ _ c.as_slice-claims.ensures.value c.in_ok-certificate.ensures.whole)
           (λ xs ys. Ends end_of (OfCertified purposes.Circuit xs c.args.property ys (Converts c.args.to)) c.ended.result)
-          (as_meant c.strengthen.result (answers _ _ c.strengthen.result c.strengthen.ensures.ends) c.ended.ensures);
+          (command_ends _ _ _ c.strengthen-done.result c.ended.result c.strengthen-done.ensures.ends c.ended.ensures.ends);
     }
 
 pub returns-in_err-circuit : goal.returns-in_err-circuit

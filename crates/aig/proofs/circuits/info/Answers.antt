@@ -16,6 +16,6 @@ returns g c =
           let known = known_at_first (left k.first) (left k.inner) file (ap left c.new-circuit.ensures.first ∙ is)
           (ap left c.new-circuit.ensures.inner ∙ is) in
           subst (λ (o : Option (List ℕ)). Ends end_of (OfFile file (ListsFacts o)) c.streamed.result) known
-          (streamed_ends _ _ (ListsFacts first) file known c.info.result c.streamed.result c.info.ensures.ends
-          c.streamed.ensures.unread c.streamed.ensures.others));
+          (streamed_ends _ _ _ (ListsFacts first) file known c.info-done.result c.streamed.result c.info-done.ensures.ends
+          c.streamed.ensures.ends));
     }

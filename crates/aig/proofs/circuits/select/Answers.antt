@@ -1,8 +1,7 @@
 use Rattle.std.proofs.Common.{ℕ, List, subst}
 use Rattle.aig_run.specs.Command.{OfCircuit}
 use Rattle.aig_commands.specs.Select.{Selects}
-use Rattle.aig.specs.Ends.{as_meant}
-use Rattle.aig.proofs.Endings.{answers_changed, circuit_answers}
+use Rattle.aig.proofs.Endings.{answers_changed, circuit_answers, ends_flushed}
 use Rattle.aig.proofs.circuits.select.Goals as goal
 
 pub returns : goal.returns
@@ -12,9 +11,9 @@ returns g c =
     let named = c.as_slice.result.now in
     record {
       ends =
-          as_meant c.select.result
+          ends_flushed _ _ c.select-done.result c.ended.result
           (answers_changed (OfCircuit (Selects from into named c.args.to)) (OfCircuit (Selects from into c.args.selection.positions.items c.args.to))
           (λ answer bytes said. subst (λ (ps : List ℕ). OfCircuit (Selects from into ps c.args.to) answer bytes) c.as_slice.ensures.value said)
-          c.select.result
-          (circuit_answers _ _ (Selects from into named c.args.to) c.select.result c.select.ensures.ends)) c.ended.ensures;
+          c.select-done.result
+          (circuit_answers _ _ (Selects from into named c.args.to) c.select-done.result c.select-done.ensures.ends)) c.ended.ensures.ends;
     }

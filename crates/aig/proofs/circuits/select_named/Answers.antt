@@ -3,8 +3,8 @@ use Rattle.aig_run.specs.Command.{OfCircuit}
 use Rattle.aig_terminal.specs.declared.part.Part.TheVariants as parts
 use Rattle.aig_commands.specs.Select.{SelectsNamed}
 use Rattle.aig_commands.specs.declared.select.NamedSelection.{NamedSelection}
-use Rattle.aig.specs.Ends.{EndsSelectingNamed, as_meant}
-use Rattle.aig.proofs.Endings.{answers_changed, circuit_answers, ends_unread, of_any, of_whole, slice_whole}
+use Rattle.aig.specs.Ends.{EndsSelectingNamed}
+use Rattle.aig.proofs.Endings.{answers_changed, circuit_answers, ends_flushed, ends_unread, of_any, of_whole, slice_whole}
 use Rattle.aig.proofs.circuits.select_named.Goals as goal
 
 pub returns : goal.returns
@@ -23,10 +23,10 @@ returns g c =
           of_whole (g.F.Read.remaining c.args.names) c.as_slice-text.result.now
           (slice_whole (g.F.Read.remaining c.args.names) _ _ c.as_slice-text.ensures.value c.in_ok-names.ensures.whole)
           (λ text. EndsSelectingNamed from into positions text c.args.to c.ended.result)
-          (as_meant c.select_named.result
+          (ends_flushed _ _ c.select_named-done.result c.ended.result
           (answers_changed (OfCircuit (SelectsNamed s c.args.to)) _
-          (λ answer bytes said. (s, refl, refl, c.as_slice-positions.ensures.value, refl, said)) c.select_named.result
-          (circuit_answers _ _ (SelectsNamed s c.args.to) c.select_named.result c.select_named.ensures.ends)) c.ended.ensures);
+          (λ answer bytes said. (s, refl, refl, c.as_slice-positions.ensures.value, refl, said)) c.select_named-done.result
+          (circuit_answers _ _ (SelectsNamed s c.args.to) c.select_named-done.result c.select_named-done.ensures.ends)) c.ended.ensures.ends);
     }
 
 pub returns-in_err-names : goal.returns-in_err-names

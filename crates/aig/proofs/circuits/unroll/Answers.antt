@@ -1,8 +1,8 @@
 use Rattle.aig_commands.specs.Unroll.{UnrollsKept}
 use Rattle.aig_run.specs.Command.{OfFile}
 use Rattle.aig_terminal.specs.declared.part.Part.TheVariants as parts
-use Rattle.aig.specs.Ends.{Ends, as_meant, end_of}
-use Rattle.aig.proofs.Endings.{answers, of_any, of_whole, slice_whole, ends_unread}
+use Rattle.aig.specs.Ends.{Ends, end_of}
+use Rattle.aig.proofs.Endings.{command_ends, ends_unread, of_any, of_whole, slice_whole}
 use Rattle.aig.proofs.circuits.unroll.Goals as goal
 
 pub returns : goal.returns
@@ -13,7 +13,7 @@ returns g c =
           of_whole (g.F.Read.remaining c.args.circuit) file
           (slice_whole (g.F.Read.remaining c.args.circuit) _ _ c.as_slice-file.ensures.value c.in_ok-circuit.ensures.whole)
           (λ xs. Ends end_of (OfFile xs (UnrollsKept c.args.frames c.args.to)) c.ended.result)
-          (as_meant c.write_unrolled.result (c.write_unrolled.ensures) c.ended.ensures);
+          (command_ends _ _ (OfFile file (UnrollsKept c.args.frames c.args.to)) c.unroll-done.result c.ended.result c.unroll-done.ensures.ends c.ended.ensures.ends);
     }
 
 pub returns-in_err-circuit : goal.returns-in_err-circuit

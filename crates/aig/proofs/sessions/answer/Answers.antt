@@ -1,9 +1,8 @@
 use Rattle.aig_run.specs.Given.{given_text}
-use Rattle.aig.specs.Ends.{as_meant}
-use Rattle.aig.proofs.SessionEndings.{session_answers}
+use Rattle.aig.proofs.SessionEndings.{session_ends}
 use Rattle.aig.proofs.sessions.answer.Goals as goal
 
 pub returns : goal.returns
 returns g c =
-    as_meant c.run_shell.result
-    (session_answers _ _ c.args.circuit.now (given_text c.args.given) c.run_shell.result c.run_shell.ensures.ends) c.ended.ensures
+    session_ends _ _ c.args.circuit.now (given_text c.args.given) c.run_shell-done.result c.ended.result _ c.run_shell-done.ensures.ends
+    c.ended.ensures.ends

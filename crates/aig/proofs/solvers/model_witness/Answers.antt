@@ -1,28 +1,30 @@
-use Rattle.std.proofs.Common.{◌∙◌, subst}
+use Rattle.std.proofs.Common.{subst}
 use Rattle.std.specs.Prelude.{IfSome}
 use Rattle.aig_commands.specs.Questions.{Asked, NamesQuestion}
 use Rattle.aig_terminal.specs.declared.part.Part.TheVariants as parts
-use Rattle.aig.specs.Ends.{Ends, as_meant, end_of}
+use Rattle.aig_commands.proofs.Questions.{asked_with}
+use Rattle.aig.specs.Ends.{Ends, end_of}
 use Rattle.aig.specs.Questions.{asked_by, claims_left}
-use Rattle.aig.proofs.Endings.{answers, ends_unread, of_any, of_any_two, of_both, of_whole, slice_whole}
+use Rattle.aig.proofs.Endings.{command_ends, ends_unread, of_any, of_any_two, of_both, of_whole, slice_whole}
 use Rattle.aig.proofs.solvers.model_witness.Goals as goal
 
 pub returns : goal.returns
 returns g c =
     let file = c.as_slice-file.result.now in
     let text = c.as_slice-text.result.now in
-    let read = c.in_ok-read.ensures.asked in
+    let claims = c.as_slice-bytes.result.now in
     record {
       ends =
-          of_both (g.F.Read.remaining c.args.circuit) (claims_left g.F.Read.remaining c.args.question) file read.0
-          (slice_whole (g.F.Read.remaining c.args.circuit) _ _ c.as_slice-file.ensures.value c.in_ok-circuit.ensures.whole) read.2
+          of_both (g.F.Read.remaining c.args.circuit) (claims_left g.F.Read.remaining c.args.question) file claims
+          (slice_whole (g.F.Read.remaining c.args.circuit) _ _ c.as_slice-file.ensures.value c.in_ok-circuit.ensures.whole)
+          (slice_whole (claims_left g.F.Read.remaining c.args.question) _ _ c.as_slice-bytes.ensures.value c.in_ok-claims.ensures.whole)
           (λ xs ys. IfSome (g.F.Read.remaining c.args.model)
           (λ zs. Ends end_of (NamesQuestion (asked_by c.args.question (λ certificate. ys)) zs xs) c.ended.result))
           (of_whole (g.F.Read.remaining c.args.model) text
           (slice_whole (g.F.Read.remaining c.args.model) _ _ c.as_slice-text.ensures.value c.in_ok-model.ensures.whole)
-          (λ zs. Ends end_of (NamesQuestion (asked_by c.args.question (λ certificate. read.0)) zs file) c.ended.result)
-          (subst (λ (a : Asked). Ends end_of (NamesQuestion a text file) c.ended.result) (c.question_of-asked.ensures ∙ read.1)
-          (as_meant c.model_witness.result (answers _ _ c.model_witness.result c.model_witness.ensures.ends) c.ended.ensures)));
+          (λ zs. Ends end_of (NamesQuestion (asked_by c.args.question (λ certificate. claims)) zs file) c.ended.result)
+          (subst (λ (a : Asked). Ends end_of (NamesQuestion a text file) c.ended.result) (asked_with c.args.question c.with-shape.result c.with-asked.result c.as_slice-bytes.result c.with-shape.ensures c.with-asked.ensures)
+          (command_ends _ _ _ c.model_witness-done.result c.ended.result c.model_witness-done.ensures.ends c.ended.ensures.ends)));
     }
 
 pub returns-in_err-circuit : goal.returns-in_err-circuit
@@ -38,9 +40,9 @@ returns-in_err-circuit g c =
           (λ zs. ends_unread r c.in_err-circuit.field-0.0 parts.Circuit c.in_err-circuit.ensures.fails c.from_residual.ensures.1));
     }
 
-pub returns-in_err-read : goal.returns-in_err-read
-returns-in_err-read g c =
-    let r = c.from_residual-in_err-read.result in
+pub returns-in_err-claims : goal.returns-in_err-claims
+returns-in_err-claims g c =
+    let r = c.from_residual-in_err-claims.result in
     record {
       ends =
           of_any_two (g.F.Read.remaining c.args.circuit) (claims_left g.F.Read.remaining c.args.question)
@@ -48,7 +50,7 @@ returns-in_err-read g c =
           (λ zs. Ends end_of (NamesQuestion (asked_by c.args.question (λ certificate. ys)) zs xs) r))
           (λ xs ys. of_any (g.F.Read.remaining c.args.model)
           (λ zs. Ends end_of (NamesQuestion (asked_by c.args.question (λ certificate. ys)) zs xs) r)
-          (λ zs. ends_unread r c.in_err-read.field-0.0 parts.Certificate c.in_err-read.ensures.fails c.from_residual-in_err-read.ensures.1));
+          (λ zs. ends_unread r c.in_err-claims.field-0.0 parts.Certificate c.in_err-claims.ensures.fails c.from_residual-in_err-claims.ensures.1));
     }
 
 pub returns-in_err-model : goal.returns-in_err-model

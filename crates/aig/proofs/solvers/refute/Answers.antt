@@ -1,40 +1,42 @@
-use Rattle.std.proofs.Common.{List, ℕ, OnOk, ◌∙◌, subst}
+use Rattle.std.proofs.Common.{List, ℕ, OnOk, subst}
 use Rattle.aig_commands.specs.Questions.{Asked, RefutesQuestion, Says}
 use Rattle.aig_terminal.specs.declared.part.Part.TheVariants as parts
-use Rattle.aig.specs.Ends.{Ends, as_meant, end_of}
+use Rattle.aig_commands.proofs.Questions.{asked_with}
+use Rattle.aig.specs.Ends.{Ends, end_of}
 use Rattle.aig.specs.Questions.{asked_by, claims_left}
 use Rattle.aig.proofs.Asked.{some_claims}
-use Rattle.aig.proofs.Endings.{answers, ends_unread, no_end, of_any_two, of_both, ok_of, ok_whole, slice_whole}
+use Rattle.aig.proofs.Endings.{command_ends, ends_unread, no_end, of_any_two, of_both, ok_flushed, ok_whole, slice_whole}
 use Rattle.aig.proofs.solvers.refute.Goals as goal
 
 pub returns-clause-says : goal.returns-clause-says
 returns-clause-says g c =
     let file = c.as_slice-file.result.now in
-    let read = c.in_ok-read.ensures.asked in
+    let claims = c.as_slice-bytes.result.now in
     ok_whole c.ended.result (g.F.Read.remaining c.args.circuit) file
     (slice_whole (g.F.Read.remaining c.args.circuit) _ _ c.as_slice-file.ensures.value c.in_ok-circuit.ensures.whole)
     (λ file. (claims : List ℕ) × Says (asked_by c.args.question (λ certificate. claims)) file)
-    (ok_of _ c.refute.result c.ended.result c.ended.ensures
-    (some_claims c.refute.result (λ claims. Says (asked_by c.args.question (λ certificate. claims)) file) read.0
-    (subst (λ (a : Asked). OnOk c.refute.result (Says a file)) (c.question_of-asked.ensures ∙ read.1) c.refute.ensures.says)))
+    (ok_flushed _ _ _ c.refute-done.result c.ended.result c.ended.ensures.ends
+    (some_claims c.refute-done.result (λ claims. Says (asked_by c.args.question (λ certificate. claims)) file) claims
+    (subst (λ (a : Asked). OnOk c.refute-done.result (Says a file)) (asked_with c.args.question c.with-shape.result c.with-asked.result c.as_slice-bytes.result c.with-shape.ensures c.with-asked.ensures) c.refute-done.ensures.says)))
 
 pub returns-in_err-circuit-clause-says : goal.returns-in_err-circuit-clause-says
 returns-in_err-circuit-clause-says g c =
     no_end _ c.from_residual.result c.in_err-circuit.field-0.0 c.from_residual.ensures.1
 
-pub returns-in_err-read-clause-says : goal.returns-in_err-read-clause-says
-returns-in_err-read-clause-says g c =
-    no_end _ c.from_residual-in_err-read.result c.in_err-read.field-0.0 c.from_residual-in_err-read.ensures.1
+pub returns-in_err-claims-clause-says : goal.returns-in_err-claims-clause-says
+returns-in_err-claims-clause-says g c =
+    no_end _ c.from_residual-in_err-claims.result c.in_err-claims.field-0.0 c.from_residual-in_err-claims.ensures.1
 
 pub returns-clause-ends : goal.returns-clause-ends
 returns-clause-ends g c =
     let file = c.as_slice-file.result.now in
-    let read = c.in_ok-read.ensures.asked in
-    of_both (g.F.Read.remaining c.args.circuit) (claims_left g.F.Read.remaining c.args.question) file read.0
-    (slice_whole (g.F.Read.remaining c.args.circuit) _ _ c.as_slice-file.ensures.value c.in_ok-circuit.ensures.whole) read.2
+    let claims = c.as_slice-bytes.result.now in
+    of_both (g.F.Read.remaining c.args.circuit) (claims_left g.F.Read.remaining c.args.question) file claims
+    (slice_whole (g.F.Read.remaining c.args.circuit) _ _ c.as_slice-file.ensures.value c.in_ok-circuit.ensures.whole)
+    (slice_whole (claims_left g.F.Read.remaining c.args.question) _ _ c.as_slice-bytes.ensures.value c.in_ok-claims.ensures.whole)
     (λ xs ys. Ends end_of (RefutesQuestion (asked_by c.args.question (λ certificate. ys)) xs) c.ended.result)
-    (subst (λ (a : Asked). Ends end_of (RefutesQuestion a file) c.ended.result) (c.question_of-asked.ensures ∙ read.1)
-    (as_meant c.refute.result (answers _ _ c.refute.result c.refute.ensures.ends) c.ended.ensures))
+    (subst (λ (a : Asked). Ends end_of (RefutesQuestion a file) c.ended.result) (asked_with c.args.question c.with-shape.result c.with-asked.result c.as_slice-bytes.result c.with-shape.ensures c.with-asked.ensures)
+    (command_ends _ _ _ c.refute-done.result c.ended.result c.refute-done.ensures.ends c.ended.ensures.ends))
 
 pub returns-in_err-circuit-clause-ends : goal.returns-in_err-circuit-clause-ends
 returns-in_err-circuit-clause-ends g c =
@@ -43,10 +45,10 @@ returns-in_err-circuit-clause-ends g c =
     (λ xs ys. Ends end_of (RefutesQuestion (asked_by c.args.question (λ certificate. ys)) xs) r)
     (λ xs ys. ends_unread r c.in_err-circuit.field-0.0 parts.Circuit c.in_err-circuit.ensures.fails c.from_residual.ensures.1)
 
-pub returns-in_err-read-clause-ends : goal.returns-in_err-read-clause-ends
-returns-in_err-read-clause-ends g c =
-    let r = c.from_residual-in_err-read.result in
+pub returns-in_err-claims-clause-ends : goal.returns-in_err-claims-clause-ends
+returns-in_err-claims-clause-ends g c =
+    let r = c.from_residual-in_err-claims.result in
     of_any_two (g.F.Read.remaining c.args.circuit) (claims_left g.F.Read.remaining c.args.question)
     (λ xs ys. Ends end_of (RefutesQuestion (asked_by c.args.question (λ certificate. ys)) xs) r)
-    (λ xs ys. ends_unread r c.in_err-read.field-0.0 parts.Certificate c.in_err-read.ensures.fails
-    c.from_residual-in_err-read.ensures.1)
+    (λ xs ys. ends_unread r c.in_err-claims.field-0.0 parts.Certificate c.in_err-claims.ensures.fails
+    c.from_residual-in_err-claims.ensures.1)

@@ -4,9 +4,9 @@ use Rattle.aig_why.specs.Why.{WritesWhy}
 use Rattle.aig_run.specs.Command.{OfFile}
 use Rattle.aig_run.specs.Given.{given_text}
 use Rattle.aig_terminal.specs.declared.part.Part.TheVariants as parts
-use Rattle.aig.specs.Ends.{Answers, Ends, as_meant, end_of}
+use Rattle.aig.specs.Ends.{Answers, Ends, end_of}
 use Rattle.aig.specs.GivenFiles.{given_left, given_part}
-use Rattle.aig.proofs.Endings.{answers, ends_unread, of_any_two, of_both, slice_whole}
+use Rattle.aig.proofs.Endings.{answers, ends_flushed, ends_unread, of_any_two, of_both, slice_whole}
 use Rattle.aig.proofs.why.why.Goals as goal
 
 pub returns : goal.returns
@@ -19,10 +19,10 @@ returns g c =
           (slice_whole (g.F.Read.remaining c.args.circuit) _ _ c.as_slice-file.ensures.value c.in_ok-circuit.ensures.whole)
           (slice_whole (given_left g.F.Read.remaining c.args.given) _ _ c.text_of_given-run.ensures c.in_ok-given.ensures.whole)
           (λ file run. Ends end_of (OfFile file (WritesWhy run (option_copied c.args.name) c.args.span)) c.ended.result)
-          (as_meant c.why.result
-          (subst (λ (name : Option (List ℕ)). Answers (OfFile file (WritesWhy run name c.args.span)) c.why.result) c.bytes_of.ensures
-          (answers _ (OfFile file (WritesWhy run (option_copied c.bytes_of.result) c.args.span)) c.why.result c.why.ensures.ends))
-          c.ended.ensures);
+          (ends_flushed _ _ c.why-done.result c.ended.result
+          (subst (λ (name : Option (List ℕ)). Answers (OfFile file (WritesWhy run name c.args.span)) c.why-done.result) c.bytes_of.ensures
+          (answers _ (OfFile file (WritesWhy run (option_copied c.bytes_of.result) c.args.span)) c.why-done.result c.why-done.ensures.ends))
+          c.ended.ensures.ends);
     }
 
 pub returns-in_err-circuit : goal.returns-in_err-circuit

@@ -1,20 +1,20 @@
 use Rattle.std.specs.Prelude.{IfSome}
 use Rattle.aig_run.specs.Command.{OfFile}
 use Rattle.aig_terminal.specs.declared.part.Part.TheVariants as parts
-use Rattle.aig.specs.Ends.{AreConfirmed, ChecksWitness, Ends, as_meant, end_of_verdict}
-use Rattle.aig.proofs.Endings.{confirmed_file, no_end, of_any, of_whole, ok_whole, slice_whole, ends_unread}
+use Rattle.aig.specs.Ends.{AreConfirmed, ChecksWitness, Ends, end_of_verdict}
+use Rattle.aig.proofs.Endings.{confirmed_end, no_end, of_any, of_whole, ok_whole, slice_whole, ends_unread}
 use Rattle.aig.proofs.witnesses.check.Goals as goal
 
 pub returns-clause-confirmed : goal.returns-clause-confirmed
 returns-clause-confirmed g c =
     let file = c.as_slice-file.result.now in
     let text = c.as_slice-text.result.now in
-    ok_whole c.confirmed.result (g.F.Read.remaining c.args.circuit) file
+    ok_whole c.write_verdict.result (g.F.Read.remaining c.args.circuit) file
     (slice_whole (g.F.Read.remaining c.args.circuit) _ _ c.as_slice-file.ensures.value c.in_ok-circuit.ensures.whole)
     (λ xs. IfSome (g.F.Read.remaining c.args.witness) (AreConfirmed c.args.property xs))
-    (ok_whole c.confirmed.result (g.F.Read.remaining c.args.witness) text
+    (ok_whole c.write_verdict.result (g.F.Read.remaining c.args.witness) text
     (slice_whole (g.F.Read.remaining c.args.witness) _ _ c.as_slice-text.ensures.value c.in_ok-witness.ensures.whole) (AreConfirmed c.args.property file)
-    (confirmed_file c.args.with_trace c.args.property file text c.write_verdict.result c.confirmed.result c.write_verdict.ensures c.confirmed.ensures))
+    (confirmed_end c.args.with_trace c.args.property file text c.write_verdict.result c.write_verdict.ensures))
 
 pub returns-in_err-circuit-clause-confirmed : goal.returns-in_err-circuit-clause-confirmed
 returns-in_err-circuit-clause-confirmed g c =
@@ -31,11 +31,11 @@ returns-clause-ends g c =
     of_whole (g.F.Read.remaining c.args.circuit) file
     (slice_whole (g.F.Read.remaining c.args.circuit) _ _ c.as_slice-file.ensures.value c.in_ok-circuit.ensures.whole)
     (λ xs. IfSome (g.F.Read.remaining c.args.witness)
-    (λ ys. Ends end_of_verdict (OfFile xs (ChecksWitness c.args.with_trace c.args.property ys)) c.confirmed.result))
+    (λ ys. Ends end_of_verdict (OfFile xs (ChecksWitness c.args.with_trace c.args.property ys)) c.write_verdict.result))
     (of_whole (g.F.Read.remaining c.args.witness) text
     (slice_whole (g.F.Read.remaining c.args.witness) _ _ c.as_slice-text.ensures.value c.in_ok-witness.ensures.whole)
-    (λ ys. Ends end_of_verdict (OfFile file (ChecksWitness c.args.with_trace c.args.property ys)) c.confirmed.result)
-    (as_meant c.write_verdict.result (c.write_verdict.ensures) c.confirmed.ensures))
+    (λ ys. Ends end_of_verdict (OfFile file (ChecksWitness c.args.with_trace c.args.property ys)) c.write_verdict.result)
+    c.write_verdict.ensures)
 
 pub returns-in_err-circuit-clause-ends : goal.returns-in_err-circuit-clause-ends
 returns-in_err-circuit-clause-ends g c =

@@ -2,8 +2,8 @@ use Rattle.std.specs.Prelude.{IfSome}
 use Rattle.aig_commands.specs.Reduce.{Reduces}
 use Rattle.aig_run.specs.Command.{OfFile}
 use Rattle.aig_terminal.specs.declared.part.Part.TheVariants as parts
-use Rattle.aig.specs.Ends.{Ends, as_meant, end_of_verdict}
-use Rattle.aig.proofs.Endings.{answers, of_any, of_whole, slice_whole, ends_unread}
+use Rattle.aig.specs.Ends.{Ends, end_of_verdict}
+use Rattle.aig.proofs.Endings.{command_ends, ends_unread, of_any, of_whole, slice_whole}
 use Rattle.aig.proofs.witnesses.reduce.Goals as goal
 
 pub returns : goal.returns
@@ -18,7 +18,7 @@ returns g c =
           (of_whole (g.F.Read.remaining c.args.witness) text
           (slice_whole (g.F.Read.remaining c.args.witness) _ _ c.as_slice-text.ensures.value c.in_ok-witness.ensures.whole)
           (λ ys. Ends end_of_verdict (OfFile file (Reduces ys)) c.confirmed.result)
-          (as_meant c.reduce.result (answers _ (OfFile file (Reduces text)) c.reduce.result c.reduce.ensures.ends) c.confirmed.ensures));
+          (command_ends _ _ (OfFile file (Reduces text)) c.reduce-done.result c.confirmed.result c.reduce-done.ensures.ends c.confirmed.ensures.ends));
     }
 
 pub returns-in_err-circuit : goal.returns-in_err-circuit

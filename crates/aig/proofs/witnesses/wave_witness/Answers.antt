@@ -2,8 +2,8 @@ use Rattle.std.specs.Prelude.{IfSome}
 use Rattle.aig_commands.specs.Wave.{DumpsRun}
 use Rattle.aig_run.specs.Command.{OfFile}
 use Rattle.aig_terminal.specs.declared.part.Part.TheVariants as parts
-use Rattle.aig.specs.Ends.{Ends, as_meant, end_of}
-use Rattle.aig.proofs.Endings.{answers, of_any, of_whole, slice_whole, ends_unread}
+use Rattle.aig.specs.Ends.{Ends, end_of}
+use Rattle.aig.proofs.Endings.{command_ends, ends_unread, of_any, of_whole, slice_whole}
 use Rattle.aig.proofs.witnesses.wave_witness.Goals as goal
 
 pub returns : goal.returns
@@ -18,7 +18,7 @@ returns g c =
           (of_whole (g.F.Read.remaining c.args.witness) text
           (slice_whole (g.F.Read.remaining c.args.witness) _ _ c.as_slice-text.ensures.value c.in_ok-witness.ensures.whole)
           (λ ys. Ends end_of (OfFile file (DumpsRun ys)) c.ended.result)
-          (as_meant c.wave_witness.result (answers _ (OfFile file (DumpsRun text)) c.wave_witness.result c.wave_witness.ensures.ends) c.ended.ensures));
+          (command_ends _ _ (OfFile file (DumpsRun text)) c.wave_witness-done.result c.ended.result c.wave_witness-done.ensures.ends c.ended.ensures.ends));
     }
 
 pub returns-in_err-circuit : goal.returns-in_err-circuit

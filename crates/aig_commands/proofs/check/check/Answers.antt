@@ -1,15 +1,34 @@
+use Rattle.aig_bytes.specs.Flow.{flow}
 use Rattle.aig_commands.specs.Check.{Checks, OfProperty}
+use Rattle.aig_commands.proofs.Asked.{asked_ends, checks_witness, refused_ends}
 use Rattle.aig_commands.proofs.check.check.Goals as goal
-use Rattle.aig_run.proofs.Flushes.{flushed_ends, ends_unfailed}
-use Rattle.aig_run.specs.Command.{OfFile, OfReader}
+use Rattle.aig_run.proofs.Files.{answered, file_refused}
+use Rattle.aig_run.specs.Command.{CommandEnds, OfFile}
 use Rattle.aig_run.specs.declared.run_fault.RunFault.TheVariants as run_faults
 
 pub returns-clause-ends : goal.returns-clause-ends
 returns-clause-ends g c =
-    flushed_ends g.W.Write.written g.W.Write.failures c.args.out.now c.check_file-done.new.out c.flushed.new.out run_faults.Output (OfFile c.args.circuit.now (OfProperty c.args.property Checks c.args.witness.now))
-    c.check_file-done.result c.flushed.result c.check_file-done.ensures.ends c.flushed.ensures.answer
+    asked_ends Checks c.args.witness.now c.in_ok-circuit.circuit
+    (checks_witness c.args.witness.now c.in_ok-circuit.circuit)
+    (flow g.W.Write.written g.W.Write.failures c.args.out.now c.check_circuit.new.out) c.args.circuit.now c.in_ok-circuit.ensures.circuit
+    c.args.property c.in_ok-refuse_other.ensures.ok c.check_circuit.result c.check_circuit.ensures.ends
 
-pub returns-clause-flushed : goal.returns-clause-flushed
-returns-clause-flushed g c = λ same.
-    c.flushed.ensures.flushed (ends_unfailed g.W.Write.written g.W.Write.failures c.args.out.now c.check_file-done.new.out c.flushed.new.out run_faults.Output (OfFile c.args.circuit.now (OfProperty c.args.property Checks c.args.witness.now))
-    c.check_file-done.result c.flushed.result c.check_file-done.ensures.ends c.flushed.ensures.answer same)
+pub returns-in_err-refuse_other-clause-ends : goal.returns-in_err-refuse_other-clause-ends
+returns-in_err-refuse_other-clause-ends g c =
+    answered c.from_residual-in_err-refuse_other.result c.in_err-refuse_other.field-0.0
+    (CommandEnds (flow g.W.Write.written g.W.Write.failures c.args.out.now c.args.out.now) run_faults.Output
+    (OfFile c.args.circuit.now (OfProperty c.args.property Checks c.args.witness.now)))
+    c.from_residual-in_err-refuse_other.ensures.1
+    (refused_ends Checks c.args.witness.now c.in_ok-circuit.circuit
+    (checks_witness c.args.witness.now c.in_ok-circuit.circuit)
+    g.W.Write.written g.W.Write.failures c.args.out.now c.args.circuit.now c.in_ok-circuit.ensures.circuit c.args.property
+    c.in_err-refuse_other.field-0.0 c.in_err-refuse_other.ensures.fault)
+
+pub returns-in_err-circuit-clause-ends : goal.returns-in_err-circuit-clause-ends
+returns-in_err-circuit-clause-ends g c =
+    answered c.from_residual.result (run_faults.Circuit c.in_err-circuit.field-0.0)
+    (CommandEnds (flow g.W.Write.written g.W.Write.failures c.args.out.now c.args.out.now) run_faults.Output
+    (OfFile c.args.circuit.now (OfProperty c.args.property Checks c.args.witness.now)))
+    c.from_residual.ensures.1
+    (file_refused g.W.Write.written g.W.Write.failures c.args.out.now run_faults.Output
+    (OfProperty c.args.property Checks c.args.witness.now) c.args.circuit.now c.in_err-circuit.field-0.0 c.in_err-circuit.ensures.fault)

@@ -1,15 +1,43 @@
+use Rattle.aig_bytes.specs.Flow.{flow}
 use Rattle.aig_commands.specs.Check.{ChecksAndTraces, OfProperty}
+use Rattle.aig_commands.proofs.Asked.{asked_ends, refused_ends, traces_witness}
 use Rattle.aig_commands.proofs.check.check_and_trace.Goals as goal
-use Rattle.aig_run.proofs.Flushes.{flushed_ends, ends_unfailed}
-use Rattle.aig_run.specs.Command.{OfFile, OfReader}
+use Rattle.aig_run.proofs.Files.{answered, file_refused}
+use Rattle.aig_run.specs.Command.{CommandEnds, OfFile}
 use Rattle.aig_run.specs.declared.run_fault.RunFault.TheVariants as run_faults
 
-pub returns-clause-ends : goal.returns-clause-ends
-returns-clause-ends g c =
-    flushed_ends g.W.Write.written g.W.Write.failures c.args.out.now c.check_and_write_run-done.new.out c.flushed.new.out run_faults.Output (OfFile c.args.circuit.now (OfProperty c.args.property ChecksAndTraces c.args.witness.now))
-    c.check_and_write_run-done.result c.flushed.result c.check_and_write_run-done.ensures c.flushed.ensures.answer
+pub returns : goal.returns
+returns g c =
+    record {
+      ends =
+          asked_ends ChecksAndTraces c.args.witness.now c.in_ok-read.read
+          (traces_witness c.args.witness.now c.in_ok-read.read)
+          (flow g.W.Write.written g.W.Write.failures c.args.out.now c.write_run.new.out) c.args.circuit.now c.in_ok-read.ensures.circuit
+          c.args.property c.in_ok-refuse_other.ensures.ok c.write_run.result c.write_run.ensures;
+    }
 
-pub returns-clause-flushed : goal.returns-clause-flushed
-returns-clause-flushed g c = λ same.
-    c.flushed.ensures.flushed (ends_unfailed g.W.Write.written g.W.Write.failures c.args.out.now c.check_and_write_run-done.new.out c.flushed.new.out run_faults.Output (OfFile c.args.circuit.now (OfProperty c.args.property ChecksAndTraces c.args.witness.now))
-    c.check_and_write_run-done.result c.flushed.result c.check_and_write_run-done.ensures c.flushed.ensures.answer same)
+pub returns-in_err-refuse_other : goal.returns-in_err-refuse_other
+returns-in_err-refuse_other g c =
+    record {
+      ends =
+          answered c.from_residual-in_err-refuse_other.result c.in_err-refuse_other.field-0.0
+          (CommandEnds (flow g.W.Write.written g.W.Write.failures c.args.out.now c.args.out.now) run_faults.Output
+          (OfFile c.args.circuit.now (OfProperty c.args.property ChecksAndTraces c.args.witness.now)))
+          c.from_residual-in_err-refuse_other.ensures.1
+          (refused_ends ChecksAndTraces c.args.witness.now c.in_ok-read.read
+          (traces_witness c.args.witness.now c.in_ok-read.read)
+          g.W.Write.written g.W.Write.failures c.args.out.now c.args.circuit.now c.in_ok-read.ensures.circuit c.args.property
+          c.in_err-refuse_other.field-0.0 c.in_err-refuse_other.ensures.fault);
+    }
+
+pub returns-in_err-read : goal.returns-in_err-read
+returns-in_err-read g c =
+    record {
+      ends =
+          answered c.from_residual.result (run_faults.Circuit c.in_err-read.field-0.0)
+          (CommandEnds (flow g.W.Write.written g.W.Write.failures c.args.out.now c.args.out.now) run_faults.Output
+          (OfFile c.args.circuit.now (OfProperty c.args.property ChecksAndTraces c.args.witness.now)))
+          c.from_residual.ensures.1
+          (file_refused g.W.Write.written g.W.Write.failures c.args.out.now run_faults.Output
+          (OfProperty c.args.property ChecksAndTraces c.args.witness.now) c.args.circuit.now c.in_err-read.field-0.0 c.in_err-read.ensures.fault);
+    }

@@ -5,7 +5,7 @@ use Rattle.aig_run.proofs.Files.{answered}
 use Rattle.aig_run.proofs.Written.{got_none, output_ends}
 use Rattle.aig_run.specs.Command.{CommandEnds}
 use Rattle.aig_run.specs.declared.run_fault.RunFault.TheVariants as run_faults
-use Rattle.aig_commands.specs.Questions.{WritesFor, asked_of}
+use Rattle.aig_commands.specs.Questions.{WritesFor, asked_of, heading_of}
 use Rattle.aig_commands.proofs.Questions.{writes_formula, writes_none}
 use Rattle.aig_commands.proofs.cnf.make_and_write.Goals as goal
 
@@ -13,16 +13,16 @@ pub returns : goal.returns
 returns g c =
     let formula' = c.in_ok-formula.formula in
     let e = c.in_ok-formula.ensures in
-    let asked = asked_of c.args.question in
+    let asked = heading_of (asked_of c.args.question) in
     output_ends g.W.Write.written g.W.Write.failures c.args.out.now c.write_text.new.out
-    (WritesFor asked c.args.circuit.now) (cnf_text c.formula.new.circuit c.heading.result formula') c.write_text.result
+    (WritesFor asked c.args.circuit.now) (cnf_text c.formula_of.new.circuit c.heading_of.result formula') c.write_text.result
     c.write_text.ensures.written c.write_text.ensures.output
-    (writes_formula asked c.args.circuit.now c.formula.new.circuit c.heading.result formula' e.accepted e.formula e.circuit
-    c.heading.ensures)
+    (writes_formula asked c.args.circuit.now c.formula_of.new.circuit c.heading_of.result formula' e.accepted e.formula e.circuit
+    c.heading_of.ensures)
 
 pub returns-in_err-formula : goal.returns-in_err-formula
 returns-in_err-formula g c =
-    let asked = asked_of c.args.question in
+    let asked = heading_of (asked_of c.args.question) in
     answered c.from_residual.result (run_faults.Cnf c.in_err-formula.field-0.0)
     (CommandEnds (flow g.W.Write.written g.W.Write.failures c.args.out.now c.args.out.now) run_faults.Output
     (WritesFor asked c.args.circuit.now))

@@ -1,17 +1,27 @@
+use Rattle.aig_bytes.specs.Flow.{flow}
 use Rattle.aig_commands.specs.Reduce.{Reduces}
 use Rattle.aig_commands.proofs.reduce.reduce.Goals as goal
-use Rattle.aig_run.proofs.Flushes.{flushed_ends, ends_unfailed}
-use Rattle.aig_run.specs.Command.{OfFile}
+use Rattle.aig_run.proofs.Files.{answered, ends_of_file, file_refused}
+use Rattle.aig_run.specs.Command.{CommandEnds, OfFile}
 use Rattle.aig_run.specs.declared.run_fault.RunFault.TheVariants as run_faults
 
-pub returns-clause-ends : goal.returns-clause-ends
-returns-clause-ends g c =
-    flushed_ends g.W.Write.written g.W.Write.failures c.args.out.now c.read_and_reduce-done.new.out c.flushed.new.out run_faults.Output
-    (OfFile c.args.circuit.now (Reduces c.args.witness.now))
-    c.read_and_reduce-done.result c.flushed.result c.read_and_reduce-done.ensures c.flushed.ensures.answer
+pub returns : goal.returns
+returns g c =
+    record {
+      ends =
+          ends_of_file (Reduces c.args.witness.now) c.in_ok-circuit.circuit (λ fault bytes h. h.0)
+          (flow g.W.Write.written g.W.Write.failures c.args.out.now c.reduce_and_write.new.out) run_faults.Output c.args.circuit.now
+          c.in_ok-circuit.ensures.circuit c.reduce_and_write.result c.reduce_and_write.ensures;
+    }
 
-pub returns-clause-flushed : goal.returns-clause-flushed
-returns-clause-flushed g c = λ same.
-    c.flushed.ensures.flushed (ends_unfailed g.W.Write.written g.W.Write.failures c.args.out.now c.read_and_reduce-done.new.out
-    c.flushed.new.out run_faults.Output (OfFile c.args.circuit.now (Reduces c.args.witness.now))
-    c.read_and_reduce-done.result c.flushed.result c.read_and_reduce-done.ensures c.flushed.ensures.answer same)
+pub returns-in_err-circuit : goal.returns-in_err-circuit
+returns-in_err-circuit g c =
+    record {
+      ends =
+          answered c.from_residual.result (run_faults.Circuit c.in_err-circuit.field-0.0)
+          (CommandEnds (flow g.W.Write.written g.W.Write.failures c.args.out.now c.args.out.now) run_faults.Output
+          (OfFile c.args.circuit.now (Reduces c.args.witness.now)))
+          c.from_residual.ensures.1
+          (file_refused g.W.Write.written g.W.Write.failures c.args.out.now run_faults.Output
+          (Reduces c.args.witness.now) c.args.circuit.now c.in_err-circuit.field-0.0 c.in_err-circuit.ensures.fault);
+    }

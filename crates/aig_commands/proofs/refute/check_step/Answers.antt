@@ -10,8 +10,8 @@ use Rattle.aig_commands.proofs.refute.check_step.Goals as goal
 pub returns-clause-checks : goal.returns-clause-checks
 returns-clause-checks g c =
     let raw = c.args.circuit.now in
-    let k = c.args.frames in
-    let p = c.args.property in
+    let k = c.args.query.frames in
+    let p = c.args.query.property in
     let e = c.in_ok-base.ensures in
     let f = c.in_ok-later.ensures in
     checks_step k p raw c.check_later.result (e.accepted, subst (λ (r : Raw). HasFormula r (step k p)) e.circuit f.accepted)

@@ -11,38 +11,38 @@ use Rattle.aig_commands.proofs.refute.refute.Goals as goal
 
 pub returns-clause-says : goal.returns-clause-says
 returns-clause-says g c =
-    good_answer (flow g.W.Write.written g.W.Write.failures c.args.out.now c.write_answer.new.out) (line_of c.query-query.result)
-    c.read_and_check-checked.result c.write_answer.result (Says (asked_of c.args.question) c.args.file.now)
-    c.read_and_check-checked.ensures.says c.write_answer.ensures.ends
+    good_answer (flow g.W.Write.written g.W.Write.failures c.args.out.now c.write_checked.new.out) (line_of c.query_of-query.result)
+    c.read_and_check-checked.result c.write_checked.result (Says (asked_of c.args.question) c.args.file.now)
+    c.read_and_check-checked.ensures.says c.write_checked.ensures
 
 pub returns-clause-ends : goal.returns-clause-ends
 returns-clause-ends g c =
-    answered_question (asked_of c.args.question) c.args.file.now (flow g.W.Write.written g.W.Write.failures c.args.out.now c.write_answer.new.out)
-    c.query-query.result c.query-query.ensures c.read_and_check-checked.result c.write_answer.result c.read_and_check-checked.ensures.checks
-    c.write_answer.ensures.ends
+    answered_question (asked_of c.args.question) c.args.file.now (flow g.W.Write.written g.W.Write.failures c.args.out.now c.write_checked.new.out)
+    c.query_of-query.result c.query_of-query.ensures c.read_and_check-checked.result c.write_checked.result c.read_and_check-checked.ensures.checks
+    c.write_checked.ensures
 
 pub returns-clause-reads : goal.returns-clause-reads
 returns-clause-reads g c = λ other.
     c.read_and_check-checked.ensures.reads ∙ ap (λ r. g.R.Read.failures c.args.proof.now + proof_reads_failed r)
-    (sym (answer_is (flow g.W.Write.written g.W.Write.failures c.args.out.now c.write_answer.new.out) (line_of c.query-query.result)
-    c.read_and_check-checked.result c.write_answer.result c.write_answer.ensures.ends other))
+    (sym (answer_is (flow g.W.Write.written g.W.Write.failures c.args.out.now c.write_checked.new.out) (line_of c.query_of-query.result)
+    c.read_and_check-checked.result c.write_checked.result c.write_checked.ensures other))
 
 pub returns-clause-step : goal.returns-clause-step
 returns-clause-step g c = λ other.
     c.read_and_check-checked.ensures.step ∙ ap (λ r. g.S.Read.failures c.args.step.now + step_reads_failed r)
-    (sym (answer_is (flow g.W.Write.written g.W.Write.failures c.args.out.now c.write_answer.new.out) (line_of c.query-query.result)
-    c.read_and_check-checked.result c.write_answer.result c.write_answer.ensures.ends other))
+    (sym (answer_is (flow g.W.Write.written g.W.Write.failures c.args.out.now c.write_checked.new.out) (line_of c.query_of-query.result)
+    c.read_and_check-checked.result c.write_checked.result c.write_checked.ensures other))
 
 pub returns-clause-whole : goal.returns-clause-whole
 returns-clause-whole g c = λ is.
     c.read_and_check-checked.ensures.whole
-    (fault_is (flow g.W.Write.written g.W.Write.failures c.args.out.now c.write_answer.new.out) (line_of c.query-query.result)
-    c.read_and_check-checked.result c.write_answer.result (run_faults.Proof faults.NoRefutation) c.write_answer.ensures.ends
+    (fault_is (flow g.W.Write.written g.W.Write.failures c.args.out.now c.write_checked.new.out) (line_of c.query_of-query.result)
+    c.read_and_check-checked.result c.write_checked.result (run_faults.Proof faults.NoRefutation) c.write_checked.ensures
     (λ e. let never : ⊥ = cc in never) is)
 
 pub returns-clause-whole_step : goal.returns-clause-whole_step
 returns-clause-whole_step g c = λ is.
     c.read_and_check-checked.ensures.whole_step
-    (fault_is (flow g.W.Write.written g.W.Write.failures c.args.out.now c.write_answer.new.out) (line_of c.query-query.result)
-    c.read_and_check-checked.result c.write_answer.result (run_faults.StepProof faults.NoRefutation) c.write_answer.ensures.ends
+    (fault_is (flow g.W.Write.written g.W.Write.failures c.args.out.now c.write_checked.new.out) (line_of c.query_of-query.result)
+    c.read_and_check-checked.result c.write_checked.result (run_faults.StepProof faults.NoRefutation) c.write_checked.ensures
     (λ e. let never : ⊥ = cc in never) is)

@@ -1,7 +1,6 @@
-use Rattle.std.proofs.Common.{[], refl, sym, ap, ◌∙◌}
-use Rattle.aig_bytes.specs.Flow.{flow}
+use Rattle.std.proofs.Common.{[], sym, ap}
 use Rattle.aig_commands.specs.Refute.{answer_line, answer_text}
-use Rattle.aig_commands.specs.state.Answered.{Answers}
+use Rattle.aig_commands.specs.state.About.{Answers}
 use Rattle.aig_commands.proofs.refute.write_checked.Goals as goal
 use Rattle.aig_run.proofs.Written.{got_none, output_ends}
 use Rattle.aig_run.specs.Command.{CommandEnds}

@@ -1,20 +1,26 @@
 use Rattle.aig_bytes.specs.Flow.{flow}
 use Rattle.aig_commands.specs.Select.{Selects}
 use Rattle.aig_commands.proofs.select.select.Goals as goal
-use Rattle.aig_run.proofs.Flushes.{flushed_ends, ends_unfailed}
-use Rattle.aig_run.specs.Command.{OfReader}
+use Rattle.aig_run.proofs.Files.{ends_of_reader, reader_refused}
 use Rattle.aig_run.specs.declared.run_fault.RunFault.TheVariants as run_faults
 
-pub returns-clause-ends : goal.returns-clause-ends
-returns-clause-ends g c =
-    flushed_ends g.W.Write.written g.W.Write.failures c.args.out.now c.read_and_select-done.new.out c.flushed.new.out run_faults.Output
-    (OfReader (flow g.R.Read.left g.R.Read.failures c.args.circuit.now c.read_and_select-done.new.circuit)
-    (Selects c.args.from c.args.into c.args.named.now c.args.to))
-    c.read_and_select-done.result c.flushed.result c.read_and_select-done.ensures c.flushed.ensures.answer
+pub returns-in-Ok : goal.returns-in-Ok
+returns-in-Ok g c =
+    record {
+      ends =
+          let h = c.in-Ok.ensures in
+          ends_of_reader (flow g.R.Read.left g.R.Read.failures c.args.circuit.now c.read_from.new.reader)
+          (flow g.W.Write.written g.W.Write.failures c.args.out.now c.write_selected.new.out) run_faults.Output
+          (Selects c.args.from c.args.into c.args.named.now c.args.to) c.in-Ok.circuit (λ fault bytes h. h.1)
+          h.answers h.circuit h.io c.write_selected.result c.write_selected.ensures;
+    }
 
-pub returns-clause-flushed : goal.returns-clause-flushed
-returns-clause-flushed g c = λ same.
-    c.flushed.ensures.flushed (ends_unfailed g.W.Write.written g.W.Write.failures c.args.out.now c.read_and_select-done.new.out
-    c.flushed.new.out run_faults.Output (OfReader (flow g.R.Read.left g.R.Read.failures c.args.circuit.now c.read_and_select-done.new.circuit)
-    (Selects c.args.from c.args.into c.args.named.now c.args.to))
-    c.read_and_select-done.result c.flushed.result c.read_and_select-done.ensures c.flushed.ensures.answer same)
+pub returns-in-Err : goal.returns-in-Err
+returns-in-Err g c =
+    record {
+      ends =
+          let h = c.in-Err.ensures in
+          reader_refused (flow g.R.Read.left g.R.Read.failures c.args.circuit.now c.read_from.new.reader)
+          g.W.Write.written g.W.Write.failures c.args.out.now run_faults.Output
+          (Selects c.args.from c.args.into c.args.named.now c.args.to) c.in-Err.fault h.answers h.io;
+    }

@@ -1,20 +1,25 @@
-use Rattle.aig_commands.specs.Certified.{OfCertified}
+use Rattle.aig_bytes.specs.Flow.{flow}
 use Rattle.aig_commands.specs.Toaig.{Converts}
 use Rattle.aig_commands.specs.declared.certified.Purpose.TheVariants.{Circuit}
+use Rattle.aig_commands.proofs.Certificates.{certified_ends, not_certified}
 use Rattle.aig_commands.proofs.strengthen.strengthen.Goals as goal
-use Rattle.aig_run.proofs.Flushes.{flushed_ends, ends_unfailed}
-use Rattle.aig_run.specs.declared.run_fault.RunFault.TheVariants as run_faults
 
-pub returns-clause-ends : goal.returns-clause-ends
-returns-clause-ends g c =
-    let asked = c.args.certified in
-    flushed_ends g.W.Write.written g.W.Write.failures c.args.out.now c.strengthen_and_write-done.new.out c.flushed.new.out run_faults.Output
-    (OfCertified Circuit asked.circuit.now asked.property asked.certificate.now (Converts c.args.to))
-    c.strengthen_and_write-done.result c.flushed.result c.strengthen_and_write-done.ensures c.flushed.ensures.answer
+pub returns : goal.returns
+returns g c =
+    record {
+      ends =
+          let asked = c.args.certified in
+          certified_ends Circuit asked.circuit.now asked.property asked.certificate.now (Converts c.args.to)
+          (flow g.W.Write.written g.W.Write.failures c.args.out.now c.write_converted.new.out) c.in_ok-circuit.circuit
+          c.in_ok-circuit.ensures.certified c.write_converted.result c.write_converted.ensures.ends;
+    }
 
-pub returns-clause-flushed : goal.returns-clause-flushed
-returns-clause-flushed g c = λ same.
-    let asked = c.args.certified in
-    c.flushed.ensures.flushed (ends_unfailed g.W.Write.written g.W.Write.failures c.args.out.now c.strengthen_and_write-done.new.out
-    c.flushed.new.out run_faults.Output (OfCertified Circuit asked.circuit.now asked.property asked.certificate.now (Converts c.args.to))
-    c.strengthen_and_write-done.result c.flushed.result c.strengthen_and_write-done.ensures c.flushed.ensures.answer same)
+pub returns-in_err-circuit : goal.returns-in_err-circuit
+returns-in_err-circuit g c =
+    record {
+      ends =
+          let asked = c.args.certified in
+          not_certified Circuit asked.circuit.now asked.property asked.certificate.now (Converts c.args.to)
+          g.W.Write.written g.W.Write.failures c.args.out.now c.in_err-circuit.field-0.0 c.in_err-circuit.ensures.refused
+          c.from_residual.result c.from_residual.ensures.1;
+    }

@@ -1,15 +1,21 @@
-use Rattle.aig_commands.specs.Unroll.{IsMap}
+use Rattle.std.proofs.Common.{Ok, refl}
+use Rattle.aig_unroll.specs.InputMap.{map_text}
 use Rattle.aig_commands.proofs.unroll.unroll_map.Goals as goal
-use Rattle.aig_run.proofs.Flushes.{flushed_ends, ends_unfailed}
-use Rattle.aig_run.specs.Command.{OfFile, OfReader}
-use Rattle.aig_run.specs.declared.run_fault.RunFault.TheVariants as run_faults
+use Rattle.aig_run.proofs.Written.{got_all, got_part}
+use Rattle.aig_run.specs.Command.{CommandEnds}
 
-pub returns-clause-ends : goal.returns-clause-ends
-returns-clause-ends g c =
-    flushed_ends g.W.Write.written g.W.Write.failures c.args.out.now c.write_map-done.new.out c.flushed.new.out run_faults.Output (IsMap c.args.frames c.args.circuit.now)
-    c.write_map-done.result c.flushed.result c.write_map-done.ensures c.flushed.ensures.answer
+pub returns-in-Ok : goal.returns-in-Ok
+returns-in-Ok g c =
+    record {
+      ends =
+          CommandEnds.writes_all (map_text c.args.circuit.now c.args.frames) refl
+          (got_all g.W.Write.written g.W.Write.failures c.args.out.now c.write_input_map.new.out (map_text c.args.circuit.now c.args.frames) tt c.in-Ok.ensures);
+    }
 
-pub returns-clause-flushed : goal.returns-clause-flushed
-returns-clause-flushed g c = λ same.
-    c.flushed.ensures.flushed (ends_unfailed g.W.Write.written g.W.Write.failures c.args.out.now c.write_map-done.new.out c.flushed.new.out run_faults.Output (IsMap c.args.frames c.args.circuit.now)
-    c.write_map-done.result c.flushed.result c.write_map-done.ensures c.flushed.ensures.answer same)
+pub returns-in-Err : goal.returns-in-Err
+returns-in-Err g c =
+    record {
+      ends =
+          CommandEnds.breaks_off (Ok tt) (map_text c.args.circuit.now c.args.frames) refl
+          (got_part g.W.Write.written g.W.Write.failures c.args.out.now c.write_input_map.new.out (map_text c.args.circuit.now c.args.frames) _ c.in-Err.ensures);
+    }

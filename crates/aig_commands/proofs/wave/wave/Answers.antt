@@ -1,34 +1,34 @@
+use Rattle.std.proofs.Common.{inl, refl}
 use Rattle.aig_bytes.specs.Flow.{flow}
 use Rattle.aig_commands.specs.Wave.{WritesWave}
-use Rattle.aig_commands.proofs.Headers.{header_flushed}
+use Rattle.aig_commands.proofs.Headers.{header_of_file}
+use Rattle.aig_commands.proofs.Runs.{dumps_no_fault}
 use Rattle.aig_commands.proofs.wave.wave.Goals as goal
-use Rattle.aig_run.proofs.Flushes.{flushed_reading, flushed_circuit, flush_writes_none, reading_unfailed}
-use Rattle.aig_run.specs.Command.{OfReader}
+use Rattle.aig_run.proofs.Files.{reading_of_reader, reading_refused}
 use Rattle.aig_run.specs.declared.run_fault.RunFault.TheVariants as run_faults
 use Rattle.aig_sim.specs.declared.stimulus.fault.StimFault.TheVariants as stimuli
 
-pub returns-clause-ends : goal.returns-clause-ends
-returns-clause-ends g c =
-    flushed_reading (flow g.R.Read.left g.R.Read.failures c.args.stimulus.now c.read_and_run-done.new.stimulus)
-    g.W.Write.written g.W.Write.failures c.args.out.now c.read_and_run-done.new.out c.flushed.new.out (run_faults.Stimulus stimuli.Io)
-    (λ text. OfReader (flow g.C.Read.left g.C.Read.failures c.args.circuit.now c.read_and_run-done.new.circuit) (WritesWave text))
-    c.read_and_run-done.result c.flushed.result c.read_and_run-done.ensures.ends c.flushed.ensures.answer
+pub returns-in-Ok-clause-ends : goal.returns-in-Ok-clause-ends
+returns-in-Ok-clause-ends g c =
+    let h = c.in-Ok.ensures in
+    reading_of_reader (flow g.C.Read.left g.C.Read.failures c.args.circuit.now c.read_from.new.reader)
+    (flow g.R.Read.left g.R.Read.failures c.args.stimulus.now c.run.new.stimulus)
+    (flow g.W.Write.written g.W.Write.failures c.args.out.now c.run.new.out) (run_faults.Stimulus stimuli.Io) WritesWave c.in-Ok.circuit
+    (dumps_no_fault c.in-Ok.circuit) h.answers h.circuit h.io c.run.result c.run.ensures.ends
 
-pub returns-clause-flushed : goal.returns-clause-flushed
-returns-clause-flushed g c = λ same.
-    c.flushed.ensures.flushed (reading_unfailed (flow g.R.Read.left g.R.Read.failures c.args.stimulus.now c.read_and_run-done.new.stimulus)
-    g.W.Write.written g.W.Write.failures c.args.out.now c.read_and_run-done.new.out c.flushed.new.out (run_faults.Stimulus stimuli.Io)
-    (λ text. OfReader (flow g.C.Read.left g.C.Read.failures c.args.circuit.now c.read_and_run-done.new.circuit) (WritesWave text))
-    c.read_and_run-done.result c.flushed.result c.read_and_run-done.ensures.ends c.flushed.ensures.answer same)
+pub returns-in-Err-clause-ends : goal.returns-in-Err-clause-ends
+returns-in-Err-clause-ends g c =
+    let h = c.in-Err.ensures in
+    reading_refused (flow g.C.Read.left g.C.Read.failures c.args.circuit.now c.read_from.new.reader)
+    g.R.Read.left g.R.Read.failures c.args.stimulus.now g.W.Write.written g.W.Write.failures c.args.out.now (run_faults.Stimulus stimuli.Io) WritesWave c.in-Err.fault
+    (λ e. let no : ⊥ = cc in no) h.answers h.io
 
-pub returns-clause-unread : goal.returns-clause-unread
-returns-clause-unread g c = λ fault is.
-    c.read_and_run-done.ensures.unread fault (flushed_circuit (flow g.W.Write.written g.W.Write.failures c.read_and_run-done.new.out c.flushed.new.out)
-    c.flushed.ensures.answer is)
+pub returns-in-Ok-clause-header : goal.returns-in-Ok-clause-header
+returns-in-Ok-clause-header g c = λ file raw is spelled.
+    header_of_file (flow g.C.Read.left g.C.Read.failures c.args.circuit.now c.read_from.new.reader)
+    (flow g.R.Read.left g.R.Read.failures c.args.stimulus.now c.run.new.stimulus)
+    (flow g.W.Write.written g.W.Write.failures c.args.out.now c.run.new.out) c.in-Ok.circuit c.in-Ok.ensures.answers
+    c.run.ensures.header file raw is spelled
 
-pub returns-clause-header : goal.returns-clause-header
-returns-clause-header g c = λ file raw is spelled.
-    header_flushed (flow g.R.Read.left g.R.Read.failures c.args.stimulus.now c.read_and_run-done.new.stimulus)
-    g.W.Write.written g.W.Write.failures c.args.out.now c.read_and_run-done.new.out c.flushed.new.out raw
-    (flush_writes_none (flow g.W.Write.written g.W.Write.failures c.read_and_run-done.new.out c.flushed.new.out) (run_faults.Stimulus stimuli.Io)
-    c.read_and_run-done.result c.flushed.result c.flushed.ensures.answer) (c.read_and_run-done.ensures.header file raw is spelled)
+pub returns-in-Err-clause-header : goal.returns-in-Err-clause-header
+returns-in-Err-clause-header g c = λ file raw is spelled. inl refl

@@ -8,8 +8,8 @@ use Rattle.aig_script.proofs.bench.run_bench.Goals as goal
 
 pub returns-in_err-_left-clause-ends : goal.returns-in_err-_left-clause-ends
 returns-in_err-_left-clause-ends g c =
-    let reader = flow g.R.Read.left g.R.Read.failures c.args.script.now c.bench_after.new.script in
-    let out = flow g.W.Write.written g.W.Write.failures c.args.out.now c.bench_after.new.out in
+    let reader = flow g.R.Read.left g.R.Read.failures c.args.script.now c.bench.new.script in
+    let out = flow g.W.Write.written g.W.Write.failures c.args.out.now c.bench.new.out in
     let circuit = c.args.circuit.now in
     let stimulus = c.args.stimulus.now in
     let fault = c.in_err-_left.field-0.0 in
@@ -18,6 +18,6 @@ returns-in_err-_left-clause-ends g c =
 
 pub returns-clause-ends : goal.returns-clause-ends
 returns-clause-ends g c =
-    let reader = flow g.R.Read.left g.R.Read.failures c.args.script.now c.bench_after.new.script in
-    let out = flow g.W.Write.written g.W.Write.failures c.args.out.now c.bench_after.new.out in
+    let reader = flow g.R.Read.left g.R.Read.failures c.args.script.now c.bench.new.script in
+    let out = flow g.W.Write.written g.W.Write.failures c.args.out.now c.bench.new.out in
     ends_without reader out c.args.circuit.now c.args.stimulus.now script_io (Ok c.in_ok-_left._left) c.in_ok-_left.ensures.ends

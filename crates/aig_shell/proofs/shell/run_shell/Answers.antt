@@ -1,16 +1,54 @@
+use Rattle.std.proofs.Common.{inl, inr, refl, sym, subst}
+use Rattle.aig_bytes.specs.Flow.{flow}
+use Rattle.aig_run.proofs.Files.{answered}
 use Rattle.aig_run.specs.Given.{given_text}
-use Rattle.aig_shell.proofs.Shells.{shell_flushed, shell_unfailed}
+use Rattle.aig_shell.specs.Conversation.{Ended, BreaksDown, EndsShell}
+use Rattle.aig_shell.proofs.Shells.{passes_of, holds_session, shell_refused}
+use Rattle.aig_shell.specs.declared.conversation.Conversation.{Conversation}
+use Rattle.aig_shell.specs.Session.{IsSession}
 use Rattle.aig_shell.proofs.shell.run_shell.Goals as goal
 
-pub returns-clause-ends : goal.returns-clause-ends
-returns-clause-ends g c =
-    shell_flushed g.R.Read.left g.R.Read.failures g.W.Write.written g.W.Write.failures g.K.Keep.calls c.args.reader.now c.converse-done.new.reader
-    c.args.files.now c.converse-done.new.files c.args.out.now c.converse-done.new.out c.flushed.new.out c.args.has_prompt
-    c.args.circuit.now (given_text c.args.given) c.converse-done.result c.flushed.result c.converse-done.ensures c.flushed.ensures.answer
+pub run-requires : goal.run-requires
+run-requires g c =
+    let (raw, is, (run, begins, sound)) = c.in_ok-session.ensures.session in
+    record {
+      session = subst (λ (x : Conversation). IsSession x.session) (sym c.new-talker.ensures.conversation)
+          (subst IsSession (sym c.new-conversation.ensures.session) sound.0);
+    }
 
-pub returns-clause-flushed : goal.returns-clause-flushed
-returns-clause-flushed g c = λ same.
-    c.flushed.ensures.flushed
-    (shell_unfailed g.R.Read.left g.R.Read.failures g.W.Write.written g.W.Write.failures g.K.Keep.calls c.args.reader.now c.converse-done.new.reader
-    c.args.files.now c.converse-done.new.files c.args.out.now c.converse-done.new.out c.flushed.new.out c.args.has_prompt
-    c.args.circuit.now (given_text c.args.given) c.converse-done.result c.flushed.result c.converse-done.ensures c.flushed.ensures.answer same)
+pub returns-in_err-session : goal.returns-in_err-session
+returns-in_err-session g c =
+    record {
+      ends =
+          answered c.from_residual.result c.in_err-session.field-0.0
+          (EndsShell (passes_of (flow g.R.Read.left g.R.Read.failures c.args.reader.now c.args.reader.now)
+          (flow g.W.Write.written g.W.Write.failures c.args.out.now c.args.out.now) g.K.Keep.calls c.args.files.now c.args.files.now)
+          c.args.has_prompt c.args.circuit.now (given_text c.args.given)) c.from_residual.ensures.1
+          (shell_refused g.R.Read.left g.R.Read.failures g.W.Write.written g.W.Write.failures g.K.Keep.calls c.args.reader.now c.args.files.now
+          c.args.out.now c.args.has_prompt c.args.circuit.now (given_text c.args.given) c.in_err-session.field-0.0 c.in_err-session.ensures.refused);
+    }
+
+pub returns-in-Ok : goal.returns-in-Ok
+returns-in-Ok g c =
+    record {
+      ends =
+          holds_session (passes_of (flow g.R.Read.left g.R.Read.failures c.args.reader.now c.run.new.reader)
+          (flow g.W.Write.written g.W.Write.failures c.args.out.now c.run.new.out) g.K.Keep.calls c.args.files.now c.run.new.files)
+          c.args.has_prompt c.args.circuit.now (given_text c.args.given) Ended c.in_ok-session.session c.new-conversation.result c.new-talker.result
+          c.in_ok-session.ensures.session c.new-conversation.ensures.session c.new-conversation.ensures.warned
+          c.new-talker.ensures.conversation c.new-talker.ensures.prompt c.new-talker.ensures.line c.in-Ok.ensures.ended;
+    }
+
+pub returns : goal.returns
+returns g c =
+    record {
+      ends =
+          inr (
+            refl,
+            inl (holds_session (passes_of (flow g.R.Read.left g.R.Read.failures c.args.reader.now c.run.new.reader)
+                (flow g.W.Write.written g.W.Write.failures c.args.out.now c.run.new.out) g.K.Keep.calls c.args.files.now c.run.new.files)
+                c.args.has_prompt c.args.circuit.now (given_text c.args.given) BreaksDown c.in_ok-session.session c.new-conversation.result c.new-talker.result
+                c.in_ok-session.ensures.session c.new-conversation.ensures.session c.new-conversation.ensures.warned
+                c.new-talker.ensures.conversation c.new-talker.ensures.prompt c.new-talker.ensures.line c.in-Err.ensures.failed),
+          );
+    }

@@ -1,19 +1,54 @@
+use Rattle.std.proofs.Common.{[], List, ℕ, Err, subst}
 use Rattle.std.specs.Prelude.{option_copied}
-use Rattle.aig_run.proofs.Flushes.{flushed_ends, ends_unfailed}
-use Rattle.aig_run.specs.Command.{OfFile}
+use Rattle.aig_bytes.specs.Bytes.{Writes}
+use Rattle.aig_bytes.specs.Flow.{flow}
+use Rattle.aig_run.proofs.Files.{answered, ends_of_file, file_refused}
+use Rattle.aig_run.proofs.Written.{got_none, output_ends}
+use Rattle.aig_run.specs.Command.{CommandEnds, OfFile}
 use Rattle.aig_run.specs.Given.{given_text}
 use Rattle.aig_run.specs.declared.run_fault.RunFault.TheVariants as run_faults
 use Rattle.aig_why.specs.Why.{WritesWhy}
+use Rattle.aig_why.proofs.RunLemmas.{why_no_circuit}
 use Rattle.aig_why.proofs.command.why.Goals as goal
 
-pub returns-clause-ends : goal.returns-clause-ends
-returns-clause-ends g c =
-    flushed_ends g.W.Write.written g.W.Write.failures c.args.out.now c.read_and_explain-done.new.out c.flushed.new.out run_faults.Output
-    (OfFile c.args.circuit.now (WritesWhy (given_text c.args.given) (option_copied c.args.name) c.args.span))
-    c.read_and_explain-done.result c.flushed.result c.read_and_explain-done.ensures c.flushed.ensures.answer
+pub returns : goal.returns
+returns g c =
+    record {
+      ends =
+          ends_of_file (WritesWhy (given_text c.args.given) (option_copied c.args.name) c.args.span) c.in_ok-circuit.circuit
+          (why_no_circuit c.in_ok-circuit.circuit (given_text c.args.given) (option_copied c.args.name) c.args.span)
+          (flow g.W.Write.written g.W.Write.failures c.args.out.now c.write_text.new.out) run_faults.Output c.args.circuit.now
+          c.in_ok-circuit.ensures.circuit c.write_text.result
+          (output_ends g.W.Write.written g.W.Write.failures c.args.out.now c.write_text.new.out
+          (WritesWhy (given_text c.args.given) (option_copied c.args.name) c.args.span c.in_ok-circuit.circuit) c.in_ok-text.text.items c.write_text.result
+          (subst (λ (bytes : List ℕ). Writes g.W.Write.written g.W.Write.failures c.args.out.now c.write_text.new.out bytes c.write_text.result)
+          c.deref.ensures.value c.write_text.ensures.written)
+          c.write_text.ensures.output c.in_ok-text.ensures.text);
+    }
 
-pub returns-clause-flushed : goal.returns-clause-flushed
-returns-clause-flushed g c = λ same.
-    c.flushed.ensures.flushed (ends_unfailed g.W.Write.written g.W.Write.failures c.args.out.now c.read_and_explain-done.new.out
-    c.flushed.new.out run_faults.Output (OfFile c.args.circuit.now (WritesWhy (given_text c.args.given) (option_copied c.args.name) c.args.span))
-    c.read_and_explain-done.result c.flushed.result c.read_and_explain-done.ensures c.flushed.ensures.answer same)
+pub returns-in_err-circuit : goal.returns-in_err-circuit
+returns-in_err-circuit g c =
+    record {
+      ends =
+          answered c.from_residual.result (run_faults.Circuit c.in_err-circuit.field-0.0)
+          (CommandEnds (flow g.W.Write.written g.W.Write.failures c.args.out.now c.args.out.now) run_faults.Output
+          (OfFile c.args.circuit.now (WritesWhy (given_text c.args.given) (option_copied c.args.name) c.args.span)))
+          c.from_residual.ensures.1
+          (file_refused g.W.Write.written g.W.Write.failures c.args.out.now run_faults.Output
+          (WritesWhy (given_text c.args.given) (option_copied c.args.name) c.args.span) c.args.circuit.now c.in_err-circuit.field-0.0 c.in_err-circuit.ensures.fault);
+    }
+
+pub returns-in_err-text : goal.returns-in_err-text
+returns-in_err-text g c =
+    record {
+      ends =
+          answered c.from_residual-in_err-text.result c.in_err-text.field-0.0
+          (CommandEnds (flow g.W.Write.written g.W.Write.failures c.args.out.now c.args.out.now) run_faults.Output
+          (OfFile c.args.circuit.now (WritesWhy (given_text c.args.given) (option_copied c.args.name) c.args.span)))
+          c.from_residual-in_err-text.ensures.1
+          (ends_of_file (WritesWhy (given_text c.args.given) (option_copied c.args.name) c.args.span) c.in_ok-circuit.circuit
+          (why_no_circuit c.in_ok-circuit.circuit (given_text c.args.given) (option_copied c.args.name) c.args.span)
+          (flow g.W.Write.written g.W.Write.failures c.args.out.now c.args.out.now) run_faults.Output c.args.circuit.now
+          c.in_ok-circuit.ensures.circuit (Err c.in_err-text.field-0.0)
+          (CommandEnds.writes_all [] c.in_err-text.ensures.fault (got_none g.W.Write.written g.W.Write.failures c.args.out.now)));
+    }

@@ -1,5 +1,5 @@
 use Rattle.std.proofs.Common.{refl}
-use Rattle.aig_commands.proofs.question.Question.query.Goals as goal
+use Rattle.aig_commands.proofs.question.heading_of.Goals as goal
 
 pub returns-in-Within : goal.returns-in-Within
 returns-in-Within c = rw c.in-Within.is refl
