@@ -3,9 +3,9 @@ use Rattle.aig_bytes.specs.Flow.{flow}
 use Rattle.aig_run.proofs.Files.{answered}
 use Rattle.aig_run.specs.declared.run_fault.RunFault.TheVariants as run_faults
 use Rattle.aig_run.specs.Command.{EndsReading}
-use Rattle.aig_commands.specs.Bench.{LeavesBench}
-use Rattle.aig_commands.proofs.BenchEnds.{script_io, ran_ends, refused_ends, fault_ends, unchanged}
-use Rattle.aig_commands.proofs.bench.bench.Goals as goal
+use Rattle.aig_script.specs.Bench.{LeavesBench}
+use Rattle.aig_script.proofs.BenchEnds.{script_io, ran_ends, refused_ends, fault_ends, unchanged}
+use Rattle.aig_script.proofs.bench.bench.Goals as goal
 
 pub returns-in_err-bench-clause-ends : goal.returns-in_err-bench-clause-ends
 returns-in_err-bench-clause-ends g c =
