@@ -1,6 +1,6 @@
 -- Which options a command has, by what the matches of the parser hold for it.
 -- Example: `refute --frames 20 --property 1`: K is 20 and P is 1.
-use Rattle.std.specs.Prelude.{◌≡◌, ◌⊎◌, ℕ, List, Bool, true, false, Option, None, Some, codes, option_map, ⊤}
+use Rattle.std.specs.Prelude.{◌≡◌, ◌⊎◌, ℕ, List, Bool, true, false, Option, None, Some, codes, is_some, option_map, ⊤}
 use Rattle.std.specs.Option.{unwrap_or}
 use Rattle.clap.specs.Matches.{first_value, found_of}
 use Rattle.clap.specs.declared.parser.matches.ArgMatches.{ArgMatches}
@@ -43,35 +43,85 @@ abbrev pub HoldsClaim : {F : Type 0} → ArgMatches → Source F → ℕ → ℕ
 HoldsClaim matches circuit frames property =
     HoldsNumber matches (codes "K") (Some frames) × HoldsProperty matches circuit property
 
+-- whether an argument is given
+abbrev pub is_given : ArgMatches → List ℕ → Bool
+is_given matches name = is_some (first_value (found_of matches) name)
+
+-- whether a question is by a certificate
+abbrev pub is_certified : {F : Type 0} → Question F → Bool
+is_certified (questions.Certified certificate p) = true
+is_certified _ = false
+
 -- what is asked of the circuit, where `step` says whether it is the step of an induction
 abbrev pub HoldsAsked : {F : Type 0} → ArgMatches → Bool → Source F → Question (Source F) → Type 0
-HoldsAsked matches step circuit (questions.Within k p) = (step ≡ false) × HoldsClaim matches circuit k p
-HoldsAsked matches step circuit (questions.Step k p) = (step ≡ true) × HoldsClaim matches circuit k p
-HoldsAsked matches step circuit (questions.Alive k) = HoldsNumber matches (codes "K") (Some k)
+HoldsAsked matches step circuit (questions.Within k p) =
+    (step ≡ false) × HoldsFlag matches (codes "alive") false × HoldsClaim matches circuit k p
+HoldsAsked matches step circuit (questions.Step k p) =
+    (step ≡ true) × HoldsFlag matches (codes "alive") false × HoldsClaim matches circuit k p
+HoldsAsked matches step circuit (questions.Alive k) =
+    HoldsFlag matches (codes "alive") true × HoldsNumber matches (codes "K") (Some k)
 HoldsAsked matches step circuit (questions.Certified certificate p) = HoldsProperty matches circuit p
 
--- the same, by the flag of the step
+-- it is by a certificate exactly if one is given
+abbrev pub HoldsCertificate : {F : Type 0} → ArgMatches → Question F → Type 0
+HoldsCertificate matches question = is_certified question ≡ is_given matches (codes "certificate")
+
+-- both, by the flag of the step
 abbrev pub HoldsQuestion : {F : Type 0} → ArgMatches → Source F → Question (Source F) → Type 0
 HoldsQuestion matches circuit question =
     (step : Bool) × HoldsFlag matches (codes "step") step × HoldsAsked matches step circuit question
+    × HoldsCertificate matches question
 
 -- the frame to explain, and how many frames to go back
 abbrev pub HoldsSpan : ArgMatches → Span → Type 0
 HoldsSpan matches span = HoldsNumber matches (codes "T") span.frame × HoldsNumber matches (codes "D") span.depth
 
--- the numbers and the flags of a command are those that the matches hold
+-- The numbers of a command are those that the matches hold, and its form is the one that its options and flags choose.
 abbrev pub HoldsOptions : {F : Type 0} → ArgMatches → Command (Source F) → Type 0
-HoldsOptions matches (commands.Unroll frames to circuit) = HoldsNumber matches (codes "K") (Some frames)
-HoldsOptions matches (commands.UnrollAndMap frames to circuit opened map) = HoldsNumber matches (codes "K") (Some frames)
-HoldsOptions matches (commands.Check with_trace property circuit witness) =
-    HoldsFlag matches (codes "trace") with_trace × HoldsReached matches circuit property
-HoldsOptions matches (commands.Cnf question circuit) = HoldsQuestion matches circuit question
-HoldsOptions matches (commands.Witness property circuit stimulus) = HoldsReached matches circuit property
-HoldsOptions matches (commands.ModelWitness question circuit model) = HoldsQuestion matches circuit question
-HoldsOptions matches (commands.Refute question circuit proof step) =
-    (by_step : Bool) × HoldsAsked matches by_step circuit question
-HoldsOptions matches (commands.Strengthen property to circuit certificate) = HoldsProperty matches circuit property
-HoldsOptions matches (commands.Why name span circuit given) =
-    (option_map (λ text. text.now) name ≡ first_value (found_of matches) (codes "of")) × HoldsSpan matches span
-    × (name ≡ None → IsWitness given)
+HoldsOptions matches (commands.Wave it) = HoldsFlag matches (codes "witness") false
+HoldsOptions matches (commands.WaveWitness it) = HoldsFlag matches (codes "witness") true
+HoldsOptions matches (commands.Unroll it) =
+    HoldsNumber matches (codes "K") (Some it.frames) × (is_given matches (codes "map") ≡ false)
+HoldsOptions matches (commands.UnrollAndMap it) =
+    HoldsNumber matches (codes "K") (Some it.frames) × (first_value (found_of matches) (codes "map") ≡ Some it.map.now)
+HoldsOptions matches (commands.Check it) =
+    HoldsFlag matches (codes "trace") it.with_trace × HoldsReached matches it.circuit it.property
+HoldsOptions matches (commands.Cnf it) = HoldsQuestion matches it.circuit it.question
+HoldsOptions matches (commands.Info it) = HoldsFlag matches (codes "names") false
+HoldsOptions matches (commands.InfoNames it) = HoldsFlag matches (codes "names") true
+HoldsOptions matches (commands.Select it) = is_given matches (codes "names") ≡ false
+HoldsOptions matches (commands.SelectNamed it) = is_given matches (codes "names") ≡ true
+HoldsOptions matches (commands.Witness it) =
+    (is_given matches (codes "model") ≡ false) × HoldsReached matches it.circuit it.property
+HoldsOptions matches (commands.ModelWitness it) =
+    (is_given matches (codes "model") ≡ true) × HoldsQuestion matches it.circuit it.question
+HoldsOptions matches (commands.Refute it) =
+    HoldsAsked matches (is_given matches (codes "step")) it.circuit it.question × HoldsCertificate matches it.question
+HoldsOptions matches (commands.Strengthen it) = HoldsProperty matches it.circuit it.property
+HoldsOptions matches (commands.Why it) =
+    (option_map (λ text. text.now) it.name ≡ first_value (found_of matches) (codes "of")) × HoldsSpan matches it.span
+    × (it.name ≡ None → IsWitness it.given)
 HoldsOptions matches _ = ⊤
+
+-- the word by which a command is chosen
+abbrev pub command_name : {F : Type 0} → Command F → List ℕ
+command_name (commands.Toaig it) = codes "toaig"
+command_name (commands.Sim it) = codes "sim"
+command_name (commands.Wave it) = codes "wave"
+command_name (commands.WaveWitness it) = codes "wave"
+command_name (commands.Bench it) = codes "bench"
+command_name (commands.Shell it) = codes "shell"
+command_name (commands.Unroll it) = codes "unroll"
+command_name (commands.UnrollAndMap it) = codes "unroll"
+command_name (commands.Check it) = codes "check"
+command_name (commands.Cnf it) = codes "cnf"
+command_name (commands.Info it) = codes "info"
+command_name (commands.InfoNames it) = codes "info"
+command_name (commands.Select it) = codes "select"
+command_name (commands.SelectNamed it) = codes "select"
+command_name (commands.Witness it) = codes "witness"
+command_name (commands.ModelWitness it) = codes "witness"
+command_name (commands.Refute it) = codes "refute"
+command_name (commands.Reduce it) = codes "reduce"
+command_name (commands.Why it) = codes "why"
+command_name (commands.Strengthen it) = codes "strengthen"

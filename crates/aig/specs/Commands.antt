@@ -31,50 +31,51 @@ use Rattle.aig.specs.declared.command.Command.TheVariants as commands
 -- A command ends as its contract means for the bytes of its files, where the type of an open file says which it has
 -- left. Where it reads a circuit, a stimulus or a script piece by piece, it ends so for some circuit or some text.
 abbrev pub EndsAsMeant : {F : Type 0} → (F → Option (List ℕ)) → Command F → Result (Unit {0}) Exit → Type 0
-EndsAsMeant left (commands.Toaig to circuit) result = Ends end_of (OfCircuit (Converts to)) result
-EndsAsMeant left (commands.Sim circuit stimulus) result =
+EndsAsMeant left (commands.Toaig it) result = Ends end_of (OfCircuit (Converts it.to)) result
+EndsAsMeant left (commands.Sim it) result =
     Ends end_of (ForSomeText (run_faults.Stimulus stimuli.Io) (λ text. OfCircuit (WritesSimulation text))) result
-EndsAsMeant left (commands.Wave circuit stimulus) result =
+EndsAsMeant left (commands.Wave it) result =
     Ends end_of (ForSomeText (run_faults.Stimulus stimuli.Io) (λ text. OfCircuit (WritesWave text))) result
-EndsAsMeant left (commands.WaveWitness circuit witness) result =
-    IfSome (left circuit) (λ file. IfSome (left witness) (λ text. Ends end_of (OfFile file (DumpsRun text)) result))
-EndsAsMeant left (commands.Bench circuit stimulus script kept) result =
-    IfSome (left circuit) (λ file. IfSome (left stimulus) (λ rows.
+EndsAsMeant left (commands.WaveWitness it) result =
+    IfSome (left it.circuit) (λ file. IfSome (left it.witness) (λ text.
+    Ends end_of (OfFile file (DumpsRun text)) result))
+EndsAsMeant left (commands.Bench it) result =
+    IfSome (left it.circuit) (λ file. IfSome (left it.stimulus) (λ rows.
     Ends end_of (ForSomeText (run_faults.Script scripts.Io) (LeavesBench file rows)) result))
-EndsAsMeant left (commands.Shell circuit given) result = EndsSession left circuit given result
-EndsAsMeant left (commands.Unroll frames to circuit) result =
-    IfSome (left circuit) (λ file. Ends end_of (OfFile file (UnrollsKept frames to)) result)
-EndsAsMeant left (commands.UnrollAndMap frames to circuit opened map) result =
-    OnOk result (IfSome (left circuit) (λ file. GoesWell (OfFile file (UnrollsKept frames to))))
-EndsAsMeant left (commands.Check with_trace property circuit witness) result =
-    IfSome (left circuit) (λ file. IfSome (left witness) (λ text.
-    Ends end_of_verdict (OfFile file (ChecksWitness with_trace property text)) result))
-EndsAsMeant left (commands.Cnf question circuit) result =
-    IfSome (left circuit) (λ file. IfSome (claims_left left question) (λ claims.
-    Ends end_of (WritesQuestion (asked_by question (λ certificate. claims)) file) result))
-EndsAsMeant left (commands.Info circuit) result =
-    IfSome (left circuit) (λ file. Ends end_of (OfFile file (ListsFacts (Some file))) result)
-EndsAsMeant left (commands.InfoNames circuit) result = Ends end_of (OfCircuit ListsNames) result
-EndsAsMeant left (commands.Select selection to circuit) result =
-    Ends end_of (OfCircuit (Selects selection.from selection.into selection.positions.items to)) result
-EndsAsMeant left (commands.SelectNamed selection to circuit names) result =
-    IfSome (left names) (λ text. EndsSelectingNamed selection.from selection.into selection.positions.items text to
-    result)
-EndsAsMeant left (commands.Witness property circuit stimulus) result =
-    IfSome (left circuit) (λ file. IfSome (left stimulus) (λ text.
-    Ends end_of (OfFile file (WritesWitness property text)) result))
-EndsAsMeant left (commands.ModelWitness question circuit model) result =
-    IfSome (left circuit) (λ file. IfSome (claims_left left question) (λ claims. IfSome (left model) (λ text.
-    Ends end_of (NamesQuestion (asked_by question (λ certificate. claims)) text file) result)))
-EndsAsMeant left (commands.Refute question circuit proof step) result =
-    IfSome (left circuit) (λ file. IfSome (claims_left left question) (λ claims.
-    Ends end_of (RefutesQuestion (asked_by question (λ certificate. claims)) file) result))
-EndsAsMeant left (commands.Strengthen property to circuit certificate) result =
-    IfSome (left circuit) (λ file. IfSome (left certificate) (λ claims.
-    Ends end_of (OfCertified purposes.Circuit file property claims (Converts to)) result))
-EndsAsMeant left (commands.Why name span circuit given) result =
-    IfSome (left circuit) (λ file. IfSome (given_left left given) (λ run.
-    Ends end_of (OfFile file (WritesWhy run (option_copied name) span)) result))
-EndsAsMeant left (commands.Reduce circuit witness) result =
-    IfSome (left circuit) (λ file. IfSome (left witness)
+EndsAsMeant left (commands.Shell it) result = EndsSession left it.circuit it.given result
+EndsAsMeant left (commands.Unroll it) result =
+    IfSome (left it.circuit) (λ file. Ends end_of (OfFile file (UnrollsKept it.frames it.to)) result)
+EndsAsMeant left (commands.UnrollAndMap it) result =
+    OnOk result (IfSome (left it.circuit) (λ file. GoesWell (OfFile file (UnrollsKept it.frames it.to))))
+EndsAsMeant left (commands.Check it) result =
+    IfSome (left it.circuit) (λ file. IfSome (left it.witness) (λ text.
+    Ends end_of_verdict (OfFile file (ChecksWitness it.with_trace it.property text)) result))
+EndsAsMeant left (commands.Cnf it) result =
+    IfSome (left it.circuit) (λ file. IfSome (claims_left left it.question) (λ claims.
+    Ends end_of (WritesQuestion (asked_by it.question (λ certificate. claims)) file) result))
+EndsAsMeant left (commands.Info it) result =
+    IfSome (left it.circuit) (λ file. Ends end_of (OfFile file (ListsFacts (Some file))) result)
+EndsAsMeant left (commands.InfoNames it) result = Ends end_of (OfCircuit ListsNames) result
+EndsAsMeant left (commands.Select it) result =
+    Ends end_of (OfCircuit (Selects it.selection.from it.selection.into it.selection.positions.items it.to)) result
+EndsAsMeant left (commands.SelectNamed it) result =
+    IfSome (left it.names) (λ text.
+    EndsSelectingNamed it.selection.from it.selection.into it.selection.positions.items text it.to result)
+EndsAsMeant left (commands.Witness it) result =
+    IfSome (left it.circuit) (λ file. IfSome (left it.stimulus) (λ text.
+    Ends end_of (OfFile file (WritesWitness it.property text)) result))
+EndsAsMeant left (commands.ModelWitness it) result =
+    IfSome (left it.circuit) (λ file. IfSome (claims_left left it.question) (λ claims. IfSome (left it.model) (λ text.
+    Ends end_of (NamesQuestion (asked_by it.question (λ certificate. claims)) text file) result)))
+EndsAsMeant left (commands.Refute it) result =
+    IfSome (left it.circuit) (λ file. IfSome (claims_left left it.question) (λ claims.
+    Ends end_of (RefutesQuestion (asked_by it.question (λ certificate. claims)) file) result))
+EndsAsMeant left (commands.Strengthen it) result =
+    IfSome (left it.circuit) (λ file. IfSome (left it.certificate) (λ claims.
+    Ends end_of (OfCertified purposes.Circuit file it.property claims (Converts it.to)) result))
+EndsAsMeant left (commands.Why it) result =
+    IfSome (left it.circuit) (λ file. IfSome (given_left left it.given) (λ run.
+    Ends end_of (OfFile file (WritesWhy run (option_copied it.name) it.span)) result))
+EndsAsMeant left (commands.Reduce it) result =
+    IfSome (left it.circuit) (λ file. IfSome (left it.witness)
     (λ text. Ends end_of_verdict (OfFile file (Reduces text)) result))

@@ -1,6 +1,6 @@
 -- What the end of a run of the program means.
--- Example: after status 0 of `aig refute --frames 20 CIRCUIT PROOF` some command ended well. If it is `Refute`, K is
--- 20; no clause says yet that it is.
+-- Example: where the matches are those of `aig refute --frames 20 CIRCUIT PROOF`, status 0 says that `Refute` ended
+-- well, and that its K is 20.
 use Rattle.std.specs.Prelude.{◌≡◌, ℕ, List, Option, Result, Ok, Err, IfOk, ⊤}
 use Rattle.clap.specs.declared.parser.matches.ArgMatches.{ArgMatches}
 use Rattle.aig_run.specs.declared.run_fault.RunFault.TheVariants as run_faults
@@ -10,14 +10,15 @@ use Rattle.aig_files.specs.Source.{source_remaining}
 use Rattle.aig_files.specs.declared.exit.Exit.{Exit}
 use Rattle.aig_files.specs.declared.exit.Exit.TheVariants as exits
 use Rattle.aig_files.specs.declared.source.Source.{Source}
-use Rattle.aig.specs.Chosen.{HoldsOptions}
+use Rattle.aig.specs.Chosen.{HoldsOptions, command_name}
 use Rattle.aig.specs.Commands.{EndsAsMeant}
 use Rattle.aig.specs.declared.command.Command.{Command}
 
--- the arguments choose a command: it has the options of their subcommand
+-- the arguments choose a command: it is that of their subcommand, with its options
 abbrev pub Chooses : {F : Type 0} → ArgMatches → Command (Source F) → Type 0
 Chooses matches command =
-    (name : List ℕ) × (own : ArgMatches) × HoldsSubcommand matches name own × HoldsOptions own command
+    (name : List ℕ) × (own : ArgMatches) × HoldsSubcommand matches name own × (command_name command ≡ name)
+    × HoldsOptions own command
 
 -- a command that was opened ends as it means; where none was, the run ends with the exit that says so
 abbrev pub EndsAsOpened : {F : Type 0} → (F → Option (List ℕ)) → Result (Command F) Exit → Result (Unit {0}) Exit

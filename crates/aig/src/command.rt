@@ -21,7 +21,6 @@ use std::os::fd::AsFd;
 use std::time::Clock;
 
 /// Which properties of a circuit to keep, and where.
-#[derive(Drop)]
 pub struct Selection {
     /// The section that has them.
     pub from: PropertySection,
@@ -31,126 +30,197 @@ pub struct Selection {
     pub positions: Vec<u32>,
 }
 
+// By hand: a value then ends in one call, which is one step of a proof (docs/PROOFS.md, Habits).
+impl Drop for Selection {
+    fn drop(self) {
+        let Selection {
+            from: _,
+            into: _,
+            positions: _,
+        } = self;
+    }
+}
+
+/// `toaig`: a circuit in a format.
+#[derive(Drop)]
+pub struct Toaig<F> {
+    pub to: Format,
+    pub circuit: F,
+}
+
+/// `sim`: the trace of a stimulus.
+#[derive(Drop)]
+pub struct Sim<F> {
+    pub circuit: F,
+    pub stimulus: F,
+}
+
+/// `wave`: the value change dump of a stimulus.
+#[derive(Drop)]
+pub struct Wave<F> {
+    pub circuit: F,
+    pub stimulus: F,
+}
+
+/// `wave --witness`: that of a witness.
+#[derive(Drop)]
+pub struct WaveWitness<F> {
+    pub circuit: F,
+    pub witness: F,
+}
+
+/// `bench`: the replies to a script, and the files that keep what it leaves.
+#[derive(Drop)]
+pub struct Bench<'a, F> {
+    pub circuit: F,
+    pub stimulus: F,
+    pub script: F,
+    pub kept: Kept<'a>,
+}
+
+/// `shell`: the answers to the lines of standard input.
+#[derive(Drop)]
+pub struct Shell<F> {
+    pub circuit: F,
+    pub given: Given<F>,
+}
+
+/// `unroll`: a circuit unrolled for some frames.
+#[derive(Drop)]
+pub struct Unroll<F> {
+    pub frames: u32,
+    pub to: Format,
+    pub circuit: F,
+}
+
+/// `unroll --map`: the same, and the map of its inputs. It must not replace the circuit's file, which is this one.
+#[derive(Drop)]
+pub struct UnrollAndMap<'a, F> {
+    pub frames: u32,
+    pub to: Format,
+    pub circuit: F,
+    pub file: Metadata,
+    pub map: &'a str,
+}
+
+/// `check`: the verdict on a witness, of a property if one is asked for; with `--trace` after its run.
+#[derive(Drop)]
+pub struct Check<F> {
+    pub with_trace: bool,
+    pub property: Option<u32>,
+    pub circuit: F,
+    pub witness: F,
+}
+
+/// `cnf`: the formula of a question.
+#[derive(Drop)]
+pub struct Cnf<F> {
+    pub question: Question<F>,
+    pub circuit: F,
+}
+
+/// `info`: facts about a circuit.
+#[derive(Drop)]
+pub struct Info<F> {
+    pub circuit: F,
+}
+
+/// `info --names`: its entries.
+#[derive(Drop)]
+pub struct InfoNames<F> {
+    pub circuit: F,
+}
+
+/// `select`: a circuit with some of its properties.
+#[derive(Drop)]
+pub struct Select<F> {
+    pub selection: Selection,
+    pub to: Format,
+    pub circuit: F,
+}
+
+/// `select --names`: the same, with the names of a text.
+#[derive(Drop)]
+pub struct SelectNamed<F> {
+    pub selection: Selection,
+    pub to: Format,
+    pub circuit: F,
+    pub names: F,
+}
+
+/// `witness`: the witness of a run over a stimulus.
+#[derive(Drop)]
+pub struct Witness<F> {
+    pub property: Option<u32>,
+    pub circuit: F,
+    pub stimulus: F,
+}
+
+/// `witness --model`: that of a solver's model of a question's formula.
+#[derive(Drop)]
+pub struct ModelWitness<F> {
+    pub question: Question<F>,
+    pub circuit: F,
+    pub model: F,
+}
+
+/// `refute`: the check of a proof about a question's formula. The proof of a step is an empty file where none is asked
+/// for.
+#[derive(Drop)]
+pub struct Refute<F> {
+    pub question: Question<F>,
+    pub circuit: F,
+    pub proof: F,
+    pub step: F,
+}
+
+/// `reduce`: a witness with x where its failure needs no value.
+#[derive(Drop)]
+pub struct Reduce<F> {
+    pub circuit: F,
+    pub witness: F,
+}
+
+/// `why`: why literals have their values in the run that is given, by default those of the property of its witness.
+#[derive(Drop)]
+pub struct Why<'a, F> {
+    pub name: Option<&'a str>,
+    pub span: Span,
+    pub circuit: F,
+    pub given: Given<F>,
+}
+
+/// `strengthen`: a circuit that is strengthened by a certificate.
+#[derive(Drop)]
+pub struct Strengthen<F> {
+    pub property: u32,
+    pub to: Format,
+    pub circuit: F,
+    pub certificate: F,
+}
+
 /// A command with its options and its open files.
 pub enum Command<'a, F> {
-    /// `toaig`: a circuit in a format.
-    Toaig {
-        to: Format,
-        circuit: F,
-    },
-    /// `sim`: the trace of a stimulus.
-    Sim {
-        circuit: F,
-        stimulus: F,
-    },
-    /// `wave`: the value change dump of a stimulus.
-    Wave {
-        circuit: F,
-        stimulus: F,
-    },
-    /// `wave --witness`: that of a witness.
-    WaveWitness {
-        circuit: F,
-        witness: F,
-    },
-    /// `bench`: the replies to a script, and the files that keep what it leaves.
-    Bench {
-        circuit: F,
-        stimulus: F,
-        script: F,
-        kept: Kept<'a>,
-    },
-    /// `shell`: the answers to the lines of standard input.
-    Shell {
-        circuit: F,
-        given: Given<F>,
-    },
-    /// `unroll`: a circuit unrolled for some frames.
-    Unroll {
-        frames: u32,
-        to: Format,
-        circuit: F,
-    },
-    /// `unroll --map`: the same, and the map of its inputs. It must not replace the circuit's file, which is this one.
-    UnrollAndMap {
-        frames: u32,
-        to: Format,
-        circuit: F,
-        file: Metadata,
-        map: &'a str,
-    },
-    /// `check`: the verdict on a witness, of a property if one is asked for; with `--trace` after its run.
-    Check {
-        with_trace: bool,
-        property: Option<u32>,
-        circuit: F,
-        witness: F,
-    },
-    /// `cnf`: the formula of a question.
-    Cnf {
-        question: Question<F>,
-        circuit: F,
-    },
-    /// `info`: facts about a circuit.
-    Info {
-        circuit: F,
-    },
-    /// `info --names`: its entries.
-    InfoNames {
-        circuit: F,
-    },
-    /// `select`: a circuit with some of its properties.
-    Select {
-        selection: Selection,
-        to: Format,
-        circuit: F,
-    },
-    /// `select --names`: the same, with the names of a text.
-    SelectNamed {
-        selection: Selection,
-        to: Format,
-        circuit: F,
-        names: F,
-    },
-    /// `witness`: the witness of a run over a stimulus.
-    Witness {
-        property: Option<u32>,
-        circuit: F,
-        stimulus: F,
-    },
-    /// `witness --model`: that of a solver's model of a question's formula.
-    ModelWitness {
-        question: Question<F>,
-        circuit: F,
-        model: F,
-    },
-    /// `refute`: the check of a proof about a question's formula. The proof of a step is an empty file where none is
-    /// asked for.
-    Refute {
-        question: Question<F>,
-        circuit: F,
-        proof: F,
-        step: F,
-    },
-    /// `reduce`: a witness with x where its failure needs no value.
-    Reduce {
-        circuit: F,
-        witness: F,
-    },
-    /// `why`: why literals have their values in the run that is given, by default those of the property of its witness.
-    Why {
-        name: Option<&'a str>,
-        span: Span,
-        circuit: F,
-        given: Given<F>,
-    },
-    /// `strengthen`: a circuit that is strengthened by a certificate.
-    Strengthen {
-        property: u32,
-        to: Format,
-        circuit: F,
-        certificate: F,
-    },
+    Toaig(Toaig<F>),
+    Sim(Sim<F>),
+    Wave(Wave<F>),
+    WaveWitness(WaveWitness<F>),
+    Bench(Bench<'a, F>),
+    Shell(Shell<F>),
+    Unroll(Unroll<F>),
+    UnrollAndMap(UnrollAndMap<'a, F>),
+    Check(Check<F>),
+    Cnf(Cnf<F>),
+    Info(Info<F>),
+    InfoNames(InfoNames<F>),
+    Select(Select<F>),
+    SelectNamed(SelectNamed<F>),
+    Witness(Witness<F>),
+    ModelWitness(ModelWitness<F>),
+    Refute(Refute<F>),
+    Reduce(Reduce<F>),
+    Why(Why<'a, F>),
+    Strengthen(Strengthen<F>),
 }
 
 impl<F: Read + Drop> Command<'_, F> {
@@ -164,78 +234,34 @@ impl<F: Read + Drop> Command<'_, F> {
         ensures ends { EndsAsMeant F.remaining self.entry result }
     {
         match self {
-            Command::Toaig { to, circuit } => toaig(terminal, to, circuit),
-            Command::Sim { circuit, stimulus } => sim(terminal, circuit, stimulus),
-            Command::Wave { circuit, stimulus } => wave(terminal, circuit, stimulus),
-            Command::WaveWitness { circuit, witness } => wave_witness(terminal, circuit, witness),
-            Command::Bench {
-                circuit,
-                stimulus,
-                script,
-                kept,
-            } => bench(terminal, circuit, stimulus, script, kept),
-            Command::Shell { circuit, given } => shell(terminal, circuit, given),
-            Command::Unroll {
-                frames,
-                to,
-                circuit,
-            } => unroll(terminal, frames, to, circuit),
-            Command::UnrollAndMap {
-                frames,
-                to,
-                circuit,
-                file,
-                map,
-            } => unroll_and_map(terminal, frames, to, circuit, &file, map),
-            Command::Check {
-                with_trace,
-                property,
-                circuit,
-                witness,
-            } => check(terminal, with_trace, property, circuit, witness),
-            Command::Cnf { question, circuit } => cnf(terminal, question, circuit),
-            Command::Info { circuit } => info(terminal, circuit),
-            Command::InfoNames { circuit } => info_names(terminal, circuit),
-            Command::Select {
-                selection,
-                to,
-                circuit,
-            } => select(terminal, selection, to, circuit),
-            Command::SelectNamed {
-                selection,
-                to,
-                circuit,
-                names,
-            } => select_named(terminal, selection, to, circuit, names),
-            Command::Witness {
-                property,
-                circuit,
-                stimulus,
-            } => witness(terminal, property, circuit, stimulus),
-            Command::ModelWitness {
-                question,
-                circuit,
-                model,
-            } => model_witness(terminal, question, circuit, model),
-            Command::Refute {
-                question,
-                circuit,
-                proof,
-                step,
-            } => refute(terminal, question, circuit, proof, step),
-            Command::Reduce { circuit, witness } => reduce(terminal, circuit, witness),
-            Command::Why {
-                name,
-                span,
-                circuit,
-                given,
-            } => why(terminal, name, span, circuit, given),
-            Command::Strengthen {
-                property,
-                to,
-                circuit,
-                certificate,
-            } => strengthen(terminal, property, to, circuit, certificate),
+            Command::Toaig(it) => toaig(terminal, it.to, it.circuit),
+            Command::Sim(it) => sim(terminal, it.circuit, it.stimulus),
+            Command::Wave(it) => wave(terminal, it.circuit, it.stimulus),
+            Command::WaveWitness(it) => wave_witness(terminal, it.circuit, it.witness),
+            Command::Bench(it) => bench(terminal, it.circuit, it.stimulus, it.script, it.kept),
+            Command::Shell(it) => shell(terminal, it.circuit, it.given),
+            Command::Unroll(it) => unroll(terminal, it.frames, it.to, it.circuit),
+            Command::UnrollAndMap(it) => {
+                unroll_and_map(terminal, it.frames, it.to, it.circuit, &it.file, it.map)
+            }
+            Command::Check(it) => {
+                check(terminal, it.with_trace, it.property, it.circuit, it.witness)
+            }
+            Command::Cnf(it) => cnf(terminal, it.question, it.circuit),
+            Command::Info(it) => info(terminal, it.circuit),
+            Command::InfoNames(it) => info_names(terminal, it.circuit),
+            Command::Select(it) => select(terminal, it.selection, it.to, it.circuit),
+            Command::SelectNamed(it) => {
+                select_named(terminal, it.selection, it.to, it.circuit, it.names)
+            }
+            Command::Witness(it) => witness(terminal, it.property, it.circuit, it.stimulus),
+            Command::ModelWitness(it) => model_witness(terminal, it.question, it.circuit, it.model),
+            Command::Refute(it) => refute(terminal, it.question, it.circuit, it.proof, it.step),
+            Command::Reduce(it) => reduce(terminal, it.circuit, it.witness),
+            Command::Why(it) => why(terminal, it.name, it.span, it.circuit, it.given),
+            Command::Strengthen(it) => {
+                strengthen(terminal, it.property, it.to, it.circuit, it.certificate)
+            }
         }
     }
 }

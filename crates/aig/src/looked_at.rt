@@ -1,6 +1,6 @@
 //! What a second look at a run's files needs, for `--explain`.
 
-use crate::options::{kept_of, property_text};
+use crate::chosen::options::{kept_of, property_text};
 use aig_base::PropertySection;
 use aig_cli::{has_flag, number_of as number_in_option, number_or, subcommand_of, text_of};
 use aig_files::{Judged, RunFiles};

@@ -1,6 +1,6 @@
 use Rattle.std.proofs.Common.{ℕ, List, IfOk, subst}
 use Rattle.aig.specs.Chosen.{NamesProperty}
-use Rattle.aig.proofs.properties.open_circuit_and_property.Goals as goal
+use Rattle.aig.proofs.chosen.properties.open_circuit_and_property.Goals as goal
 
 pub returns : goal.returns
 returns g c = record {

@@ -1,9 +1,9 @@
 //! The circuit of a command, and the properties of it that texts name.
-ghost use Rattle.std.specs.Prelude.{IfOk};
-ghost use Rattle.aig.specs.Chosen.{HoldsAsked, HoldsProperty, HoldsReached, NamesProperty};
+ghost use Rattle.std.specs.Prelude.{◌≡◌, IfOk, false};
+ghost use Rattle.aig.specs.Chosen.{HoldsAsked, HoldsCertificate, HoldsProperty, HoldsReached, NamesProperty, is_certified};
 
-use crate::named_files::{open_certificate, open_circuit, open_file};
-use crate::options::{frames_of, property_text};
+use crate::chosen::named_files::{open_certificate, open_circuit, open_file};
+use crate::chosen::options::{frames_of, property_text};
 use aig_base::PropertySection;
 use aig_cli::{has_flag, text_of, texts_of};
 use aig_commands::question::Question;
@@ -65,6 +65,7 @@ pub fn open_circuit_and_runs<'t, R: Files + AllocGlobal + Clock + Eprint>(
     Exit,
 >
     ensures held { IfOk result (λ r. HoldsAsked matches.now step r.0 r.1) }
+    ensures plain { IfOk result (λ r. is_certified r.1 ≡ false) }
 {
     let frames = frames_of(matches)?;
     if has_flag(matches, "alive") {
@@ -92,6 +93,7 @@ pub fn open_circuit_and_question<'t, R: Files + AllocGlobal + Clock + Eprint>(
     Exit,
 >
     ensures held { IfOk result (λ r. HoldsAsked matches.now step r.0 r.1) }
+    ensures certificate { IfOk result (λ r. HoldsCertificate matches.now r.1) }
 {
     if text_of(matches, "certificate").is_none() {
         return open_circuit_and_runs(terminal, matches, step);
