@@ -3,18 +3,25 @@ ghost use Rattle.std.specs.Prelude.{◌≡◌};
 
 use crate::circuit::header::Header;
 use crate::explanation::Explanation;
+use crate::line::Word;
 use crate::stimulus::header_of;
 use aig_bench::BenchFault;
 use aig_bytes::Memory;
 
 fn push_limit(lines: &mut Explanation, circuit: &[u8], rows: usize) -> Result<(), Memory> {
     let Some(Header { max_var, .. }) = header_of(circuit) else {
-        return lines.add(format_args!("(M + 1) * {rows} rows; wanted: at most 67,108,864"));
+        return lines.add(
+            "(M + 1) * {} rows; wanted: at most 67,108,864",
+            &[Word::Size(rows)],
+        );
     };
     let cells = u64::from(max_var)
         .saturating_add(1)
         .saturating_mul(rows as u64);
-    lines.add(format_args!("M = {max_var} and {rows} rows: (M + 1) * rows = {cells}"))?;
+    lines.add(
+        "M = {} and {} rows: (M + 1) * rows = {}",
+        &[Word::Count(max_var), Word::Size(rows), Word::Number(cells)],
+    )?;
     lines.say("wanted: at most 67,108,864; use fewer rows")
 }
 

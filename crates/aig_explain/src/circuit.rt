@@ -16,13 +16,14 @@ mod token;
 use crate::circuit::circuit_parts::push_fault_of_parts;
 use crate::circuit::header::Header;
 use crate::circuit::known::cause_of;
-use crate::circuit::parts::shortened;
-use crate::circuit::place::{Found, Place};
+use crate::circuit::place::Place;
 use crate::circuit::reader::Reader;
 use crate::circuit::symbols::first_wrong;
 use crate::circuit::token::{Wanted, Within, Wrong};
 use crate::explanation::Explanation;
 use crate::kind::Kind;
+use crate::line::{Line, Word};
+use crate::text_lines::{digits_of, first_with, place_of};
 use aig_bytes::Memory;
 use aig_files::Part;
 use aig_parts::Fault;
@@ -30,24 +31,29 @@ use aig_parts::Fault;
 // The place of a wrong token.
 fn push_place(lines: &mut Explanation, file: &[u8], wrong: &Wrong) -> Result<(), Memory> {
     let at = wrong.at;
-    let found = Found(file.get(at).copied());
+    let found = Word::Found(file.get(at).copied());
     match wrong.within {
-        Within::BinaryGate { .. } => lines.add(format_args!("byte {at}: {found}")),
+        Within::BinaryGate { .. } => lines.add("byte {}: {}", &[Word::Size(at), found]),
         Within::BinarySymbols { from } => {
-            let place = Place::of(file.get(from..).unwrap_or(&[]), at.saturating_sub(from));
-            lines.add(format_args!("after the gates, {place}: {found}"))
+            let symbols = file.get(from..).unwrap_or(&[]);
+            let [line, column] = Place::of(symbols, at.saturating_sub(from)).words();
+            lines.add(
+                "after the gates, line {}, column {}: {}",
+                &[line, column, found],
+            )
         }
         _ => {
-            let place = Place::of(file, at);
-            lines.add(format_args!("{place}: {found}"))
+            let [line, column] = Place::of(file, at).words();
+            lines.add("line {}, column {}: {}", &[line, column, found])
         }
     }
 }
 
 // What the format wants in place of a wrong token.
 fn push_wanted(lines: &mut Explanation, wrong: &Wrong) -> Result<(), Memory> {
-    let Wrong { wanted, within, .. } = *wrong;
-    lines.add(format_args!("wanted: {wanted} ({within})"))
+    let mut line = Line::new(lines.alloc());
+    wrong.put(&mut line)?;
+    lines.push(line.as_bytes())
 }
 
 // A cause that is known, and what to do.
@@ -57,29 +63,24 @@ fn push_cause(lines: &mut Explanation, file: &[u8], wrong: &Wrong) -> Result<(),
     {
         return kind.push(lines, Part::Circuit);
     }
-    let Some(cause) = cause_of(file, wrong) else {
-        return Ok(());
-    };
-    lines.say(cause.what())?;
-    lines.say(cause.remedy())
+    match cause_of(file, wrong) {
+        Some((what, remedy)) => lines.say_all(&[what, remedy]),
+        None => Ok(()),
+    }
 }
 
-// Where an entry is named first that a symbol names again.
-fn push_first_name(lines: &mut Explanation, file: &[u8], wrong: &Wrong) -> Result<(), Memory> {
+// The line that names an entry first that a symbol names again.
+fn first_name(file: &[u8], wrong: &Wrong) -> Option<usize> {
     // The letter and the position.
     let from = wrong.at.saturating_sub(1);
-    let symbol = file.get(from..).unwrap_or(&[]);
-    let length = symbol.iter().take_while(|byte| **byte != b' ').count();
-    let start = symbol.get(..length.saturating_add(1)).unwrap_or(symbol);
-    let before = file.get(..from).unwrap_or(&[]);
-    let named = before
-        .split(|byte| *byte == b'\n')
-        .position(|line| line.starts_with(start));
-    match (wrong.within, named) {
-        (Within::Symbols, Some(lines_before)) => {
-            let line = lines_before.saturating_add(1);
-            lines.add(format_args!("line {line} names it already"))
-        }
+    let symbol = file.get(from..)?;
+    let start = symbol.get(..=place_of(symbol, b' ')?)?;
+    first_with(file.get(..from)?, start)
+}
+
+fn push_first_name(lines: &mut Explanation, file: &[u8], wrong: &Wrong) -> Result<(), Memory> {
+    match (wrong.within, first_name(file, wrong)) {
+        (Within::Symbols, Some(line)) => lines.add("line {} names it already", &[Word::Size(line)]),
         _ => Ok(()),
     }
 }
@@ -98,26 +99,25 @@ fn push_text(lines: &mut Explanation, file: &[u8], at: usize) -> Result<(), Memo
     }
 }
 
-// The digits of the number at a place.
-fn digits_at(file: &[u8], at: usize) -> &[u8] {
+// The number that is over its limit.
+fn push_number(lines: &mut Explanation, file: &[u8], at: usize) -> Result<(), Memory> {
     let rest = file.get(at..).unwrap_or(&[]);
-    let length = rest.iter().take_while(|byte| byte.is_ascii_digit()).count();
-    rest.get(..length).unwrap_or(rest)
+    let digits = rest.get(..digits_of(rest)).unwrap_or(rest);
+    let [line, column] = Place::of(file, at).words();
+    lines.add(
+        "line {}, column {}: {}",
+        &[line, column, Word::Bytes(digits)],
+    )
 }
 
 fn push_limit(lines: &mut Explanation, file: &[u8]) -> Result<(), Memory> {
     match first_wrong(file, usize::MAX) {
         Some(wrong) if wrong.wanted.is_limit() => {
-            let Wrong { wanted, within, .. } = wrong;
-            let number = shortened(lines.alloc(), digits_at(file, wrong.at))?;
-            match within {
+            match wrong.within {
                 Within::BinarySymbols { .. } => push_place(lines, file, &wrong)?,
-                _ => {
-                    let place = Place::of(file, wrong.at);
-                    lines.add(format_args!("{place}: {number}"))?;
-                }
+                _ => push_number(lines, file, wrong.at)?,
             }
-            lines.add(format_args!("wanted: {wanted} ({within})"))
+            push_wanted(lines, &wrong)
         }
         _ => Ok(()),
     }
@@ -136,9 +136,16 @@ fn push_counts(lines: &mut Explanation, file: &[u8]) -> Result<(), Memory> {
         ..
     } = header;
     let sum = header.defined();
-    lines.add(format_args!(
-        "line 1: M = {max_var}, I = {inputs}, L = {latches}, A = {gates}; I + L + A = {sum}"
-    ))?;
+    lines.add(
+        "line 1: M = {}, I = {}, L = {}, A = {}; I + L + A = {}",
+        &[
+            Word::Count(max_var),
+            Word::Count(inputs),
+            Word::Count(latches),
+            Word::Count(gates),
+            Word::Count(sum),
+        ],
+    )?;
     if !is_binary {
         return lines.say("wanted: M of at least I + L + A");
     }

@@ -2,6 +2,7 @@
 ghost use Rattle.std.specs.Prelude.{◌≡◌};
 
 use crate::explanation::Explanation;
+use crate::line::Word;
 use crate::stimulus::header_of;
 use crate::unrolling::{push_limit, push_no_frames};
 use crate::witness::push_bad_count;
@@ -10,7 +11,7 @@ use aig_cnf::{CnfFault, Goal, Query};
 
 /// Adds which property is asked for, and how many the circuit has.
 pub fn push_property(lines: &mut Explanation, circuit: &[u8], property: u32) -> Result<(), Memory> {
-    lines.add(format_args!("P is {property}, counted from 0"))?;
+    lines.add("P is {}, counted from 0", &[Word::Count(property)])?;
     push_bad_count(lines, header_of(circuit))
 }
 

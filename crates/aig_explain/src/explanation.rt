@@ -4,10 +4,10 @@ ghost use Rattle.std.specs.String.{string_bytes};
 ghost use Rattle.aig_terminal.specs.Shown.{ArePrintable, escaped};
 ghost use Rattle.aig_explain.specs.Shown.{shown_line, IsShown};
 
+use crate::line::{Line, Word};
 use aig_bytes::Memory;
 use aig_terminal::escaped;
 use std::alloc::Global;
-use std::fmt::Display;
 use std::marker::Model;
 
 /// Lines that explain a refusal. Each begins with two spaces and ends with LF, and has no byte but 32 to 126: no
@@ -63,13 +63,14 @@ impl Explanation {
         Ok(())
     }
 
-    /// Adds a line that shows this value, escaped.
-    pub fn add<T: Display + Drop>(&mut self, value: T) -> Result<(), Memory>
+    /// Adds a line that shows this template, with these words in place of its holes, escaped.
+    pub fn add(&mut self, template: &str, words: &[Word<'_>]) -> Result<(), Memory>
         ensures ok { OnOk result ((text : List ℕ) × (self.new ≡ self.old ++ shown_line text)) }
         ensures some { OnOk result (self.new ≢ []) }
         ensures err { OnErr result (self.new ≡ self.old) }
     {
-        let text = value.to_string(self.alloc)?;
+        let mut text = Line::new(self.alloc);
+        text.put(template, words)?;
         self.push(text.as_bytes())
     }
 
@@ -78,6 +79,31 @@ impl Explanation {
         ensures { OnOk result (self.new ≢ []) }
     {
         self.push(line.as_bytes())
+    }
+
+    /// Adds lines of the program's own.
+    pub(crate) fn say_all(&mut self, lines: &[&str]) -> Result<(), Memory> {
+        for line in lines {
+            self.say(line)?;
+        }
+        Ok(())
+    }
+
+    /// Adds the name of a file.
+    pub(crate) fn name(&mut self, name: &str) -> Result<(), Memory>
+        ensures { OnOk result (self.new ≢ []) }
+    {
+        self.add("file: {}", &[Word::Text(name)])
+    }
+
+    /// Adds that nothing was found, unless a line was added after so many bytes.
+    pub(crate) fn or_nothing_found(&mut self, before: usize) -> Result<(), Memory>
+        ensures { OnOk result (self.new ≢ []) }
+    {
+        if self.len() > before {
+            return Ok(());
+        }
+        self.say("a second look finds nothing wrong: the file may have changed")
     }
 
     /// The lines as text.

@@ -2,12 +2,12 @@
 //! `Kind::of`, for each kind, and a row of `Kind::remedy` for each place that wants something of its own.
 
 use crate::explanation::Explanation;
-use crate::notes::proof_walk::is_blank;
+use crate::text_lines::{first_other, has_text, is_blank, is_newline};
 use aig_bytes::Memory;
 use aig_files::Part;
 
 /// What a file is.
-#[derive(Clone, Copy, PartialEq, Eq)]
+#[derive(Clone, Copy)]
 pub enum Kind {
     Empty,
     ByteOrderMark,
@@ -42,24 +42,24 @@ const ANSWERS: [&[u8]; 8] = [
     b"INDETERMINATE",
 ];
 
-fn is_word(word: &[u8], other: &[u8]) -> bool {
-    word == other
+fn is_answer(word: &[u8]) -> bool {
+    for answer in ANSWERS {
+        if word == answer {
+            return true;
+        }
+    }
+    false
 }
 
 // What begins with this word.
 fn of_word(word: &[u8]) -> Option<Kind> {
-    if word.ends_with(b"\r") {
-        Some(Kind::CrLf)
-    } else if is_word(word, b"p") {
-        Some(Kind::Formula)
-    } else if ANSWERS.iter().any(|answer| is_word(word, answer)) {
-        Some(Kind::Answer)
-    } else if is_word(word, b"o") {
-        Some(Kind::Frat)
-    } else if is_word(word, b"pseudo-Boolean") {
-        Some(Kind::VeriPb)
-    } else {
-        None
+    match word {
+        [.., b'\r'] => Some(Kind::CrLf),
+        [b'p'] => Some(Kind::Formula),
+        [b'o'] => Some(Kind::Frat),
+        _ if word == b"pseudo-Boolean".as_slice() => Some(Kind::VeriPb),
+        _ if is_answer(word) => Some(Kind::Answer),
+        _ => None,
     }
 }
 
@@ -67,17 +67,15 @@ fn of_word(word: &[u8]) -> Option<Kind> {
 fn of_step(line: &[u8]) -> Option<Kind> {
     let mut is_first = true;
     let mut is_after_zero = false;
-    for word in line.split(|byte| is_blank(*byte)) {
-        if word.is_empty() {
-            continue;
+    for word in line.split(is_blank) {
+        match word {
+            [] => continue,
+            [b'a'] if is_first => return Some(Kind::Frat),
+            [b'd'] if !is_first => return Some(Kind::Lrat),
+            _ if is_after_zero => return Some(Kind::Lrat),
+            _ => {}
         }
-        if is_first && is_word(word, b"a") {
-            return Some(Kind::Frat);
-        }
-        if is_after_zero || (!is_first && is_word(word, b"d")) {
-            return Some(Kind::Lrat);
-        }
-        is_after_zero = is_word(word, b"0");
+        is_after_zero = matches!(word, [b'0']);
         is_first = false;
     }
     None
@@ -97,11 +95,21 @@ fn first_number(numbers: &[u8]) -> u64 {
     number
 }
 
-// Whether each list of numbers, which a zero byte ends, begins with one of these letters.
-fn begin_with(lists: &[u8], letters: &[u8]) -> bool {
-    lists.split(|byte| *byte == 0).all(|list| list
-        .first()
-        .is_some_and(|letter| letters.contains(letter)))
+fn is_zero(byte: &u8) -> bool {
+    *byte == 0
+}
+
+// Whether each list of numbers, which a zero byte ends, begins with a letter of DRAT, or with one of FRAT if these
+// count too.
+fn are_steps(lists: &[u8], of_frat: bool) -> bool {
+    for list in lists.split(is_zero) {
+        match list {
+            [b'a' | b'd', ..] => {}
+            [b'o' | b'l' | b'f' | b'r', ..] if of_frat => {}
+            _ => return false,
+        }
+    }
+    true
 }
 
 // Whether these lists are steps of LRAT: after each addition there is one more list, its hints, and its first number is
@@ -110,7 +118,7 @@ fn are_of_lrat(lists: &[u8]) -> bool {
     let mut additions: u64 = 0;
     let mut last = 0;
     let mut is_hints = false;
-    for list in lists.split(|byte| *byte == 0) {
+    for list in lists.split(is_zero) {
         if is_hints {
             is_hints = false;
             continue;
@@ -131,11 +139,10 @@ fn are_of_lrat(lists: &[u8]) -> bool {
 // What a proof in a binary form is, by its steps that are whole in a block. Steps of FRAT have more letters than those
 // of DRAT, and each of LRAT has hints where DRAT has a letter.
 fn of_binary(block: &[u8]) -> Option<Kind> {
-    let end = block.iter().rposition(|byte| *byte == 0)?;
-    let lists = block.get(..end)?;
-    if begin_with(lists, b"ad") {
+    let lists = block.get(..last_zero(block)?)?;
+    if are_steps(lists, false) {
         None
-    } else if begin_with(lists, b"oadlfr") {
+    } else if are_steps(lists, true) {
         Some(Kind::Frat)
     } else if are_of_lrat(lists) {
         Some(Kind::Lrat)
@@ -144,9 +151,19 @@ fn of_binary(block: &[u8]) -> Option<Kind> {
     }
 }
 
+fn last_zero(block: &[u8]) -> Option<usize> {
+    let mut last = None;
+    for place in 0..block.len() {
+        if block[place] == 0 {
+            last = Some(place);
+        }
+    }
+    last
+}
+
 // The first line that is no comment.
 fn first_line(block: &[u8]) -> &[u8] {
-    for line in block.split(|byte| *byte == b'\n') {
+    for line in block.split(is_newline) {
         if !line.is_empty() && !line.starts_with(b"c") {
             return line;
         }
@@ -155,7 +172,7 @@ fn first_line(block: &[u8]) -> &[u8] {
 }
 
 fn first_word(line: &[u8]) -> &[u8] {
-    line.split(|byte| is_blank(*byte)).next().unwrap_or(line)
+    line.split(is_blank).next().unwrap_or(line)
 }
 
 // What has this first line.
@@ -170,22 +187,24 @@ fn of_line(line: &[u8]) -> Option<Kind> {
     of_step(line)
 }
 
-// Whether these bytes have the word in them.
-fn has_word(bytes: &[u8], word: &[u8]) -> bool {
-    !word.is_empty() && bytes.windows(word.len()).any(|part| part == word)
-}
-
 // Whether a line begins with the word.
 fn has_line(bytes: &[u8], word: &[u8]) -> bool {
-    bytes
-        .split(|byte| *byte == b'\n')
-        .any(|line| line.trim_ascii_start().starts_with(word))
+    for line in bytes.split(is_newline) {
+        if line.trim_ascii_start().starts_with(word) {
+            return true;
+        }
+    }
+    false
 }
 
 // Whether each line is one of a stimulus.
 fn has_values(file: &[u8]) -> bool {
-    file.iter()
-        .all(|byte| matches!(byte, b'0' | b'1' | b'x' | b'\n'))
+    for line in file.split(is_newline) {
+        if first_other(line).is_some() {
+            return false;
+        }
+    }
+    true
 }
 
 /// The first bytes of files, and what they are then.
@@ -212,7 +231,7 @@ impl Kind {
         }
         if has_values(bytes) {
             Some(Kind::Stimulus)
-        } else if has_word(bytes, b"endmodule") {
+        } else if has_text(bytes, b"endmodule") {
             Some(Kind::Verilog)
         } else if has_line(bytes, b".model") {
             Some(Kind::Blif)
@@ -238,8 +257,7 @@ impl Kind {
 
     /// Adds what the file is, and what to do with it where another file is wanted.
     pub fn push(self, lines: &mut Explanation, wanted: Part) -> Result<(), Memory> {
-        lines.say(self.what())?;
-        lines.say(self.remedy(wanted))
+        lines.say_all(&[self.what(), self.remedy(wanted)])
     }
 
     /// What the file is.

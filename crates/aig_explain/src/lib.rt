@@ -6,6 +6,7 @@ mod circuit;
 mod cnf;
 mod explanation;
 mod kind;
+mod line;
 mod notes;
 mod stimulus;
 mod text_lines;
@@ -14,4 +15,5 @@ mod witness;
 mod witness_text;
 
 pub use explanation::Explanation;
+pub use line::Word;
 pub use notes::{explain, is_asked_for};

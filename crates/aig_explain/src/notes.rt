@@ -2,13 +2,14 @@
 //! second look at them shows.
 
 mod certificate_look;
+mod contents;
 mod failed_run;
 mod look;
 mod model_look;
 mod names_look;
 mod output_look;
 mod proof_look;
-pub(crate) mod proof_walk;
+mod proof_walk;
 mod verdict_look;
 mod why_look;
 

@@ -2,11 +2,11 @@
 ghost use Rattle.std.specs.Prelude.{◌≡◌};
 
 use crate::circuit::header::Header;
-use crate::circuit::place::Found;
 use crate::circuit::reader::Reader;
 use crate::explanation::Explanation;
 use crate::kind::Kind;
-use crate::text_lines::{TextLines, first_other};
+use crate::line::Word;
+use crate::text_lines::{count_ended, first_other, line_of, unfinished};
 use aig_bytes::Memory;
 use aig_files::Part;
 use aig_sim::StimFault;
@@ -18,11 +18,14 @@ pub fn header_of(circuit: &[u8]) -> Option<Header> {
 
 // How long the lines have to be.
 fn push_width(lines: &mut Explanation, circuit: &[u8]) -> Result<(), Memory> {
-    match header_of(circuit).map(|header| header.inputs) {
-        Some(0) => lines.say("wanted: empty lines, because the circuit has no inputs"),
-        Some(inputs) => lines.add(format_args!(
-            "wanted: {inputs} of 0, 1 and x, one for each input of the circuit"
-        )),
+    match header_of(circuit) {
+        Some(Header { inputs: 0, .. }) => {
+            lines.say("wanted: empty lines, because the circuit has no inputs")
+        }
+        Some(Header { inputs, .. }) => lines.add(
+            "wanted: {} of 0, 1 and x, one for each input of the circuit",
+            &[Word::Count(inputs)],
+        ),
         None => lines.say("wanted: one of 0, 1 and x for each input of the circuit"),
     }
 }
@@ -41,13 +44,16 @@ fn push_character(
     file: &[u8],
     number: u64,
 ) -> Result<(), Memory> {
-    let line = TextLines::of(file).line(number);
+    let line = line_of(file, number);
     let Some(place) = first_other(line) else {
         return Ok(());
     };
-    let found = Found(line.get(place).copied());
     let column = place.saturating_add(1);
-    lines.add(format_args!("line {number}, column {column}: {found}"))?;
+    let found = Word::Found(line.get(place).copied());
+    lines.add(
+        "line {}, column {}: {}",
+        &[Word::Number(number), Word::Size(column), found],
+    )?;
     push_width(lines, circuit)?;
     if line.ends_with(b"\r") && column == line.len() {
         lines.say("lines end with CR LF, and only LF ends a line: tr -d '\\r' < FILE > NEW")?;
@@ -61,23 +67,27 @@ fn push_length(
     file: &[u8],
     number: u64,
 ) -> Result<(), Memory> {
-    let length = TextLines::of(file).line(number).len();
-    lines.add(format_args!("line {number} has the length {length}"))?;
+    let length = line_of(file, number).len();
+    lines.add(
+        "line {} has the length {}",
+        &[Word::Number(number), Word::Size(length)],
+    )?;
     push_width(lines, circuit)?;
     push_kind(lines, file)
 }
 
 fn push_unfinished(lines: &mut Explanation, file: &[u8]) -> Result<(), Memory> {
-    let text = TextLines::of(file);
-    let number = text.ended().saturating_add(1);
-    let length = text.unfinished().len();
-    lines.add(format_args!("line {number}, the last one, has the length {length} and no newline"))?;
+    let last = Word::Size(count_ended(file).saturating_add(1));
+    let length = Word::Size(unfinished(file).len());
+    lines.add(
+        "line {}, the last one, has the length {} and no newline",
+        &[last, length],
+    )?;
     lines.say("add the newline, if the line is whole: echo >> FILE")
 }
 
 fn push_limit(lines: &mut Explanation, file: &[u8]) -> Result<(), Memory> {
-    let rows = TextLines::of(file).ended();
-    lines.add(format_args!("the stimulus has {rows} rows"))?;
+    lines.add("the stimulus has {} rows", &[Word::Size(count_ended(file))])?;
     lines.say("wanted: at most 65,536 rows for bench; sim and wave take any number")
 }
 

@@ -4,6 +4,7 @@ ghost use Rattle.std.specs.Prelude.{◌≡◌};
 use crate::circuit::header::Header;
 use crate::circuit::parts::{Parts, Sought};
 use crate::explanation::Explanation;
+use crate::line::Word;
 use aig_bytes::Memory;
 use aig_unroll::UnrollFault;
 
@@ -22,6 +23,11 @@ struct Unrolled {
     constraints: u64,
 }
 
+// How many there are of what each frame has so many of.
+fn in_frames(count: u32, frames: u32) -> u64 {
+    u64::from(count).saturating_mul(u64::from(frames))
+}
+
 impl Unrolled {
     // The counts of a circuit of these parts in so many frames, of which so many latches start with any value.
     fn of(parts: &Parts<'_>, frames: u32, free_latches: u64) -> Unrolled {
@@ -33,25 +39,22 @@ impl Unrolled {
             constraints,
             ..
         } = parts.header;
-        let in_frames = |count: u32| u64::from(count).saturating_mul(u64::from(frames));
+        let bad = in_frames(bad, frames);
+        let constraints = in_frames(constraints, frames);
         let has_guards = bad > 0 && constraints > 0;
         let guards = if has_guards {
-            in_frames(bad).saturating_add(in_frames(constraints))
+            bad.saturating_add(constraints)
         } else {
             0
         };
         Unrolled {
-            max_var: in_frames(inputs)
+            max_var: in_frames(inputs, frames)
                 .saturating_add(free_latches)
-                .saturating_add(in_frames(gates))
+                .saturating_add(in_frames(gates, frames))
                 .saturating_add(guards),
-            outputs: in_frames(outputs),
-            bad: in_frames(bad),
-            constraints: if has_guards {
-                0
-            } else {
-                in_frames(constraints)
-            },
+            outputs: in_frames(outputs, frames),
+            bad,
+            constraints: if has_guards { 0 } else { constraints },
         }
     }
 }
@@ -61,7 +64,10 @@ fn push_count(lines: &mut Explanation, name: &str, count: u64) -> Result<(), Mem
     if count <= LIMIT {
         return Ok(());
     }
-    lines.add(format_args!("the unrolled circuit would have {name} {count}"))
+    lines.add(
+        "the unrolled circuit would have {} {}",
+        &[Word::Text(name), Word::Number(count)],
+    )
 }
 
 /// Adds lines for what is over its limit in a circuit unrolled for so many frames, a number with this name.
@@ -72,7 +78,7 @@ pub(crate) fn push_limit(
     frames: u32,
 ) -> Result<(), Memory> {
     if frames > FRAMES {
-        lines.add(format_args!("{name} is {frames}"))?;
+        lines.add("{} is {}", &[Word::Text(name), Word::Count(frames)])?;
         return lines.say("wanted: at most 65,536 frames");
     }
     let Some(parts) = Parts::of(circuit) else {
@@ -111,15 +117,16 @@ fn push_liveness(lines: &mut Explanation, circuit: &[u8]) -> Result<(), Memory> 
         fairness,
         ..
     } = header;
-    lines.add(format_args!(
-        "the circuit has justice properties: {justice}, fairness constraints: {fairness}"
-    ))?;
+    lines.add(
+        "the circuit has justice properties: {}, fairness constraints: {}",
+        &[Word::Count(justice), Word::Count(fairness)],
+    )?;
     lines.say("wanted: none of them: aig select --to aag CIRCUIT > NEW leaves them out")
 }
 
 /// Adds lines for a number of frames that is 0.
 pub(crate) fn push_no_frames(lines: &mut Explanation, frames: u32) -> Result<(), Memory> {
-    lines.add(format_args!("K is {frames}"))?;
+    lines.add("K is {}", &[Word::Count(frames)])?;
     lines.say("wanted: at least one frame")
 }
 

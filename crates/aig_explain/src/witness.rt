@@ -2,11 +2,11 @@
 ghost use Rattle.std.specs.Prelude.{◌≡◌};
 
 use crate::circuit::header::Header;
-use crate::circuit::parts::shortened;
 use crate::explanation::Explanation;
 use crate::kind::Kind;
+use crate::line::Word;
 use crate::stimulus::header_of;
-use crate::text_lines::TextLines;
+use crate::text_lines::{count_ended, line_of};
 use crate::witness_text::{WrongLine, first_wrong_line};
 use aig_bytes::Memory;
 use aig_files::Part;
@@ -14,10 +14,10 @@ use aig_sim::WitnessFault;
 
 // What the lengths of lines depend on, where the circuit is not known.
 fn push_lengths(lines: &mut Explanation) -> Result<(), Memory> {
-    lines.say(
+    lines.say_all(&[
         "wanted: in line 3 one value for each latch, and in the lines after it one for each input",
-    )?;
-    lines.say("the witness may be for another circuit: compare it with aig info CIRCUIT")
+        "the witness may be for another circuit: compare it with aig info CIRCUIT",
+    ])
 }
 
 // What the file is, if it is of another kind: then its first line is wrong.
@@ -35,7 +35,7 @@ fn push_wrong(lines: &mut Explanation, file: &[u8], wrong: &WrongLine<'_>) -> Re
     wrong.push(lines)?;
     match kind_of(file, wrong) {
         Some(kind) => kind.push(lines, Part::Witness),
-        None => wrong.push_cause(lines),
+        None => wrong.push_remedy(lines),
     }
 }
 
@@ -43,12 +43,10 @@ fn push_text(lines: &mut Explanation, header: Option<Header>, file: &[u8]) -> Re
     if file.is_empty() {
         return Kind::Empty.push(lines, Part::Witness);
     }
-    let latches = header.map(|header| header.latches as usize);
-    let inputs = header.map(|header| header.inputs as usize);
-    match first_wrong_line(file, latches, inputs) {
-        Some(wrong) => push_wrong(lines, file, &wrong),
-        None if header.is_none() => push_lengths(lines),
-        None => Ok(()),
+    match (first_wrong_line(file, header), header) {
+        (Some(wrong), _) => push_wrong(lines, file, &wrong),
+        (None, None) => push_lengths(lines),
+        (None, Some(_)) => Ok(()),
     }
 }
 
@@ -60,12 +58,17 @@ pub(crate) fn push_bad_count(
     let Some(Header { bad, outputs, .. }) = header else {
         return lines.say("the circuit has fewer of them");
     };
-    lines.add(format_args!("the circuit has bad state properties: {bad}, outputs: {outputs}"))?;
-    if bad == 0 && outputs > 0 {
-        lines.say("a circuit of AIGER 1.0 has only outputs, which may stand for bad states:")?;
-        lines.say("aig select --from outputs --to aag CIRCUIT > NEW makes properties of them")?;
+    lines.add(
+        "the circuit has bad state properties: {}, outputs: {}",
+        &[Word::Count(bad), Word::Count(outputs)],
+    )?;
+    if bad > 0 || outputs == 0 {
+        return Ok(());
     }
-    Ok(())
+    lines.say_all(&[
+        "a circuit of AIGER 1.0 has only outputs, which may stand for bad states:",
+        "aig select --from outputs --to aag CIRCUIT > NEW makes properties of them",
+    ])
 }
 
 fn push_property(
@@ -73,19 +76,21 @@ fn push_property(
     header: Option<Header>,
     file: &[u8],
 ) -> Result<(), Memory> {
-    let named = shortened(lines.alloc(), TextLines::of(file).line(2))?;
-    lines.add(format_args!("line 2 names the bad state property {named}, counted from b0"))?;
+    let named = Word::Bytes(line_of(file, 2));
+    lines.add(
+        "line 2 names the bad state property {}, counted from b0",
+        &[named],
+    )?;
     push_bad_count(lines, header)
 }
 
 /// How many frames a witness has: the first three lines and the last one are none.
 pub(crate) fn frames_of(file: &[u8]) -> usize {
-    TextLines::of(file).ended().saturating_sub(4)
+    count_ended(file).saturating_sub(4)
 }
 
 fn push_limit(lines: &mut Explanation, file: &[u8]) -> Result<(), Memory> {
-    let frames = frames_of(file);
-    lines.add(format_args!("the witness has {frames} frames"))?;
+    lines.add("the witness has {} frames", &[Word::Size(frames_of(file))])?;
     lines.say("wanted: at most 65,536 frames")
 }
 

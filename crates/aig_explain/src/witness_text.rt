@@ -1,13 +1,12 @@
 //! The first wrong line of a witness.
-use crate::circuit::parts::shortened;
-use crate::circuit::place::Found;
+use crate::circuit::header::Header;
 use crate::explanation::Explanation;
-use crate::text_lines::first_other;
+use crate::line::Word;
+use crate::text_lines::{digits_of, first_other, is_decimal, is_newline, place_of};
 use aig_bytes::Memory;
-use std::fmt;
 
 /// How many values a line has; none where the circuit is not known.
-pub type Width = Option<usize>;
+type Width = Option<u32>;
 
 /// What a line of a witness should be.
 #[derive(Clone, Copy)]
@@ -34,48 +33,67 @@ pub struct WrongLine<'a> {
     is_ended: bool,
 }
 
-/// A cause that is known.
-#[derive(Clone, Copy)]
-enum Cause {
-    Cr,
-    Blank,
-    Comment,
-    Hash,
-    Bound,
-    Verdict,
-    NoRun,
-    OfAbc,
-    Assignments,
-    Justice,
-    Several,
-    SeveralWitnesses,
-    LeadingZero,
-    LargeX,
-    NoNewline,
-    NoEnd,
-    OtherCircuit,
-}
+/// What begins a solver's verdict.
+const VERDICTS: [&[u8]; 10] = [
+    b"sat",
+    b"unsat",
+    b"unknown",
+    b"SAT",
+    b"UNSAT",
+    b"UNKNOWN",
+    b"s ",
+    b"SATISFIABLE",
+    b"UNSATISFIABLE",
+    b"Verified",
+];
 
-// Whether these are digits of a number, without leading zeros.
-fn is_position(digits: &[u8]) -> bool {
-    !digits.is_empty()
-        && digits.iter().all(|byte| byte.is_ascii_digit())
-        && (digits.len() == 1 || !digits.starts_with(b"0"))
-}
+/// What to do with a line of aigbmc that says how far it looked.
+const BOUND: &str = "a line with u says how far a model checker looked: sed '/^u/d' FILE > NEW";
 
-fn is_property(line: &[u8]) -> bool {
-    match line.strip_prefix(b"b") {
-        Some(digits) => is_position(digits),
+/// What to do with a witness that has no end.
+const NO_END: &str = "the last line of a witness is `.`: the file may be cut off";
+
+// Whether a line is a letter and a number after it.
+fn is_numbered(line: &[u8], letter: &[u8]) -> bool {
+    match line.strip_prefix(letter) {
+        Some(digits) => is_decimal(digits),
         None => false,
     }
 }
 
 fn is_row(line: &[u8], width: Width) -> bool {
-    width.is_none_or(|width| line.len() == width) && first_other(line).is_none()
+    match width {
+        Some(width) if line.len() != width as usize => false,
+        _ => first_other(line).is_none(),
+    }
+}
+
+fn is_end(line: &[u8]) -> bool {
+    matches!(line, [b'.'])
+}
+
+fn is_right(line: &[u8], wanted: Wanted) -> bool {
+    match wanted {
+        Wanted::Status => matches!(line, [b'1']),
+        Wanted::Property => is_numbered(line, b"b"),
+        Wanted::Start(width) | Wanted::FirstFrame(width) => is_row(line, width),
+        Wanted::Frame(width) => is_row(line, width) || is_end(line),
+        Wanted::Nothing => line.is_empty(),
+    }
 }
 
 // What the line of this number, counted from 1, should be.
-fn wanted_at(number: usize, latches: Width, inputs: Width) -> Wanted {
+fn wanted_at(number: usize, header: Option<Header>) -> Wanted {
+    let (latches, inputs) = match header {
+        Some(
+            Header {
+                latches,
+                inputs,
+                ..
+            },
+        ) => (Some(latches), Some(inputs)),
+        None => (None, None),
+    };
     match number {
         1 => Wanted::Status,
         2 => Wanted::Property,
@@ -85,33 +103,19 @@ fn wanted_at(number: usize, latches: Width, inputs: Width) -> Wanted {
     }
 }
 
-fn is_right(line: &[u8], wanted: Wanted) -> bool {
-    match wanted {
-        Wanted::Status => line == b"1".as_slice(),
-        Wanted::Property => is_property(line),
-        Wanted::Start(width) | Wanted::FirstFrame(width) => is_row(line, width),
-        Wanted::Frame(width) => is_row(line, width) || is_end(line),
-        Wanted::Nothing => line.is_empty(),
-    }
-}
-
-fn is_end(line: &[u8]) -> bool {
-    line == b".".as_slice()
-}
-
-/// The first line that is wrong in a witness for so many latches and inputs, if there is one.
-pub fn first_wrong_line(file: &[u8], latches: Width, inputs: Width) -> Option<WrongLine<'_>> {
+/// The first line that is wrong in a witness for a circuit with this header, if there is one.
+pub fn first_wrong_line(file: &[u8], header: Option<Header>) -> Option<WrongLine<'_>> {
     let mut number = 0usize;
     let mut taken = 0usize;
     let mut is_over = false;
-    for line in file.split(|byte| *byte == b'\n') {
+    for line in file.split(is_newline) {
         number = number.saturating_add(1);
         taken = taken.saturating_add(line.len()).saturating_add(1);
         let is_ended = taken <= file.len();
         let wanted = if is_over {
             Wanted::Nothing
         } else {
-            wanted_at(number, latches, inputs)
+            wanted_at(number, header)
         };
         let wrong = WrongLine {
             number,
@@ -130,66 +134,67 @@ pub fn first_wrong_line(file: &[u8], latches: Width, inputs: Width) -> Option<Wr
     None
 }
 
-// Whether the line begins with a word of a solver's verdict.
 fn is_verdict(line: &[u8]) -> bool {
-    let words: [&[u8]; 10] = [
-        b"sat",
-        b"unsat",
-        b"unknown",
-        b"SAT",
-        b"UNSAT",
-        b"UNKNOWN",
-        b"s ",
-        b"SATISFIABLE",
-        b"UNSATISFIABLE",
-        b"Verified",
-    ];
-    words.iter().any(|word| line.starts_with(word))
+    for word in VERDICTS {
+        if line.starts_with(word) {
+            return true;
+        }
+    }
+    false
 }
 
-fn is_long_row(line: &[u8]) -> bool {
-    line.len() > 1 && first_other(line).is_none()
+fn has_byte(line: &[u8], byte: u8) -> bool {
+    place_of(line, byte).is_some()
 }
 
-// Whether it is a line of aigbmc that says how far it looked.
-fn is_bound(line: &[u8]) -> bool {
-    line.strip_prefix(b"u").is_some_and(is_position)
+// What to do about a first line that is no status.
+fn remedy_of_status(line: &[u8]) -> Option<&'static str> {
+    if is_numbered(line, b"u") {
+        Some(BOUND)
+    } else if is_verdict(line) {
+        Some("this is a solver's verdict; the witness begins with the line `1` after it")
+    } else if matches!(line, [b'0' | b'2']) {
+        Some("0 and 2 say that no run was found, so there is nothing to check")
+    } else if line.len() > 1 && first_other(line).is_none() {
+        Some("it may be a run of ABC's write_cex -a: see \"Witness\" in man aig-formats")
+    } else if has_byte(line, b'=') {
+        Some("these may be values by name of ABC's write_cex: see \"Witness\" in man aig-formats")
+    } else {
+        None
+    }
 }
 
-fn cause_of_status(line: &[u8]) -> Option<Cause> {
-    if is_bound(line) {
-        return Some(Cause::Bound);
-    }
-    if is_verdict(line) {
-        return Some(Cause::Verdict);
-    }
-    if line == b"0".as_slice() || line == b"2".as_slice() {
-        return Some(Cause::NoRun);
-    }
-    if is_long_row(line) {
-        return Some(Cause::OfAbc);
-    }
-    if line.contains(&b'=') {
-        return Some(Cause::Assignments);
-    }
-    None
-}
-
-fn cause_of_property(line: &[u8]) -> Option<Cause> {
+// What to do about a second line that is no property.
+fn remedy_of_property(line: &[u8]) -> Option<&'static str> {
     if line.starts_with(b"j") {
-        return Some(Cause::Justice);
+        return Some("check has no justice properties (j)");
     }
-    if is_bound(line) {
-        return Some(Cause::Bound);
+    if is_numbered(line, b"u") {
+        return Some(BOUND);
     }
     let position = line.strip_prefix(b"b")?;
-    if position.contains(&b'b') || position.contains(&b'j') {
-        return Some(Cause::Several);
+    if has_byte(position, b'b') || has_byte(position, b'j') {
+        Some("the witness names several properties: keep one of them")
+    } else if position.len() > 1 && digits_of(position) == position.len() {
+        Some("a position has no leading zeros")
+    } else {
+        None
     }
-    if position.len() > 1 && position.iter().all(|byte| byte.is_ascii_digit()) {
-        return Some(Cause::LeadingZero);
+}
+
+// What to do about a line that has a byte which no witness has there.
+fn remedy_of_bytes(line: &[u8]) -> Option<&'static str> {
+    match line {
+        [.., b'\r'] => {
+            Some("lines end with CR LF, and only LF ends a line: tr -d '\\r' < FILE > NEW")
+        }
+        [.., b' ' | b'\t'] => {
+            Some("no line ends with a blank: sed 's/[[:blank:]]*$//' FILE > NEW")
+        }
+        [b'c', ..] => Some("a witness has no comments: sed '/^c/d' FILE > NEW"),
+        [b'#', ..] => Some("a witness has no comments: sed '/^#/d' FILE > NEW"),
+        _ => None,
     }
-    None
 }
 
 impl<'a> WrongLine<'a> {
@@ -201,43 +206,40 @@ impl<'a> WrongLine<'a> {
             && is_right(self.line, self.wanted)
     }
 
-    fn cause_of_row(&self) -> Option<Cause> {
+    // What to do about a line that does not have the values that it should have.
+    fn remedy_of_row(&self) -> Option<&'static str> {
         if self.line.is_empty() && !self.is_ended {
-            return Some(Cause::NoEnd);
+            return Some(NO_END);
         }
-        match first_other(self.line) {
-            None => Some(Cause::OtherCircuit),
-            Some(place) if self.line.get(place) == Some(&b'X') => Some(Cause::LargeX),
-            Some(_) => None,
+        let Some(place) = first_other(self.line) else {
+            return Some("the witness may be for another circuit: compare it with aig info CIRCUIT");
+        };
+        match self.line.get(place) {
+            Some(b'X') => Some("x is a small letter: tr X x < FILE > NEW"),
+            _ => None,
         }
     }
 
-    // The cause, if it is a known one.
-    fn cause(&self) -> Option<Cause> {
-        if self.line.ends_with(b"\r") {
-            return Some(Cause::Cr);
-        }
-        if self.line.ends_with(b" ") || self.line.ends_with(b"\t") {
-            return Some(Cause::Blank);
-        }
+    // What to do, if it is known.
+    fn remedy(&self) -> Option<&'static str> {
         if self.lacks_newline() {
             return Some(if is_end(self.line) {
-                Cause::NoNewline
+                "add the newline: echo >> FILE"
             } else {
-                Cause::NoEnd
+                NO_END
             });
         }
-        if self.line.starts_with(b"c") {
-            return Some(Cause::Comment);
-        }
-        if self.line.starts_with(b"#") {
-            return Some(Cause::Hash);
+        let known = remedy_of_bytes(self.line);
+        if known.is_some() {
+            return known;
         }
         match self.wanted {
-            Wanted::Status => cause_of_status(self.line),
-            Wanted::Property => cause_of_property(self.line),
-            Wanted::Start(_) | Wanted::FirstFrame(_) | Wanted::Frame(_) => self.cause_of_row(),
-            Wanted::Nothing if self.line == b"1".as_slice() => Some(Cause::SeveralWitnesses),
+            Wanted::Status => remedy_of_status(self.line),
+            Wanted::Property => remedy_of_property(self.line),
+            Wanted::Start(_) | Wanted::FirstFrame(_) | Wanted::Frame(_) => self.remedy_of_row(),
+            Wanted::Nothing if matches!(self.line, [b'1']) => Some(
+                "the file has several witnesses: keep one, for example: sed '/^\\.$/q' FILE > NEW",
+            ),
             Wanted::Nothing => None,
         }
     }
@@ -245,35 +247,35 @@ impl<'a> WrongLine<'a> {
     // Where the line is wrong, and what is there.
     fn push_found(&self, lines: &mut Explanation) -> Result<(), Memory> {
         let number = self.number;
-        let length = self.line.len();
         if self.line.is_empty() && !self.is_ended {
-            return lines.add(format_args!("line {number}: the file ends here"));
+            return lines.add("line {}: the file ends here", &[Word::Size(number)]);
         }
         if self.lacks_newline() {
-            return lines.add(format_args!("line {number}: the file ends here, without a newline"));
+            return lines.add(
+                "line {}: the file ends here, without a newline",
+                &[Word::Size(number)],
+            );
         }
-        match self.wanted {
-            Wanted::Start(_) | Wanted::FirstFrame(_) | Wanted::Frame(_) => match first_other(
-                self.line,
-            ) {
-                Some(place) => {
-                    let column = place.saturating_add(1);
-                    let found = Found(self.line.get(place).copied());
-                    lines.add(format_args!("line {number}, column {column}: {found}"))
-                }
-                None => lines.add(format_args!("line {number} has the length {length}")),
-            },
-            Wanted::Status | Wanted::Property | Wanted::Nothing => {
-                let shown = shortened(lines.alloc(), self.line)?;
-                lines.add(format_args!("line {number} is `{shown}`"))
+        match (self.wanted, first_other(self.line)) {
+            (Wanted::Status | Wanted::Property | Wanted::Nothing, _) => {
+                lines.add(
+                    "line {} is `{}`",
+                    &[Word::Size(number), Word::Bytes(self.line)],
+                )
+            }
+            (_, Some(place)) => {
+                let column = Word::Size(place.saturating_add(1));
+                let found = Word::Found(self.line.get(place).copied());
+                lines.add(
+                    "line {}, column {}: {}",
+                    &[Word::Size(number), column, found],
+                )
+            }
+            (_, None) => {
+                let length = Word::Size(self.line.len());
+                lines.add("line {} has the length {}", &[Word::Size(number), length])
             }
         }
-    }
-
-    // What the line should be.
-    fn push_wanted(&self, lines: &mut Explanation) -> Result<(), Memory> {
-        let wanted = self.wanted;
-        lines.add(format_args!("wanted: {wanted}"))
     }
 
     /// Whether it is the first line.
@@ -281,93 +283,48 @@ impl<'a> WrongLine<'a> {
         matches!(self.wanted, Wanted::Status)
     }
 
-    /// Adds what is wrong, and what is wanted.
+    /// Adds what is wrong, and what is wanted, unless a newline is all that the witness lacks.
     pub fn push(&self, lines: &mut Explanation) -> Result<(), Memory> {
         self.push_found(lines)?;
-        match self.cause() {
-            Some(Cause::NoNewline) => Ok(()),
-            _ => self.push_wanted(lines),
+        if self.lacks_newline() && is_end(self.line) {
+            return Ok(());
         }
+        self.wanted.push(lines)
     }
 
-    /// Adds the cause and what to do, if the cause is known.
-    pub fn push_cause(&self, lines: &mut Explanation) -> Result<(), Memory> {
-        match self.cause() {
-            Some(cause) => lines.say(cause.remedy()),
+    /// Adds what to do, if it is known.
+    pub fn push_remedy(&self, lines: &mut Explanation) -> Result<(), Memory> {
+        match self.remedy() {
+            Some(remedy) => lines.say(remedy),
             None => Ok(()),
         }
     }
 }
 
-// Values of a line.
-#[derive(Clone, Copy)]
-struct Values(Width);
-
-impl fmt::Display for Values {
-    fn fmt<W: fmt::Write>(&self, f: &mut fmt::Formatter<W>) -> fmt::Result {
-        match self.0 {
-            None => write!(f, "a line of 0, 1 and x"),
-            Some(0) => write!(f, "an empty line"),
-            Some(width) => write!(f, "{width} of 0, 1 and x"),
-        }
-    }
-}
-
-impl fmt::Display for Wanted {
-    fn fmt<W: fmt::Write>(&self, f: &mut fmt::Formatter<W>) -> fmt::Result {
-        match self {
-            Wanted::Status => write!(f, "the line `1`"),
-            Wanted::Property => write!(
-                f,
-                "`b` and the position of a bad state property, as in `b0`"
+impl Wanted {
+    fn push(self, lines: &mut Explanation) -> Result<(), Memory> {
+        let (template, width) = match self {
+            Wanted::Status => ("wanted: the line `1`", None),
+            Wanted::Property => (
+                "wanted: `b` and the position of a bad state property, as in `b0`",
+                None,
             ),
-            Wanted::Start(width) => {
-                let values = Values(*width);
-                write!(f, "the values of the latches, {values}")
-            }
-            Wanted::FirstFrame(width) => {
-                let values = Values(*width);
-                write!(f, "the values of the inputs in the first frame, {values}")
-            }
-            Wanted::Frame(width) => {
-                let values = Values(*width);
-                write!(
-                    f,
-                    "the values of the inputs in a frame, {values}; or the last line, `.`"
-                )
-            }
-            Wanted::Nothing => write!(f, "nothing after the line `.`"),
-        }
-    }
-}
-
-impl Cause {
-    // What the cause is, and what to do.
-    fn remedy(self) -> &'static str {
-        match self {
-            Cause::Cr => "lines end with CR LF, and only LF ends a line: tr -d '\\r' < FILE > NEW",
-            Cause::Blank => "no line ends with a blank: sed 's/[[:blank:]]*$//' FILE > NEW",
-            Cause::Hash => "a witness has no comments: sed '/^#/d' FILE > NEW",
-            Cause::Bound =>
-                "a line with u says how far a model checker looked: sed '/^u/d' FILE > NEW",
-            Cause::LargeX => "x is a small letter: tr X x < FILE > NEW",
-            Cause::Comment => "a witness has no comments: sed '/^c/d' FILE > NEW",
-            Cause::Verdict =>
-                "this is a solver's verdict; the witness begins with the line `1` after it",
-            Cause::NoRun => "0 and 2 say that no run was found, so there is nothing to check",
-            Cause::OfAbc =>
-                "it may be a run of ABC's write_cex -a: see \"Witness\" in man aig-formats",
-            Cause::Assignments =>
-                "these may be values by name of ABC's write_cex: see \"Witness\" in man aig-formats",
-            Cause::Justice => "check has no justice properties (j)",
-            Cause::Several => "the witness names several properties: keep one of them",
-            Cause::SeveralWitnesses =>
-                "the file has several witnesses: keep one, for example: sed '/^\\.$/q' FILE > NEW",
-            Cause::LeadingZero => "a position has no leading zeros",
-            Cause::NoNewline => "add the newline: echo >> FILE",
-            Cause::NoEnd => "the last line of a witness is `.`: the file may be cut off",
-            Cause::OtherCircuit =>
-                "the witness may be for another circuit: compare it with aig info CIRCUIT",
-        }
+            Wanted::Start(width) => ("wanted: the values of the latches, {}{}", width),
+            Wanted::FirstFrame(width) => (
+                "wanted: the values of the inputs in the first frame, {}{}",
+                width,
+            ),
+            Wanted::Frame(width) => (
+                "wanted: the values of the inputs in a frame, {}{}; or the last line, `.`",
+                width,
+            ),
+            Wanted::Nothing => ("wanted: nothing after the line `.`", None),
+        };
+        let (number, values) = match width {
+            None => (Word::None, "a line of 0, 1 and x"),
+            Some(0) => (Word::None, "an empty line"),
+            Some(width) => (Word::Count(width), " of 0, 1 and x"),
+        };
+        lines.add(template, &[number, Word::Text(values)])
     }
 }

@@ -106,8 +106,7 @@ impl<'a> Body<'a> {
         Within::Entry(self.section, self.position)
     }
 
-    fn latch(&mut self) -> Result<Entry, Wrong> {
-        let mut entry = self.begun();
+    fn read_latch(&mut self, entry: &mut Entry) -> Result<(), Wrong> {
         let literal = if self.header.is_binary {
             literal_of(self.implied(self.header.inputs))
         } else {
@@ -118,70 +117,56 @@ impl<'a> Body<'a> {
         if self.reader.goes_on()? {
             entry.reset = Some(self.reader.last_number()?);
         }
-        Ok(entry)
+        Ok(())
     }
 
-    fn size(&mut self) -> Result<Entry, Wrong> {
-        let entry = self.begun();
+    fn read_size(&mut self) -> Result<(), Wrong> {
+        let at = self.reader.at;
         let size = self.reader.body_number()?;
         if size > HEADER_LIMIT.saturating_sub(self.literals) {
-            return Err(self.reader.wrong(entry.at, Wanted::SmallerSum));
+            return Err(self.reader.wrong(at, Wanted::SmallerSum));
         }
         self.literals = self.literals.saturating_add(size);
-        self.reader.byte(b'\n', Wanted::Newline)?;
-        Ok(entry)
+        self.reader.byte(b'\n', Wanted::Newline)
     }
 
-    fn binary_gate(&mut self) -> Result<Entry, Wrong> {
-        let mut entry = self.begun();
+    fn read_binary_gate(&mut self, entry: &mut Entry) -> Result<(), Wrong> {
         let left = literal_of(self.implied(self.header.inputs.saturating_add(self.header.latches)));
         let first = left.saturating_sub(self.reader.delta(1, left)?);
         let second = first.saturating_sub(self.reader.delta(0, first)?);
         entry.defined = Some(left);
         entry.first = Some(first);
         entry.second = Some(second);
-        Ok(entry)
+        Ok(())
     }
 
-    fn gate(&mut self) -> Result<Entry, Wrong> {
+    fn read_gate(&mut self, entry: &mut Entry) -> Result<(), Wrong> {
         if self.header.is_binary {
-            return self.binary_gate();
+            return self.read_binary_gate(entry);
         }
-        let mut entry = self.begun();
         entry.defined = Some(self.reader.number_and_space()?);
         entry.first = Some(self.reader.number_and_space()?);
         entry.second = Some(self.reader.last_number()?);
-        Ok(entry)
-    }
-
-    fn input(&mut self) -> Result<Entry, Wrong> {
-        let mut entry = self.begun();
-        entry.defined = Some(self.reader.last_number()?);
-        Ok(entry)
-    }
-
-    fn use_of_literal(&mut self) -> Result<Entry, Wrong> {
-        let mut entry = self.begun();
-        entry.first = Some(self.reader.last_number()?);
-        Ok(entry)
+        Ok(())
     }
 
     /// The next entry; none after the last one. The inputs of a binary file are not in it.
     pub fn next_entry(&mut self) -> Result<Option<Entry>, Wrong> {
         self.enter_section();
         self.reader.within = self.within();
-        let entry = match self.section {
+        let mut entry = self.begun();
+        match self.section {
             Section::End => return Ok(None),
-            Section::Input => self.input()?,
-            Section::Latch => self.latch()?,
-            Section::JusticeSize => self.size()?,
-            Section::Gate => self.gate()?,
+            Section::Input => entry.defined = Some(self.reader.last_number()?),
+            Section::Latch => self.read_latch(&mut entry)?,
+            Section::JusticeSize => self.read_size()?,
+            Section::Gate => self.read_gate(&mut entry)?,
             Section::Output
             | Section::Bad
             | Section::Constraint
             | Section::JusticeLiteral
-            | Section::Fairness => self.use_of_literal()?,
-        };
+            | Section::Fairness => entry.first = Some(self.reader.last_number()?),
+        }
         self.position = self.position.saturating_add(1);
         Ok(Some(entry))
     }

@@ -1,93 +1,107 @@
 //! Why a circuit is rejected whose tokens are right.
 use crate::circuit::body::Entry;
-use crate::circuit::cycle::find_cycle;
+use crate::circuit::cycle::{Cycle, find_cycle};
 use crate::circuit::parts::{Parts, Sought, is_over};
 use crate::explanation::Explanation;
+use crate::line::{Line, Word};
 use aig_bytes::Memory;
 use aig_parts::Fault;
 
 // The literal of an entry that is over another.
 fn literal_over(entry: &Entry, most: u32) -> u32 {
-    [entry.defined, entry.first, entry.second]
-        .into_iter()
-        .find(|literal| is_over(*literal, most))
-        .flatten()
-        .unwrap_or(0)
+    let literal = if is_over(entry.defined, most) {
+        entry.defined
+    } else if is_over(entry.first, most) {
+        entry.first
+    } else {
+        entry.second
+    };
+    literal.unwrap_or(0)
 }
 
 fn push_range(lines: &mut Explanation, parts: &Parts<'_>) -> Result<(), Memory> {
     let max_var = parts.header.max_var;
     let most = max_var.saturating_mul(2).saturating_add(1);
-    if let Some(entry) = parts.find(Sought::Over(most), 0) {
-        let place = parts.describe(lines.alloc(), &entry)?;
-        let literal = literal_over(&entry, most);
-        lines.add(format_args!("{place}: literal {literal}"))?;
-        lines.add(format_args!(
-            "wanted: literals of at most 2M + 1 = {most}, because M = {max_var}"
-        ))?;
-    }
-    Ok(())
+    let Some(entry) = parts.find(Sought::Over(most), 0) else {
+        return Ok(());
+    };
+    let literal = Word::Count(literal_over(&entry, most));
+    parts.push(lines, &entry, ": literal {}", &[literal])?;
+    let words = [Word::Count(most), Word::Count(max_var)];
+    lines.add(
+        "wanted: literals of at most 2M + 1 = {}, because M = {}",
+        &words,
+    )
 }
 
 fn push_definition(lines: &mut Explanation, parts: &Parts<'_>) -> Result<(), Memory> {
-    if let Some(entry) = parts.find(Sought::WrongDefinition, 0) {
-        let place = parts.describe(lines.alloc(), &entry)?;
-        let literal = entry.defined.unwrap_or(0);
-        lines.add(format_args!("{place}: it defines literal {literal}"))?;
-        lines.say("wanted: an even literal greater than 0")?;
-    }
-    Ok(())
+    let Some(entry) = parts.find(Sought::WrongDefinition, 0) else {
+        return Ok(());
+    };
+    let literal = Word::Count(entry.defined.unwrap_or(0));
+    parts.push(lines, &entry, ": it defines literal {}", &[literal])?;
+    lines.say("wanted: an even literal greater than 0")
+}
+
+// A variable, and its literal.
+fn words_of(variable: u32) -> [Word<'static>; 2] {
+    [
+        Word::Count(variable),
+        Word::Count(variable.saturating_mul(2)),
+    ]
 }
 
 fn push_redefined(lines: &mut Explanation, parts: &Parts<'_>, variable: u32) -> Result<(), Memory> {
-    let literal = variable.saturating_mul(2);
-    lines.add(format_args!("variable {variable} (literal {literal}) has two definitions:"))?;
-    for number in 0..2usize {
-        if let Some(entry) = parts.find(Sought::DefinitionOf(variable), number) {
-            let place = parts.describe(lines.alloc(), &entry)?;
-            lines.push(place.as_bytes())?;
+    lines.add(
+        "variable {} (literal {}) has two definitions:",
+        &words_of(variable),
+    )?;
+    for others in 0..2usize {
+        if let Some(entry) = parts.find(Sought::DefinitionOf(variable), others) {
+            parts.push(lines, &entry, "", &[])?;
         }
     }
     Ok(())
 }
 
 fn push_undefined(lines: &mut Explanation, parts: &Parts<'_>, variable: u32) -> Result<(), Memory> {
-    let literal = variable.saturating_mul(2);
     if let Some(entry) = parts.find(Sought::UseOf(variable), 0) {
-        let place = parts.describe(lines.alloc(), &entry)?;
-        lines.add(format_args!("{place} uses variable {variable} (literal {literal})"))?;
+        let words = words_of(variable);
+        parts.push(lines, &entry, " uses variable {} (literal {})", &words)?;
     }
     lines.say("no input, latch or gate defines it")
 }
 
 fn push_reset(lines: &mut Explanation, parts: &Parts<'_>, variable: u32) -> Result<(), Memory> {
-    if let Some(entry) = parts.find(Sought::DefinitionOf(variable), 0) {
-        let place = parts.describe(lines.alloc(), &entry)?;
-        let reset = entry.reset.unwrap_or(0);
-        let literal = variable.saturating_mul(2);
-        lines.add(format_args!("{place} has the reset {reset}"))?;
-        lines.add(format_args!(
-            "wanted: 0, 1, or its own literal {literal}, which means uninitialised"
-        ))?;
-    }
-    Ok(())
-}
-
-fn push_cycle(lines: &mut Explanation, parts: &Parts<'_>, variable: u32) -> Result<(), Memory> {
-    let Some(cycle) = find_cycle(lines.alloc(), parts.file, variable)? else {
+    let Some(entry) = parts.find(Sought::DefinitionOf(variable), 0) else {
         return Ok(());
     };
+    let reset = Word::Count(entry.reset.unwrap_or(0));
+    let literal = Word::Count(variable.saturating_mul(2));
+    parts.push(lines, &entry, " has the reset {}", &[reset])?;
+    lines.add(
+        "wanted: 0, 1, or its own literal {}, which means uninitialised",
+        &[literal],
+    )
+}
+
+fn push_cycle(
+    lines: &mut Explanation,
+    parts: &Parts<'_>,
+    variable: u32,
+    cycle: &Cycle,
+) -> Result<(), Memory> {
     if let Some(entry) = parts.find(Sought::DefinitionOf(variable), 0) {
-        let place = parts.describe(lines.alloc(), &entry)?;
-        let is_on = if cycle.contains(variable) {
-            "is on"
+        let template = if cycle.contains(variable) {
+            ", of variable {}, is on a cycle"
         } else {
-            "reads from"
+            ", of variable {}, reads from a cycle"
         };
-        lines.add(format_args!("{place}, of variable {variable}, {is_on} a cycle"))?;
+        parts.push(lines, &entry, template, &[Word::Count(variable)])?;
     }
-    let literals = cycle.literals(lines.alloc())?;
-    lines.add(format_args!("each of these gates reads the next: {literals}"))?;
+    let mut line = Line::new(lines.alloc());
+    cycle.put(&mut line)?;
+    lines.push(line.as_bytes())?;
     lines.say("a cycle has to go through a latch")
 }
 
@@ -106,7 +120,10 @@ pub fn push_fault_of_parts(
         Fault::Redefined(variable) => push_redefined(lines, &parts, variable),
         Fault::Undefined(variable) => push_undefined(lines, &parts, variable),
         Fault::Reset(variable) => push_reset(lines, &parts, variable),
-        Fault::Cycle(variable) => push_cycle(lines, &parts, variable),
+        Fault::Cycle(variable) => match find_cycle(lines.alloc(), file, variable)? {
+            Some(cycle) => push_cycle(lines, &parts, variable, &cycle),
+            None => Ok(()),
+        },
         Fault::Text { .. } | Fault::Limit | Fault::Counts | Fault::Memory | Fault::Io => Ok(()),
     }
 }

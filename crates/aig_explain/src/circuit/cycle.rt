@@ -1,9 +1,9 @@
 //! A cycle of gates.
 use crate::circuit::body::{Body, Entry};
 use crate::circuit::section::Section;
+use crate::line::{Line, Word};
 use aig_bytes::Memory;
 use std::alloc::Global;
-use std::fmt::Write;
 
 /// How many literals of a cycle are shown.
 const SHOWN: usize = 8;
@@ -38,10 +38,16 @@ struct Search {
     path: Vec<usize>,
 }
 
-/// A cycle, as variables of gates of which each reads the next, and the last the first.
+/// A cycle, as variables of gates of which each reads the next. The last is the first again.
 #[derive(Drop)]
 pub struct Cycle {
     variables: Vec<u32>,
+}
+
+impl Gate {
+    fn variable(&self) -> u32 {
+        self.variable
+    }
 }
 
 fn gate_of(entry: &Entry) -> Option<Gate> {
@@ -69,7 +75,7 @@ fn sorted_gates(alloc: Global, file: &[u8]) -> Result<Vec<Gate>, Memory> {
             gates.push(gate)?;
         }
     }
-    gates.sort_unstable_by_key(|gate| gate.variable);
+    gates.sort_unstable_by_key(Gate::variable);
     Ok(gates)
 }
 
@@ -88,7 +94,7 @@ impl Search {
     fn place_of(&self, variable: u32) -> Option<usize> {
         self.gates
             .as_slice()
-            .binary_search_by_key(&variable, |gate| gate.variable)
+            .binary_search_by_key(&variable, Gate::variable)
             .ok()
     }
 
@@ -145,15 +151,25 @@ impl Search {
         }
     }
 
-    // The variables of the path from a gate on.
+    // The variables of the path from a gate on, and that of the gate again.
     fn variables_from(&self, alloc: Global, place: usize) -> Result<Vec<u32>, Memory> {
         let mut variables = Vec::new(alloc);
-        for passed in self.path.iter().skip_while(|passed| **passed != place) {
-            if let Some(gate) = self.gates.get(*passed) {
-                variables.push(gate.variable)?;
+        let mut is_on = false;
+        for passed in self.path.as_slice() {
+            is_on = is_on || *passed == place;
+            if is_on {
+                self.push_variable(&mut variables, *passed)?;
             }
         }
+        self.push_variable(&mut variables, place)?;
         Ok(variables)
+    }
+
+    fn push_variable(&self, variables: &mut Vec<u32>, place: usize) -> Result<(), Memory> {
+        if let Some(gate) = self.gates.get(place) {
+            variables.push(gate.variable)?;
+        }
+        Ok(())
     }
 }
 
@@ -182,20 +198,20 @@ impl Cycle {
         self.variables.as_slice().contains(&variable)
     }
 
-    /// The literals of the gates, each before one that it reads, up to the first again; at most eight.
-    pub fn literals(&self, alloc: Global) -> Result<String, Memory> {
-        let mut text = String::new(alloc);
-        let last = self.variables.first();
-        for variable in self.variables.iter().chain(last).take(SHOWN) {
-            let literal = variable.saturating_mul(2);
-            if !text.is_empty() {
-                text.push_str(" -> ")?;
-            }
-            write!(text, "{literal}")?;
+    /// Adds the literals of the gates, each before one that it reads, up to the first again; at most eight.
+    pub fn put(&self, line: &mut Line) -> Result<(), Memory> {
+        line.put("each of these gates reads the next: ", &[])?;
+        let mut before = "";
+        for variable in self.variables.get(..SHOWN).unwrap_or(&self.variables) {
+            line.put(
+                "{}{}",
+                &[Word::Text(before), Word::Count(variable.saturating_mul(2))],
+            )?;
+            before = " -> ";
         }
-        if self.variables.len() >= SHOWN {
-            text.push_str(" -> ..")?;
+        if self.variables.len() > SHOWN {
+            line.put(" -> ..", &[])?;
         }
-        Ok(text)
+        Ok(())
     }
 }

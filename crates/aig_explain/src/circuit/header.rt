@@ -1,6 +1,6 @@
 //! The header line of a circuit's file.
 use crate::circuit::reader::Reader;
-use crate::circuit::token::{Count, Wanted, Within, Wrong};
+use crate::circuit::token::{Wanted, Within, Wrong};
 
 /// The counts of a header line.
 #[derive(Clone, Copy)]
@@ -33,39 +33,49 @@ fn read_word(reader: &mut Reader<'_>) -> Result<bool, Wrong> {
     Ok(is_binary)
 }
 
-// Takes a count, and the space after it.
-fn read_count(reader: &mut Reader<'_>, count: Count) -> Result<u32, Wrong> {
-    let number = reader.count(count)?;
-    reader.byte(b' ', Wanted::Space)?;
-    Ok(number)
-}
+/// The names of the counts, in the order of the header. The line may end after the first five.
+const COUNTS: [&str; 9] = [
+    "the maximum variable index M",
+    "the number of inputs I",
+    "the number of latches L",
+    "the number of outputs O",
+    "the number of gates A",
+    "the number of bad state properties B",
+    "the number of constraints C",
+    "the number of justice properties J",
+    "the number of fairness constraints F",
+];
 
-// Takes a count, if the line goes on.
-fn read_more(reader: &mut Reader<'_>, count: Count, goes_on: &mut bool) -> Result<u32, Wrong> {
-    if !*goes_on {
-        return Ok(0);
+// Takes the counts up to the newline; those that are left out are 0.
+fn read_counts(reader: &mut Reader<'_>) -> Result<[u32; 9], Wrong> {
+    let mut counts = [0u32; 9];
+    for place in 0..9usize {
+        counts[place] = reader.count(COUNTS[place])?;
+        if place < 4 {
+            reader.byte(b' ', Wanted::Space)?;
+        } else if place < 8 && !reader.goes_on()? {
+            return Ok(counts);
+        }
     }
-    *goes_on = reader.goes_on()?;
-    if *goes_on { reader.count(count) } else { Ok(0) }
+    reader.byte(b'\n', Wanted::Newline)?;
+    Ok(counts)
 }
 
 impl Header {
     /// Reads the header line.
     pub fn read(reader: &mut Reader<'_>) -> Result<Header, Wrong> {
         let is_binary = read_word(reader)?;
-        let max_var = read_count(reader, Count::Variables)?;
-        let inputs = read_count(reader, Count::Inputs)?;
-        let latches = read_count(reader, Count::Latches)?;
-        let outputs = read_count(reader, Count::Outputs)?;
-        let gates = reader.count(Count::Gates)?;
-        let mut goes_on = true;
-        let bad = read_more(reader, Count::Bad, &mut goes_on)?;
-        let constraints = read_more(reader, Count::Constraints, &mut goes_on)?;
-        let justice = read_more(reader, Count::Justice, &mut goes_on)?;
-        let fairness = read_more(reader, Count::Fairness, &mut goes_on)?;
-        if goes_on {
-            reader.byte(b'\n', Wanted::Newline)?;
-        }
+        let [
+            max_var,
+            inputs,
+            latches,
+            outputs,
+            gates,
+            bad,
+            constraints,
+            justice,
+            fairness,
+        ] = read_counts(reader)?;
         reader.within = Within::Symbols;
         Ok(Header {
             is_binary,

@@ -2,13 +2,12 @@
 use crate::circuit::body::{Body, Entry};
 use crate::circuit::header::Header;
 use crate::circuit::place::Place;
+use crate::circuit::reader::number_in;
 use crate::circuit::section::Section;
+use crate::explanation::Explanation;
+use crate::line::{Line, Word};
+use crate::text_lines::{digits_of, is_decimal, is_newline};
 use aig_bytes::Memory;
-use aig_terminal::escaped;
-use std::alloc::Global;
-
-/// How many bytes of a name are shown.
-pub const SHOWN: usize = 60;
 
 /// A circuit's file whose tokens are right.
 #[derive(Clone, Copy, Drop)]
@@ -36,11 +35,17 @@ pub enum Sought {
 
 /// Whether there is a literal over this one.
 pub fn is_over(literal: Option<u32>, most: u32) -> bool {
-    literal.is_some_and(|literal| literal > most)
+    match literal {
+        Some(literal) => literal > most,
+        None => false,
+    }
 }
 
 fn has_variable(literal: Option<u32>, variable: u32) -> bool {
-    literal.is_some_and(|literal| literal / 2 == variable)
+    match literal {
+        Some(literal) => literal / 2 == variable,
+        None => false,
+    }
 }
 
 // Whether the entry is looked for.
@@ -51,9 +56,10 @@ fn is_sought(entry: &Entry, sought: Sought) -> bool {
                 || is_over(entry.first, most)
                 || is_over(entry.second, most)
         }
-        Sought::WrongDefinition => entry
-            .defined
-            .is_some_and(|literal| literal % 2 == 1 || literal == 0),
+        Sought::WrongDefinition => match entry.defined {
+            Some(literal) => literal % 2 == 1 || literal == 0,
+            None => false,
+        },
         Sought::DefinitionOf(variable) => has_variable(entry.defined, variable),
         Sought::UseOf(variable) => {
             has_variable(entry.first, variable) || has_variable(entry.second, variable)
@@ -62,26 +68,27 @@ fn is_sought(entry: &Entry, sought: Sought) -> bool {
     }
 }
 
-/// The first bytes of a text, escaped; `..` stands for the others.
-pub fn shortened(alloc: Global, text: &[u8]) -> Result<String, Memory> {
-    match text.get(..SHOWN) {
-        Some(first) if text.len() > SHOWN => {
-            let mut shown = escaped(alloc, first)?;
-            shown.push_str("..")?;
-            Ok(shown)
-        }
-        _ => escaped(alloc, text),
+// The name in a symbol, if it is of the entry with this letter and position.
+fn name_in(symbol: &[u8], letter: u8, position: u32) -> Option<&[u8]> {
+    let rest = symbol.strip_prefix(&[letter])?;
+    let (digits, rest) = rest.split_at_checked(digits_of(rest))?;
+    if is_decimal(digits) && number_in(digits).value == position {
+        rest.strip_prefix(b" ")
+    } else {
+        None
     }
 }
 
-// The name in the symbol that begins like this.
-fn find_name<'a>(symbols: &'a [u8], start: &[u8]) -> Option<&'a [u8]> {
-    for line in symbols.split(|byte| *byte == b'\n') {
+// The name that the symbols give an entry.
+fn find_name<'a>(symbols: &'a [u8], entry: &Entry) -> Option<&'a [u8]> {
+    let letter = entry.section.letter()?;
+    for line in symbols.split(is_newline) {
         if line == b"c".as_slice() {
             return None;
         }
-        if let Some(name) = line.strip_prefix(start) {
-            return Some(name);
+        let name = name_in(line, letter, entry.position);
+        if name.is_some() {
+            return name;
         }
     }
     None
@@ -131,29 +138,31 @@ impl<'a> Parts<'a> {
         count
     }
 
-    // The name that a symbol gives an entry, in quotes after a space; no text without one.
-    fn name(&self, alloc: Global, entry: &Entry) -> Result<String, Memory> {
-        let Some(letter) = entry.section.letter() else {
-            return Ok(String::new(alloc));
-        };
-        let position = entry.position;
-        let start = format!(in alloc; "{letter}{position} ")?;
-        let Some(name) = find_name(self.symbols, start.as_bytes()) else {
-            return Ok(String::new(alloc));
-        };
-        let shown = shortened(alloc, name)?;
-        Ok(format!(in alloc; " `{shown}`")?)
+    // The section and position of an entry, its name and its line. A gate of a binary file is in no line.
+    fn put(&self, entry: &Entry, line: &mut Line) -> Result<(), Memory> {
+        let section = Word::Text(entry.section.name());
+        line.put("{} {}", &[section, Word::Count(entry.position)])?;
+        if let Some(name) = find_name(self.symbols, entry) {
+            line.put(" `{}`", &[Word::Bytes(name)])?;
+        }
+        if self.header.is_binary && entry.section == Section::Gate {
+            return Ok(());
+        }
+        let place = Place::of(self.file, entry.at);
+        line.put(" (line {})", &[Word::Number(place.line)])
     }
 
-    /// The section and position of an entry, its name and its line. A gate of a binary file is in no line.
-    pub fn describe(&self, alloc: Global, entry: &Entry) -> Result<String, Memory> {
-        let section = entry.section;
-        let position = entry.position;
-        let name = self.name(alloc, entry)?;
-        if self.header.is_binary && section == Section::Gate {
-            return Ok(format!(in alloc; "{section} {position}{name}")?);
-        }
-        let Place { line, .. } = Place::of(self.file, entry.at);
-        Ok(format!(in alloc; "{section} {position}{name} (line {line})")?)
+    /// Adds a line with an entry, and with this template after it.
+    pub fn push(
+        &self,
+        lines: &mut Explanation,
+        entry: &Entry,
+        template: &str,
+        words: &[Word<'_>],
+    ) -> Result<(), Memory> {
+        let mut line = Line::new(lines.alloc());
+        self.put(entry, &mut line)?;
+        line.put(template, words)?;
+        lines.push(line.as_bytes())
     }
 }

@@ -1,5 +1,5 @@
 //! A reader of tokens that says what is wrong with one.
-use crate::circuit::token::{BODY_LIMIT, Count, HEADER_LIMIT, Wanted, Within, Wrong};
+use crate::circuit::token::{BODY_LIMIT, HEADER_LIMIT, Wanted, Within, Wrong};
 
 /// A file, and how much of it is read.
 #[derive(Clone, Copy, Drop)]
@@ -10,16 +10,16 @@ pub struct Reader<'a> {
     pub within: Within,
 }
 
-// A number as it is spelled.
+/// A number as it is spelled.
 #[derive(Clone, Copy)]
-struct Spelled {
+pub struct Spelled {
     digits: usize,
-    // The greatest number stands for all greater ones.
-    value: u32,
+    /// The greatest number stands for all greater ones.
+    pub value: u32,
 }
 
-// The number that bytes begin with.
-fn number_in(bytes: &[u8]) -> Spelled {
+/// The number that bytes begin with.
+pub fn number_in(bytes: &[u8]) -> Spelled {
     let mut digits = 0usize;
     let mut value = 0u32;
     for byte in bytes {
@@ -103,9 +103,9 @@ impl<'a> Reader<'a> {
         Ok(value)
     }
 
-    /// Takes a count of the header.
-    pub fn count(&mut self, count: Count) -> Result<u32, Wrong> {
-        self.within = Within::Header(count);
+    /// Takes a count of the header, which has this name.
+    pub fn count(&mut self, name: &'static str) -> Result<u32, Wrong> {
+        self.within = Within::Header(name);
         self.number(HEADER_LIMIT, Wanted::HeaderNumber)
     }
 

@@ -1,5 +1,4 @@
 //! The sections of a circuit's file.
-use std::fmt;
 
 /// The sections of a body, in the order of the file.
 #[derive(Clone, Copy, PartialEq)]
@@ -34,23 +33,22 @@ impl Section {
     }
 
     /// The letter of its symbols, if its entries can have one.
-    pub fn letter(self) -> Option<char> {
+    pub fn letter(self) -> Option<u8> {
         match self {
-            Section::Input => Some('i'),
-            Section::Latch => Some('l'),
-            Section::Output => Some('o'),
-            Section::Bad => Some('b'),
-            Section::Constraint => Some('c'),
-            Section::JusticeSize => Some('j'),
-            Section::Fairness => Some('f'),
+            Section::Input => Some(b'i'),
+            Section::Latch => Some(b'l'),
+            Section::Output => Some(b'o'),
+            Section::Bad => Some(b'b'),
+            Section::Constraint => Some(b'c'),
+            Section::JusticeSize => Some(b'j'),
+            Section::Fairness => Some(b'f'),
             Section::JusticeLiteral | Section::Gate | Section::End => None,
         }
     }
-}
 
-impl fmt::Display for Section {
-    fn fmt<W: fmt::Write>(&self, f: &mut fmt::Formatter<W>) -> fmt::Result {
-        let name = match self {
+    /// Its name, as in the description of an entry.
+    pub fn name(self) -> &'static str {
+        match self {
             Section::Input => "input",
             Section::Latch => "latch",
             Section::Output => "output",
@@ -61,7 +59,6 @@ impl fmt::Display for Section {
             Section::Fairness => "fairness constraint",
             Section::Gate => "gate",
             Section::End => "no entry",
-        };
-        f.write_str(name)
+        }
     }
 }

@@ -2,6 +2,7 @@
 use crate::circuit::body::Body;
 use crate::circuit::reader::Reader;
 use crate::circuit::token::{Wanted, Within, Wrong};
+use crate::text_lines::place_of;
 
 // Takes the letter of a symbol; none at the comment or the end.
 fn read_letter(reader: &mut Reader<'_>) -> Result<Option<u8>, Wrong> {
@@ -23,8 +24,7 @@ fn read_letter(reader: &mut Reader<'_>) -> Result<Option<u8>, Wrong> {
 
 // Takes a name and the newline after it.
 fn read_name(reader: &mut Reader<'_>) -> Result<(), Wrong> {
-    let rest = reader.rest();
-    match rest.iter().position(|byte| *byte == b'\n') {
+    match place_of(reader.rest(), b'\n') {
         None => Err(reader.wrong(reader.file.len(), Wanted::NameEnd)),
         Some(0) => Err(reader.wrong(reader.at, Wanted::Name)),
         Some(length) => {

@@ -1,6 +1,7 @@
 //! The tokens of a circuit's file, and what is wrong with one.
 use crate::circuit::section::Section;
-use std::fmt;
+use crate::line::{Line, Word};
+use aig_bytes::Memory;
 
 /// The greatest count of a header.
 pub const HEADER_LIMIT: u32 = 4_194_303;
@@ -42,26 +43,13 @@ pub enum Wanted {
     NameEnd,
 }
 
-/// The counts of a header.
-#[derive(Clone, Copy)]
-pub enum Count {
-    Variables,
-    Inputs,
-    Latches,
-    Outputs,
-    Gates,
-    Bad,
-    Constraints,
-    Justice,
-    Fairness,
-}
-
 /// Where a token is.
 #[derive(Clone, Copy)]
 pub enum Within {
     /// In the header's first word.
     Word,
-    Header(Count),
+    /// In the header, at a count of this name.
+    Header(&'static str),
     /// In an entry's line.
     Entry(Section, u32),
     /// In a gate of a binary file, which has this variable.
@@ -88,11 +76,10 @@ impl Wanted {
             Wanted::HeaderNumber | Wanted::BodyNumber | Wanted::SmallerSum
         )
     }
-}
 
-impl fmt::Display for Wanted {
-    fn fmt<W: fmt::Write>(&self, f: &mut fmt::Formatter<W>) -> fmt::Result {
-        let text = match self {
+    // Adds it to a line.
+    fn put(self, line: &mut Line) -> Result<(), Memory> {
+        let template = match self {
             Wanted::Format => "`aag` or `aig`, and a space",
             Wanted::Number => "a number",
             Wanted::NoLeadingZero => "a number without leading zeros",
@@ -102,7 +89,7 @@ impl fmt::Display for Wanted {
             Wanted::Space => "a space",
             Wanted::Newline => "a newline",
             Wanted::SpaceOrNewline => "a space or a newline",
-            Wanted::Delta { low, high } => return write!(f, "a delta from {low} to {high}"),
+            Wanted::Delta { .. } => "a delta from {} to {}",
             Wanted::ShortDelta => "the shortest form of a delta, of at most four bytes",
             Wanted::WholeDelta => "a delta that ends before the file does",
             Wanted::SymbolLetter =>
@@ -110,43 +97,59 @@ impl fmt::Display for Wanted {
             Wanted::AfterC =>
                 "a newline, which begins the comment, or the position of a constraint",
             Wanted::Position(0) => "no symbol of this section, which is empty",
-            Wanted::Position(count) => return write!(f, "a position below {count}"),
+            Wanted::Position(_) => "a position below {}",
             Wanted::NewPosition => "the position of an entry that has no name yet",
             Wanted::Name => "a name of at least one byte",
             Wanted::NameEnd => "a newline after the name",
         };
-        f.write_str(text)
+        let (first, second) = self.numbers();
+        line.put(template, &[Word::Count(first), Word::Count(second)])
     }
-}
 
-impl fmt::Display for Count {
-    fn fmt<W: fmt::Write>(&self, f: &mut fmt::Formatter<W>) -> fmt::Result {
-        let name = match self {
-            Count::Variables => "the maximum variable index M",
-            Count::Inputs => "the number of inputs I",
-            Count::Latches => "the number of latches L",
-            Count::Outputs => "the number of outputs O",
-            Count::Gates => "the number of gates A",
-            Count::Bad => "the number of bad state properties B",
-            Count::Constraints => "the number of constraints C",
-            Count::Justice => "the number of justice properties J",
-            Count::Fairness => "the number of fairness constraints F",
-        };
-        f.write_str(name)
-    }
-}
-
-impl fmt::Display for Within {
-    fn fmt<W: fmt::Write>(&self, f: &mut fmt::Formatter<W>) -> fmt::Result {
+    // The numbers in its template.
+    fn numbers(self) -> (u32, u32) {
         match self {
-            Within::Word => write!(f, "in the first word"),
-            Within::Header(count) => write!(f, "in the header, at {count}"),
-            Within::Entry(section, position) => write!(f, "in {section} {position}"),
-            Within::BinaryGate { position, variable } => write!(
-                f,
-                "in gate {position}, which has variable {variable}"
-            ),
-            Within::Symbols | Within::BinarySymbols { .. } => write!(f, "in the symbols"),
+            Wanted::Delta { low, high } => (low, high),
+            Wanted::Position(count) => (count, 0),
+            _ => (0, 0),
         }
+    }
+}
+
+impl Within {
+    // Adds it to a line, in brackets.
+    fn put(self, line: &mut Line) -> Result<(), Memory> {
+        let (template, first, second) = match self {
+            Within::Word => (" (in the first word)", Word::None, Word::None),
+            Within::Header(name) => (" (in the header, at {})", Word::Text(name), Word::None),
+            Within::Entry(section, position) => {
+                (
+                    " (in {} {})",
+                    Word::Text(section.name()),
+                    Word::Count(position),
+                )
+            }
+            Within::BinaryGate { position, variable } => {
+                let variable = Word::Count(variable);
+                (
+                    " (in gate {}, which has variable {})",
+                    Word::Count(position),
+                    variable,
+                )
+            }
+            Within::Symbols | Within::BinarySymbols { .. } => {
+                (" (in the symbols)", Word::None, Word::None)
+            }
+        };
+        line.put(template, &[first, second])
+    }
+}
+
+impl Wrong {
+    /// Adds to a line what is wanted, and where.
+    pub fn put(&self, line: &mut Line) -> Result<(), Memory> {
+        line.put("wanted: ", &[])?;
+        self.wanted.put(line)?;
+        self.within.put(line)
     }
 }

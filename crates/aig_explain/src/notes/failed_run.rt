@@ -1,30 +1,24 @@
 //! What `--explain` prints after a verdict, or after the reason why a run failed: its files, and what a second look at
 //! them shows.
 
-use crate::bench::push_bench;
 use crate::circuit::parts::{Parts, Sought};
-use crate::circuit::push_circuit;
-use crate::cnf::push_cnf;
 use crate::explanation::Explanation;
-use crate::notes::certificate_look::{explain_no_formula, explain_strengthening};
-use crate::notes::look::{Look, Obstacle, print, print_memory};
+use crate::line::Word;
+use crate::notes::certificate_look::{explain_symbol, push_limit, push_strengthening};
+use crate::notes::look::{Look, print, print_memory};
 use crate::notes::model_look::explain_model;
-use crate::notes::names_look::{explain_names, explain_property, explain_select};
+use crate::notes::names_look::{push_property_fault, push_select};
 use crate::notes::output_look::{explain_output, explain_standard_output};
 use crate::notes::proof_look::{ProofOf, explain_proof};
 use crate::notes::verdict_look::{explain_other, explain_verdict};
-use crate::notes::why_look::explain_why;
-use crate::stimulus::push_stimulus;
-use crate::text_lines::TextLines;
-use crate::unrolling::push_unroll;
-use crate::witness::{frames_of, push_witness};
+use crate::notes::why_look::explain_frame;
 use aig_base::{Fault, Memory, SelectFault};
 use aig_bench::BenchFault;
 use aig_certificate::StrengthenFault;
-use aig_cnf::{CnfFault, Goal, Query};
+use aig_cnf::CnfFault;
 use aig_files::{Exit, Part, RunFiles};
 use aig_names::NamesFault;
-use aig_run::{RunFault, ScriptFault};
+use aig_run::{RunFault, ScriptFault, WhyFault};
 use aig_sat::{ModelFault, ProofFault};
 use aig_sim::{ReachFault, StimFault, WitnessFault};
 use aig_unroll::UnrollFault;
@@ -47,7 +41,12 @@ pub fn is_asked_for<R: Env + AllocGlobal>(rt: &R) -> bool {
 }
 
 fn is_no(value: &str) -> bool {
-    NO.iter().any(|no| value.eq_ignore_ascii_case(no))
+    for no in NO {
+        if value.eq_ignore_ascii_case(no) {
+            return true;
+        }
+    }
+    false
 }
 
 /// Explains on standard error how a command with these files ended, after its verdict or the reason of its failure is
@@ -118,57 +117,79 @@ fn is_memory(fault: RunFault) -> bool {
     )
 }
 
-/// Why a run failed: a row for each part that refuses. Memory is there.
+/// Why a run failed: which files tell it. Memory is there.
 fn of_fault<R: Files + AllocGlobal + Print>(
     look: &mut Look<'_, R>,
     fault: RunFault,
 ) -> Result<(), Memory> {
     let files = look.files;
     match fault {
-        RunFault::Circuit(fault) => of_circuit(look, Some(files.circuit), fault),
-        RunFault::Certificate(fault) => of_circuit(look, files.certificate, fault),
+        RunFault::Circuit(Fault::Io) => of_file(look, Some(files.circuit)),
+        RunFault::Certificate(Fault::Io) => of_file(look, files.certificate),
+        RunFault::Proof(ProofFault::Io) => of_file(look, files.run),
+        RunFault::StepProof(ProofFault::Io) => of_file(look, files.step),
         RunFault::Stimulus(StimFault::Io) => of_stream(look, files.run),
-        RunFault::Stimulus(fault) => of_run(look, |lines, circuit, run| {
-            push_stimulus(lines, circuit, run, fault)
-        }),
-        RunFault::Witness(fault) => of_run(look, |lines, circuit, run| {
-            push_witness(lines, circuit, run, fault)
-        }),
-        RunFault::OtherProperty { found, asked } => explain_other(look, found, asked),
-        RunFault::Bench(fault) => of_run(look, |lines, circuit, run| {
-            push_bench(lines, circuit, rows_of(files, run), fault)
-        }),
         RunFault::Script(_) => of_stream(look, files.script),
-        RunFault::Unroll(fault) => look.of_file(files.circuit, |lines, circuit| {
-            push_unroll(lines, circuit, files.frames, fault)
-        }),
-        RunFault::Cnf(fault) if files.certificate.is_some() => explain_no_formula(look, fault),
-        RunFault::Cnf(fault) => look.of_file(files.circuit, |lines, circuit| {
-            push_cnf(lines, circuit, query_of(files), fault)
-        }),
-        RunFault::Select(fault) => explain_select(look, fault),
-        RunFault::Reach(fault) => of_reach(look, fault),
+        RunFault::Output => of_output(look),
         RunFault::Proof(fault) => explain_proof(look, proof_of(files), fault),
         RunFault::StepProof(fault) => explain_proof(look, ProofOf::Step, fault),
         RunFault::Model(fault) => explain_model(look, fault),
-        RunFault::Strengthen(fault) => explain_strengthening(look, fault),
-        RunFault::Names(_) => explain_names(look),
-        RunFault::Property(fault) => explain_property(look, fault),
-        RunFault::Why(fault) => explain_why(look, fault),
-        RunFault::Output => of_output(look),
-        RunFault::Shell | RunFault::Memory => Ok(()),
+        RunFault::Reach(fault) => of_reach(look, fault),
+        RunFault::OtherProperty { found, asked } => explain_other(look, found, asked),
+        RunFault::Why(WhyFault::Frame) => explain_frame(look),
+        RunFault::Stimulus(_) | RunFault::Witness(_) | RunFault::Bench(_) => of_run(look, fault),
+        RunFault::Strengthen(StrengthenFault::Symbol { kind, position }) => {
+            explain_symbol(look, kind, position)
+        }
+        _ => of_contents(look, fault),
     }
 }
 
-fn of_circuit<R: Files + AllocGlobal>(
+/// What the bytes of one file show, or none.
+fn of_contents<R: Files + AllocGlobal>(
     look: &mut Look<'_, R>,
-    name: Option<&str>,
-    fault: Fault,
+    fault: RunFault,
 ) -> Result<(), Memory> {
-    match (name, fault) {
-        (_, Fault::Io) => of_file(look, name),
-        (Some(name), _) => look.of_file(name, |lines, file| push_circuit(lines, file, fault)),
-        (None, _) => Ok(()),
+    if let Some(name) = named_file(look.files, fault) {
+        look.of_file(name, &[], fault)?;
+    }
+    push_known(&mut look.lines, look.files, fault)
+}
+
+/// The file whose bytes show why a run failed.
+fn named_file<'a>(files: &RunFiles<'a>, fault: RunFault) -> Option<&'a str> {
+    match fault {
+        RunFault::Cnf(CnfFault::Limit | CnfFault::NoFrames) if files.certificate.is_some() => None,
+        RunFault::Circuit(_)
+        | RunFault::Unroll(_)
+        | RunFault::Cnf(_)
+        | RunFault::Strengthen(StrengthenFault::Property)
+        | RunFault::Why(_) => Some(files.circuit),
+        RunFault::Certificate(_) => files.certificate,
+        RunFault::Names(_) => files.names,
+        _ => None,
+    }
+}
+
+/// What is known without a second look, or after it.
+fn push_known(
+    lines: &mut Explanation,
+    files: &RunFiles<'_>,
+    fault: RunFault,
+) -> Result<(), Memory> {
+    match fault {
+        RunFault::Select(fault) => push_select(lines, files, fault),
+        RunFault::Property(fault) => push_property_fault(lines, files, fault),
+        RunFault::Strengthen(fault) => push_strengthening(lines, files, fault),
+        RunFault::Cnf(CnfFault::Limit | CnfFault::NoFrames) => match files.certificate {
+            Some(certificate) => push_limit(lines, files, certificate),
+            None => Ok(()),
+        },
+        RunFault::Names(_) if files.names.is_some() => lines.say(
+            "wanted: one line for each property that is written; an empty line gives it no name",
+        ),
+        RunFault::Why(_) => lines.say("aig info --names CIRCUIT prints the names of all entries"),
+        _ => Ok(()),
     }
 }
 
@@ -182,44 +203,17 @@ fn proof_of(files: &RunFiles<'_>) -> ProofOf {
 }
 
 /// A stimulus or a witness, which depends on the circuit.
-fn of_run<
-    R: Files + AllocGlobal,
-    F: FnOnce(&mut Explanation, &[u8], &[u8]) -> Result<(), Memory> + Drop,
->(look: &mut Look<'_, R>, push: F) -> Result<(), Memory>
-    requires { F.IsAlwaysCallable push }
-{
+fn of_run<R: Files + AllocGlobal>(look: &mut Look<'_, R>, fault: RunFault) -> Result<(), Memory> {
     let Some(name) = look.files.run else {
         return Ok(());
     };
-    let circuit = look.bytes(look.files.circuit);
-    if let Some(run) = look.read(name)? {
-        let before = look.lines.len();
-        push(&mut look.lines, bytes_of(&circuit), run.as_slice())?;
-        look.or_nothing_found(before)?;
-    }
-    match circuit {
-        Ok(_) => Ok(()),
+    match look.bytes(look.files.circuit) {
+        Ok(circuit) => look.of_file(name, circuit.as_slice(), fault),
         Err(obstacle) => {
-            look.name(look.files.circuit)?;
-            look.obstacle(obstacle)
+            look.of_file(name, &[], fault)?;
+            look.lines.name(look.files.circuit)?;
+            obstacle.push(&mut look.lines)
         }
-    }
-}
-
-/// The bytes of a file, or none if there was no second look.
-fn bytes_of(file: &Result<Vec<u8>, Obstacle>) -> &[u8] {
-    match file {
-        Ok(bytes) => bytes.as_slice(),
-        Err(_) => &[],
-    }
-}
-
-/// How many rows a run gives a bench.
-fn rows_of(files: &RunFiles<'_>, run: &[u8]) -> usize {
-    if files.is_witness {
-        frames_of(run)
-    } else {
-        TextLines::of(run).ended()
     }
 }
 
@@ -242,20 +236,6 @@ fn of_stream<R: Files + AllocGlobal + Print>(
         Ok(())
     } else {
         explain_standard_output(look)
-    }
-}
-
-/// What the formula is of.
-fn query_of(files: &RunFiles<'_>) -> Query {
-    let goal = if files.steps {
-        Goal::Step
-    } else {
-        Goal::Within
-    };
-    Query {
-        goal,
-        frames: files.frames,
-        property: files.property,
     }
 }
 
@@ -284,31 +264,38 @@ fn of_reach<R: Files + AllocGlobal>(
     look: &mut Look<'_, R>,
     fault: ReachFault,
 ) -> Result<(), Memory> {
-    look.name(look.files.circuit)?;
-    if fault == ReachFault::Property {
-        look.say("the circuit has no bad state property at this position")?;
-        return look.say("positions count from 0: aig info CIRCUIT prints the number of properties");
+    let files = look.files;
+    look.lines.name(files.circuit)?;
+    if matches!(fault, ReachFault::Property) {
+        return look.lines.say_all(&[
+            "the circuit has no bad state property at this position",
+            "positions count from 0: aig info CIRCUIT prints the number of properties",
+        ]);
     }
-    for line in lacks(look.files) {
-        look.say(line)?;
+    look.lines.say_all(&lacks(files))?;
+    if files.certificate.is_some() || files.frames > 0 {
+        return Ok(());
     }
-    if look.files.certificate.is_none() && look.files.frames == 0 {
-        push_free_latches(look)?;
+    match look.bytes(files.circuit) {
+        Ok(circuit) => push_free_latches(&mut look.lines, circuit.as_slice()),
+        Err(_) => Ok(()),
     }
-    Ok(())
 }
 
 /// A run over a stimulus starts its uninitialised latches at x, which may hide that it reaches the property.
-fn push_free_latches<R: Files + AllocGlobal>(look: &mut Look<'_, R>) -> Result<(), Memory> {
-    let Ok(file) = look.bytes(look.files.circuit) else {
-        return Ok(());
+fn push_free_latches(lines: &mut Explanation, circuit: &[u8]) -> Result<(), Memory> {
+    let count = match Parts::of(circuit) {
+        Some(parts) => parts.count(Sought::Uninitialised),
+        None => 0,
     };
-    let count = Parts::of(file.as_slice()).map_or(0, |parts| parts.count(Sought::Uninitialised));
     if count == 0 {
         return Ok(());
     }
-    look.lines.add(format_args!("uninitialised latches, which start at x in this run: {count}"))?;
-    look.say("aig witness --model takes a run with their values from a solver's model of aig cnf")
+    lines.add(
+        "uninitialised latches, which start at x in this run: {}",
+        &[Word::Number(count)],
+    )?;
+    lines.say("aig witness --model takes a run with their values from a solver's model of aig cnf")
 }
 
 /// A file of an option, or standard output, could not be written to. In bench, standard output is the script's part.

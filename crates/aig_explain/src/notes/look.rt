@@ -3,9 +3,11 @@ ghost use Rattle.std.specs.Prelude.{◌≢◌, [], OnOk};
 
 use crate::explanation::Explanation;
 use crate::kind::Kind;
+use crate::notes::contents::push_fault;
 use crate::notes::proof_walk::{Goal, Spelling, Walk, spelling_of};
 use aig_bytes::Memory;
 use aig_files::RunFiles;
+use aig_run::RunFault;
 use std::alloc::Global;
 use std::fs::{self, Files, Metadata};
 use std::io::{self, ErrorKind, Read};
@@ -40,6 +42,38 @@ impl From<Memory> for Obstacle {
     fn from(_memory: Memory) -> Obstacle {
         Obstacle::Memory
     }
+}
+
+impl Obstacle {
+    /// Adds why a file is not seen, and what to do.
+    pub fn push(self, lines: &mut Explanation) -> Result<(), Memory>
+        ensures { OnOk result (lines.new ≢ []) }
+    {
+        let text = match self {
+            Obstacle::System(error) => return push_error(lines, error),
+            Obstacle::Folder => "it is a folder: name a file",
+            Obstacle::Special =>
+                "it is a pipe or a device, which aig does not open again: save its bytes in a file to learn more",
+            Obstacle::Large => "it has more than 1 GiB, which aig does not read again",
+            Obstacle::Memory => MORE_MEMORY,
+        };
+        lines.say(text)
+    }
+}
+
+/// Adds the system's reason, and what to do.
+pub fn push_error(lines: &mut Explanation, error: io::Error) -> Result<(), Memory>
+    ensures { OnOk result (lines.new ≢ []) }
+{
+    let reason = error.to_string(lines.alloc())?;
+    lines.say(reason.as_str())?;
+    let text = match error.kind() {
+        ErrorKind::NotFound => "check its name, and the names of its folders",
+        ErrorKind::PermissionDenied => "check its permissions, and those of its folders",
+        ErrorKind::StorageFull => "make space, and run the command again",
+        _ => return Ok(()),
+    };
+    lines.say(text)
 }
 
 /// How many bytes a walk reads at once.
@@ -108,57 +142,6 @@ impl<'a, R: Files + AllocGlobal> Look<'a, R> {
         }
     }
 
-    /// Adds a line.
-    pub fn say(&mut self, line: &str) -> Result<(), Memory>
-        ensures { OnOk result (self.new.lines ≢ []) }
-    {
-        self.lines.say(line)
-    }
-
-    /// Adds what to do if memory runs out.
-    pub fn say_memory(&mut self) -> Result<(), Memory>
-        ensures { OnOk result (self.new.lines ≢ []) }
-    {
-        self.say(MORE_MEMORY)
-    }
-
-    /// Adds the name of a file.
-    pub fn name(&mut self, name: &str) -> Result<(), Memory>
-        ensures { OnOk result (self.new.lines ≢ []) }
-    {
-        self.lines.add(format_args!("file: {name}"))
-    }
-
-    /// Adds the system's reason, and what to do.
-    pub fn error(&mut self, error: io::Error) -> Result<(), Memory>
-        ensures { OnOk result (self.new.lines ≢ []) }
-    {
-        self.lines.add(error)?;
-        match error.kind() {
-            ErrorKind::NotFound => self.say("check its name, and the names of its folders"),
-            ErrorKind::PermissionDenied => {
-                self.say("check its permissions, and those of its folders")
-            }
-            ErrorKind::StorageFull => self.say("make space, and run the command again"),
-            _ => Ok(()),
-        }
-    }
-
-    /// Adds why a file is not seen, and what to do.
-    pub fn obstacle(&mut self, obstacle: Obstacle) -> Result<(), Memory>
-        ensures { OnOk result (self.new.lines ≢ []) }
-    {
-        match obstacle {
-            Obstacle::System(error) => self.error(error),
-            Obstacle::Folder => self.say("it is a folder: name a file"),
-            Obstacle::Special => self.say(
-                "it is a pipe or a device, which aig does not open again: save its bytes in a file to learn more",
-            ),
-            Obstacle::Large => self.say("it has more than 1 GiB, which aig does not read again"),
-            Obstacle::Memory => self.say_memory(),
-        }
-    }
-
     /// Reads a regular file again, from its first byte.
     pub fn bytes(&self, name: &str) -> Result<Vec<u8>, Obstacle> {
         if regular(self.rt, name)?.len() > MOST {
@@ -172,72 +155,44 @@ impl<'a, R: Files + AllocGlobal> Look<'a, R> {
     pub fn read(&mut self, name: &str) -> Result<Option<Vec<u8>>, Memory>
         ensures { OnOk result (self.new.lines ≢ []) }
     {
-        self.name(name)?;
+        self.lines.name(name)?;
         match self.bytes(name) {
             Ok(bytes) => Ok(Some(bytes)),
             Err(obstacle) => {
-                self.obstacle(obstacle)?;
+                obstacle.push(&mut self.lines)?;
                 Ok(None)
             }
         }
     }
 
-    /// Adds that nothing was found, unless a line was added after so many bytes.
-    pub fn or_nothing_found(&mut self, before: usize) -> Result<(), Memory>
-        ensures { OnOk result (self.new.lines ≢ []) }
-    {
-        if self.lines.len() > before {
-            return Ok(());
-        }
-        self.say("a second look finds nothing wrong: the file may have changed")
-    }
-
-    /// Adds the name of a file, reads it again, and adds what a function says of its bytes. There is a line after it.
-    pub fn of_file<F: FnOnce(&mut Explanation, &[u8]) -> Result<(), Memory> + Drop>(
-        &mut self,
-        name: &str,
-        push: F,
-    ) -> Result<(), Memory>
-        requires { F.IsAlwaysCallable push }
+    /// Adds the name of a file, reads it again, and adds what its bytes say of a fault, beside those of a circuit that
+    /// it depends on. There is a line after it.
+    pub fn of_file(&mut self, name: &str, circuit: &[u8], fault: RunFault) -> Result<(), Memory>
         ensures explained { OnOk result (self.new.lines ≢ []) }
     {
-        let Some(bytes) = self.read(name)? else {
-            return Ok(());
-        };
-        let before = self.lines.len();
-        push(&mut self.lines, bytes.as_slice())?;
-        self.or_nothing_found(before)
-    }
-
-    fn walked(&self, name: &str, goal: Goal, spelling: Option<Spelling>) -> Result<Seen, Obstacle> {
-        let _metadata = regular(self.rt, name)?;
-        let mut file = fs::open(self.rt, name)?;
-        let mut block = [0u8; BLOCK];
-        let count = file.read(&mut block)?;
-        let first = block.get(..count).unwrap_or(&[]);
-        let spelling = spelling.unwrap_or(spelling_of(first));
-        let mut walk = Walk::new(self.rt.alloc(), goal, spelling);
-        walk.pass(first)?;
-        walk_on(&mut file, &mut walk)?;
-        let known = Kind::at_word(first, &walk.word);
-        Ok(Seen { walk, known })
+        match self.read(name)? {
+            Some(bytes) => push_contents(
+                &mut self.lines,
+                self.files,
+                circuit,
+                bytes.as_slice(),
+                fault,
+            ),
+            None => Ok(()),
+        }
     }
 
     /// Walks through a regular file from its first byte to a goal, by blocks. Without a spelling, its first bytes tell
-    /// it. Where it is not seen, adds why.
+    /// it.
     pub fn walk(
-        &mut self,
+        &self,
         name: &str,
         goal: Goal,
         spelling: Option<Spelling>,
-    ) -> Result<Option<Seen>, Memory> {
-        match self.walked(name, goal, spelling) {
-            Ok(seen) => Ok(Some(seen)),
-            Err(obstacle) => {
-                self.obstacle(obstacle)?;
-                Ok(None)
-            }
-        }
+    ) -> Result<Seen, Obstacle> {
+        let _metadata = regular(self.rt, name)?;
+        let mut file = fs::open(self.rt, name)?;
+        walk_through(self.rt.alloc(), &mut file, goal, spelling)
     }
 
     /// Adds why a file cannot be opened or read, if the run has it. Returns whether the second look shows why.
@@ -245,19 +200,59 @@ impl<'a, R: Files + AllocGlobal> Look<'a, R> {
         let Some(name) = name else {
             return Ok(false);
         };
-        self.name(name)?;
-        if name == "-" {
-            self.say("- is a file of this name: standard input is /dev/stdin")?;
+        push_unread(&mut self.lines, name, first_byte(self.rt, name))
+    }
+}
+
+// Adds what the bytes of a file say of a fault, or that nothing was found.
+fn push_contents(
+    lines: &mut Explanation,
+    files: &RunFiles<'_>,
+    circuit: &[u8],
+    file: &[u8],
+    fault: RunFault,
+) -> Result<(), Memory>
+    ensures { OnOk result (lines.new ≢ []) }
+{
+    let before = lines.len();
+    push_fault(lines, files, circuit, file, fault)?;
+    lines.or_nothing_found(before)
+}
+
+fn walk_through<F: Read>(
+    alloc: Global,
+    file: &mut F,
+    goal: Goal,
+    spelling: Option<Spelling>,
+) -> Result<Seen, Obstacle> {
+    let mut block = [0u8; BLOCK];
+    let count = file.read(&mut block)?;
+    let first = block.get(..count).unwrap_or(&[]);
+    let spelling = spelling.unwrap_or(spelling_of(first));
+    let mut walk = Walk::new(alloc, goal, spelling);
+    walk.pass(first)?;
+    walk_on(file, &mut walk)?;
+    let known = Kind::at_word(first, &walk.word);
+    Ok(Seen { walk, known })
+}
+
+fn push_unread(
+    lines: &mut Explanation,
+    name: &str,
+    seen: Result<(), Obstacle>,
+) -> Result<bool, Memory> {
+    lines.name(name)?;
+    if name == "-" {
+        lines.say("- is a file of this name: standard input is /dev/stdin")?;
+    }
+    match seen {
+        Ok(()) => {
+            lines.say("it can be opened and read now")?;
+            Ok(false)
         }
-        match first_byte(self.rt, name) {
-            Ok(()) => {
-                self.say("it can be opened and read now")?;
-                Ok(false)
-            }
-            Err(obstacle) => {
-                self.obstacle(obstacle)?;
-                Ok(!matches!(obstacle, Obstacle::Special))
-            }
+        Err(obstacle) => {
+            obstacle.push(lines)?;
+            Ok(!matches!(obstacle, Obstacle::Special))
         }
     }
 }

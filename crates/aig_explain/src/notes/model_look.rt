@@ -1,6 +1,8 @@
 //! What `--explain` prints of a solver's model that is refused.
 
+use crate::explanation::Explanation;
 use crate::kind::Kind;
+use crate::line::Word;
 use crate::notes::look::{Look, Seen};
 use crate::notes::proof_look::push_word;
 use crate::notes::proof_walk::{Goal, Spelling, Walk, number_of};
@@ -15,16 +17,18 @@ pub fn explain_model<R: Files + AllocGlobal>(
     look: &mut Look<'_, R>,
     fault: ModelFault,
 ) -> Result<(), Memory> {
-    let Some(name) = look.files.run else {
+    let files = look.files;
+    let Some(name) = files.run else {
         return Ok(());
     };
-    look.name(name)?;
-    match fault {
-        ModelFault::Memory => Ok(()),
-        ModelFault::Text(at) => explain_text(look, name, at),
-        ModelFault::Unsatisfiable => say_answer(look, unsatisfiable(look.files)),
-        ModelFault::Unknown => say_answer(look, "the solver gave up before it found an answer"),
-    }
+    look.lines.name(name)?;
+    let why = match fault {
+        ModelFault::Memory => return Ok(()),
+        ModelFault::Text(at) => return explain_text(look, name, at),
+        ModelFault::Unsatisfiable => unsatisfiable(files),
+        ModelFault::Unknown => "the solver gave up before it found an answer",
+    };
+    look.lines.say_all(&[why, formula_of(files)])
 }
 
 /// What it says that a solver found no model.
@@ -45,49 +49,62 @@ fn formula_of(files: &RunFiles<'_>) -> &'static str {
     }
 }
 
-fn say_answer<R: Files + AllocGlobal>(look: &mut Look<'_, R>, why: &str) -> Result<(), Memory> {
-    look.say(why)?;
-    look.say(formula_of(look.files))
-}
-
 fn explain_text<R: Files + AllocGlobal>(
     look: &mut Look<'_, R>,
     name: &str,
     at: u64,
 ) -> Result<(), Memory> {
-    let mut known = None;
-    if let Some(seen) = look.walk(name, Goal::Byte(at), Some(Spelling::Text))? {
-        push_word(&mut look.lines, &seen.walk)?;
-        look.say(why(&seen.walk))?;
-        push_variable(look, &seen.walk)?;
-        known = other_kind(&seen);
-    }
-    match known {
-        Some(known) => known.push(&mut look.lines, Part::Model),
-        None => look.say(formula_of(look.files)),
+    match look.walk(name, Goal::Byte(at), Some(Spelling::Text)) {
+        Ok(seen) => {
+            let variables = variables_of(look, &seen.walk);
+            push_seen(&mut look.lines, look.files, &seen, variables)
+        }
+        Err(obstacle) => {
+            obstacle.push(&mut look.lines)?;
+            look.lines.say(formula_of(look.files))
+        }
     }
 }
 
-// The word that is refused may be of a variable that the formula does not have.
-fn push_variable<R: Files + AllocGlobal>(
-    look: &mut Look<'_, R>,
-    walk: &Walk,
-) -> Result<(), Memory> {
+// The variables of the formula and of that of its step, if the word that is refused may be of neither.
+fn variables_of<R: Files + AllocGlobal>(look: &Look<'_, R>, walk: &Walk) -> Option<(u64, u64)> {
     let files = look.files;
     // The variables of a certificate's formula are counted with the certificate's own.
     if !is_literal(walk) || files.certificate.is_some() {
-        return Ok(());
+        return None;
     }
-    let Ok(circuit) = look.bytes(files.circuit) else {
-        return Ok(());
-    };
-    let within = variables_within(circuit.as_slice(), files.frames);
-    let of_step = variables_of_step(circuit.as_slice(), files.frames);
-    match (within, of_step) {
-        (Some(within), Some(of_step)) if within < number_of(&walk.word) => look.lines.add(
-            format_args!("the formula has {within} variables, and that of --step {of_step}"),
-        ),
-        _ => Ok(()),
+    match look.bytes(files.circuit) {
+        Ok(circuit) => both_variables(circuit.as_slice(), files.frames),
+        Err(_) => None,
+    }
+}
+
+fn both_variables(circuit: &[u8], frames: u32) -> Option<(u64, u64)> {
+    Some((
+        variables_within(circuit, frames)?,
+        variables_of_step(circuit, frames)?,
+    ))
+}
+
+fn push_seen(
+    lines: &mut Explanation,
+    files: &RunFiles<'_>,
+    seen: &Seen,
+    variables: Option<(u64, u64)>,
+) -> Result<(), Memory> {
+    push_word(lines, &seen.walk)?;
+    lines.say(why(&seen.walk))?;
+    if let Some((within, of_step)) = variables
+        && within < number_of(&seen.walk.word)
+    {
+        lines.add(
+            "the formula has {} variables, and that of --step {}",
+            &[Word::Number(within), Word::Number(of_step)],
+        )?;
+    }
+    match other_kind(seen) {
+        Some(known) => known.push(lines, Part::Model),
+        None => lines.say(formula_of(files)),
     }
 }
 

@@ -1,6 +1,7 @@
 //! A second look at what a run could not write to: standard output, or the file of an option.
 
-use crate::notes::look::Look;
+use crate::explanation::Explanation;
+use crate::notes::look::{Look, push_error};
 use aig_bytes::Memory;
 use aig_files::{is_free, is_one, is_one_new, leads_to, name_beside, parts_of};
 use std::fs::{self, FileType, Files, Metadata, OpenOptions};
@@ -15,24 +16,38 @@ enum Output {
     Other,
 }
 
+/// Why a file may not have been written.
+#[derive(Clone, Copy)]
+enum Reason {
+    /// This, and what to do.
+    Known(&'static str),
+    /// The system refuses a call.
+    System(io::Error),
+    /// The new file is there already.
+    Taken,
+}
+
 /// Adds why a write to standard output may have failed.
 pub fn explain_standard_output<R: Files + AllocGlobal + Print>(
     look: &mut Look<'_, R>,
 ) -> Result<(), Memory> {
-    match standard_output(look.rt) {
-        Output::Pipe => look.say(
+    let text = match standard_output(look.rt) {
+        Output::Pipe =>
             "standard output is a pipe: its reader may have ended before it had everything, as head does",
-        ),
-        Output::File => look.say(
+        Output::File =>
             "standard output is a file: its disk may be full, or the file at a limit (ulimit -f, a quota)",
-        ),
-        Output::Other => match write_nothing(look.rt) {
-            Ok(()) => look.say("standard output can be written to now"),
-            Err(error) => {
-                look.say("standard output is closed or full:")?;
-                look.error(error)
-            }
-        },
+        Output::Other => return push_tried(&mut look.lines, write_nothing(look.rt)),
+    };
+    look.lines.say(text)
+}
+
+fn push_tried(lines: &mut Explanation, tried: io::Result<()>) -> Result<(), Memory> {
+    match tried {
+        Ok(()) => lines.say("standard output can be written to now"),
+        Err(error) => {
+            lines.say("standard output is closed or full:")?;
+            push_error(lines, error)
+        }
     }
 }
 
@@ -59,7 +74,7 @@ fn write_nothing<P: Print>(rt: &P) -> io::Result<()> {
     Ok(())
 }
 
-/// Prints why the file of an option may not have been written, if the option is given. No other argument may name the
+/// Adds why the file of an option may not have been written, if the option is given. No other argument may name the
 /// same file, as `other` could.
 pub fn explain_output<R: Files + AllocGlobal>(
     look: &mut Look<'_, R>,
@@ -69,15 +84,42 @@ pub fn explain_output<R: Files + AllocGlobal>(
     let Some(name) = name else {
         return Ok(());
     };
-    look.name(name)?;
-    if is_same(look.rt, name, other) {
-        look.say("two arguments name this file: choose another name")
-    } else if takes_name(look.rt, name, other) {
-        look.say("its new file would take the name of another argument: choose another name")
+    let new = name_of_new(look.rt, name);
+    let new = match &new {
+        Some(new) => Some(new.as_str()),
+        None => None,
+    };
+    let reason = reason_of(look.rt, name, new, other);
+    push_reason(&mut look.lines, name, new, reason)
+}
+
+fn push_reason(
+    lines: &mut Explanation,
+    name: &str,
+    new: Option<&str>,
+    reason: Reason,
+) -> Result<(), Memory> {
+    lines.name(name)?;
+    match (reason, new) {
+        (Reason::Known(text), _) => lines.say(text),
+        (Reason::System(error), _) => push_error(lines, error),
+        (Reason::Taken, Some(new)) => {
+            lines.name(new)?;
+            lines.say("it exists, as after a run that was killed: rename it or remove it")
+        }
+        (Reason::Taken, None) => Ok(()),
+    }
+}
+
+fn reason_of<R: Files>(rt: &R, name: &str, new: Option<&str>, other: Option<&str>) -> Reason {
+    if is_same(rt, name, other) {
+        Reason::Known("two arguments name this file: choose another name")
+    } else if is_same_new(rt, new, other) {
+        Reason::Known("its new file would take the name of another argument: choose another name")
     } else if name.is_empty() || name.ends_with('/') {
-        look.say("this is not the name of a file")
+        Reason::Known("this is not the name of a file")
     } else {
-        explain_named(look, name)
+        reason_of_named(rt, name, new)
     }
 }
 
@@ -88,55 +130,40 @@ fn is_same<R: Files>(rt: &R, name: &str, other: Option<&str>) -> bool {
     }
 }
 
-/// Whether the new file for `name` has the name of the other file.
-fn takes_name<R: Files + AllocGlobal>(rt: &R, name: &str, other: Option<&str>) -> bool {
-    match name_of_new(rt, name) {
-        Some(new) => is_same_new(rt, new.as_str(), other),
-        None => false,
+/// Whether the new file has the name of the other file.
+fn is_same_new<R: Files>(rt: &R, new: Option<&str>, other: Option<&str>) -> bool {
+    match (new, other) {
+        (Some(new), Some(other)) => is_one_new(rt, new, other),
+        _ => false,
     }
 }
 
-fn is_same_new<R: Files>(rt: &R, new: &str, other: Option<&str>) -> bool {
-    match other {
-        Some(other) => is_one_new(rt, new, other),
-        None => false,
-    }
-}
-
-fn explain_named<R: Files + AllocGlobal>(look: &mut Look<'_, R>, name: &str) -> Result<(), Memory> {
-    match fs::metadata(look.rt, name) {
-        Ok(metadata) => explain_existing(look, name, &metadata),
-        Err(error) if error.kind() != ErrorKind::NotFound => look.error(error),
-        Err(_) if !is_free(look.rt, name) => look.say(
+fn reason_of_named<R: Files>(rt: &R, name: &str, new: Option<&str>) -> Reason {
+    match fs::metadata(rt, name) {
+        Ok(metadata) => reason_of_existing(rt, name, new, &metadata),
+        Err(error) if error.kind() != ErrorKind::NotFound => Reason::System(error),
+        Err(_) if !is_free(rt, name) => Reason::Known(
             "it is a link to a file that does not exist: create that file, or name it",
         ),
-        Err(_) => explain_free(look, name),
+        Err(_) => reason_of_free(rt, name, new),
     }
 }
 
-fn explain_existing<R: Files + AllocGlobal>(
-    look: &mut Look<'_, R>,
-    name: &str,
-    file: &Metadata,
-) -> Result<(), Memory> {
-    let rt = look.rt;
-    if file.is_dir() {
-        look.say("it is a folder: name a file")
+fn reason_of_existing<R: Files>(rt: &R, name: &str, new: Option<&str>, file: &Metadata) -> Reason {
+    let known = if file.is_dir() {
+        "it is a folder: name a file"
     } else if leads_to(rt, "/dev/stdout", file) || leads_to(rt, "/dev/stderr", file) {
-        look.say("standard output or standard error goes to it: name another file")
+        "standard output or standard error goes to it: name another file"
     } else if !file.is_file() {
-        look.say(
-            "it is a pipe or a device, which aig does not open again: it may be full, or without a reader",
-        )
+        "it is a pipe or a device, which aig does not open again: it may be full, or without a reader"
     } else if are_streams_unknown(rt) {
-        look.say(
-            "it may be standard output or standard error: without /dev the system does not say; name a new file",
-        )
+        "it may be standard output or standard error: without /dev the system does not say; name a new file"
     } else if is_of_another(rt, file) {
-        look.say("it has another owner, whom only root may give a file: name another file")
+        "it has another owner, whom only root may give a file: name another file"
     } else {
-        explain_old(look, name)
-    }
+        return reason_of_old(rt, name, new);
+    };
+    Reason::Known(known)
 }
 
 /// Whether the system does not say which files standard output and standard error are.
@@ -153,32 +180,26 @@ fn is_of_another<R: Files>(rt: &R, file: &Metadata) -> bool {
 }
 
 /// A file that the new one is to replace. To open it does not change it.
-fn explain_old<R: Files + AllocGlobal>(look: &mut Look<'_, R>, name: &str) -> Result<(), Memory> {
-    match OpenOptions::new().write(true).open(look.rt, name) {
-        Ok(_) => explain_beside(look, name),
-        Err(error) => look.error(error),
+fn reason_of_old<R: Files>(rt: &R, name: &str, new: Option<&str>) -> Reason {
+    match OpenOptions::new().write(true).open(rt, name) {
+        Ok(_) => reason_beside(rt, new),
+        Err(error) => Reason::System(error),
     }
 }
 
 /// A name that is free. Its folder has to be there.
-fn explain_free<R: Files + AllocGlobal>(look: &mut Look<'_, R>, name: &str) -> Result<(), Memory> {
-    match fs::metadata(look.rt, parts_of(name).0) {
-        Ok(_) => explain_beside(look, name),
-        Err(error) => look.error(error),
+fn reason_of_free<R: Files>(rt: &R, name: &str, new: Option<&str>) -> Reason {
+    match fs::metadata(rt, parts_of(name).0) {
+        Ok(_) => reason_beside(rt, new),
+        Err(error) => Reason::System(error),
     }
 }
 
 /// The new file may be there already. Else a second look does not show why it could not be written.
-fn explain_beside<R: Files + AllocGlobal>(
-    look: &mut Look<'_, R>,
-    name: &str,
-) -> Result<(), Memory> {
-    match name_of_new(look.rt, name) {
-        Some(new) if !is_free(look.rt, new.as_str()) => {
-            look.name(new.as_str())?;
-            look.say("it exists, as after a run that was killed: rename it or remove it")
-        }
-        _ => look.say(
+fn reason_beside<R: Files>(rt: &R, new: Option<&str>) -> Reason {
+    match new {
+        Some(new) if !is_free(rt, new) => Reason::Taken,
+        _ => Reason::Known(
             "nothing is wrong with it now: if it was not written, check the permissions and the space of its folder",
         ),
     }

@@ -1,15 +1,15 @@
 //! What `--explain` prints of a proof that is refused.
 
-use crate::circuit::parts::shortened;
+use crate::circuit::place::Place;
 use crate::explanation::Explanation;
 use crate::kind::Kind;
+use crate::line::{Line, Word};
 use crate::notes::look::{Look, Seen};
-use crate::notes::proof_walk::{Goal, Spelling, Spot, Step, Walk};
+use crate::notes::proof_walk::{Goal, Spelling, Walk};
 use crate::unrolling::{variables_of_step, variables_within};
 use aig_bytes::Memory;
 use aig_files::Part;
 use aig_sat::ProofFault;
-use std::alloc::Global;
 use std::fs::Files;
 
 /// What a proof is about.
@@ -35,33 +35,22 @@ pub fn explain_proof<R: Files + AllocGlobal>(
         ProofOf::Runs | ProofOf::Alive | ProofOf::Certificate => look.files.run,
         ProofOf::Step => look.files.step,
     };
-    match (name, fault) {
-        (_, ProofFault::Io) => {
-            let _is_explained = look.unread(name)?;
-            Ok(())
+    let Some(name) = name else {
+        return Ok(());
+    };
+    look.lines.name(name)?;
+    look.lines.say(why(fault))?;
+    match look.walk(name, goal_of(fault), None) {
+        Ok(seen) => {
+            let variables = variables_of(look, about, fault, &seen);
+            push_seen(&mut look.lines, &seen, fault, variables)?;
+            push_cause(&mut look.lines, about, fault, seen.known)
         }
-        (Some(name), _) => explain_steps(look, about, name, fault),
-        (None, _) => Ok(()),
-    }
-}
-
-fn explain_steps<R: Files + AllocGlobal>(
-    look: &mut Look<'_, R>,
-    about: ProofOf,
-    name: &str,
-    fault: ProofFault,
-) -> Result<(), Memory> {
-    look.name(name)?;
-    look.say(why(fault))?;
-    let mut known = None;
-    if let Some(seen) = look.walk(name, goal_of(fault), None)? {
-        push_seen(&mut look.lines, &seen.walk, fault)?;
-        if let ProofFault::Step { .. } = fault {
-            push_variables(look, about, &seen)?;
+        Err(obstacle) => {
+            obstacle.push(&mut look.lines)?;
+            push_cause(&mut look.lines, about, fault, None)
         }
-        known = seen.known;
     }
-    say_cause(look, about, fault, known)
 }
 
 fn why(fault: ProofFault) -> &'static str {
@@ -81,7 +70,13 @@ fn goal_of(fault: ProofFault) -> Goal {
     }
 }
 
-fn push_seen(lines: &mut Explanation, walk: &Walk, fault: ProofFault) -> Result<(), Memory> {
+fn push_seen(
+    lines: &mut Explanation,
+    seen: &Seen,
+    fault: ProofFault,
+    variables: Option<u64>,
+) -> Result<(), Memory> {
+    let walk = &seen.walk;
     match fault {
         ProofFault::Text { .. } => {
             push_word(lines, walk)?;
@@ -91,104 +86,130 @@ fn push_seen(lines: &mut Explanation, walk: &Walk, fault: ProofFault) -> Result<
                 push_step(lines, walk)
             }
         }
-        ProofFault::Step { .. } => push_step(lines, walk),
-        _ => {
-            let steps = walk.step.number;
-            lines.add(format_args!("its number of steps: {steps}"))
+        ProofFault::Step { .. } => {
+            push_step(lines, walk)?;
+            push_variables(lines, walk.step.greatest, variables)
         }
+        _ => lines.add("its number of steps: {}", &[Word::Number(walk.step.number)]),
     }
 }
 
 /// Adds a line for the word that is refused, or the end of the file.
 pub fn push_word(lines: &mut Explanation, walk: &Walk) -> Result<(), Memory> {
-    if !walk.is_over {
-        let place = place_of(lines.alloc(), walk, walk.spot)?;
-        return lines.add(format_args!("{place}: the file ends here"));
+    if walk.is_over {
+        push_place(
+            lines,
+            walk,
+            walk.word_place,
+            ": found `{}`",
+            &[Word::Bytes(&walk.word)],
+        )
+    } else {
+        push_place(lines, walk, walk.place, ": the file ends here", &[])
     }
-    let place = place_of(lines.alloc(), walk, walk.word_spot)?;
-    let shown = shortened(lines.alloc(), &walk.word)?;
-    lines.add(format_args!("{place}: found `{shown}`"))
 }
 
-fn place_of(alloc: Global, walk: &Walk, spot: Spot) -> Result<String, Memory> {
-    let Spot { byte, line, column } = spot;
+fn push_place(
+    lines: &mut Explanation,
+    walk: &Walk,
+    place: Place,
+    template: &str,
+    words: &[Word<'_>],
+) -> Result<(), Memory> {
+    let mut line = Line::new(lines.alloc());
     match walk.spelling {
-        Spelling::Text => Ok(format!(in alloc; "line {line}, column {column}")?),
-        Spelling::Binary => Ok(format!(in alloc; "byte {byte}")?),
+        Spelling::Text => line.put("line {}, column {}", &place.words())?,
+        Spelling::Binary => line.put("byte {}", &[Word::Number(place.byte)])?,
     }
+    line.put(template, words)?;
+    lines.push(line.as_bytes())
 }
 
 // Adds a line for the last step that was read.
 fn push_step(lines: &mut Explanation, walk: &Walk) -> Result<(), Memory> {
-    let Step { number, spot, .. } = walk.step;
-    if number == 0 {
+    let step = &walk.step;
+    if step.number == 0 {
         return Ok(());
     }
-    let kind = if walk.step.is_deletion {
-        "deletes"
-    } else {
-        "adds"
+    let kind = if step.is_deletion { "deletes" } else { "adds" };
+    let (template, place) = match walk.spelling {
+        Spelling::Text => ("step {}, in line {}, {} the clause `{}`", step.place.line),
+        Spelling::Binary => ("step {}, at byte {}, {} the clause `{}`", step.place.byte),
     };
-    let Spot { byte, line, .. } = spot;
-    let shown = shortened(lines.alloc(), &walk.step.clause)?;
-    match walk.spelling {
-        Spelling::Text => {
-            lines.add(format_args!("step {number}, in line {line}, {kind} the clause `{shown}`"))
-        }
-        Spelling::Binary => {
-            lines.add(format_args!("step {number}, at byte {byte}, {kind} the clause `{shown}`"))
-        }
-    }
+    lines.add(
+        template,
+        &[
+            Word::Number(step.number),
+            Word::Number(place),
+            Word::Text(kind),
+            Word::Bytes(&step.clause),
+        ],
+    )
 }
 
 // The step that is refused may name a variable that the formula does not have. A proof may have such variables, but one
 // about another formula has them too.
-fn push_variables<R: Files + AllocGlobal>(
-    look: &mut Look<'_, R>,
-    about: ProofOf,
-    seen: &Seen,
+fn push_variables(
+    lines: &mut Explanation,
+    greatest: u64,
+    variables: Option<u64>,
 ) -> Result<(), Memory> {
-    let greatest = seen.walk.step.greatest;
-    if greatest == 0 || seen.known.is_some() {
-        return Ok(());
-    }
-    match variables_of(look, about) {
-        Some(variables) if variables < greatest => look.lines.add(format_args!(
-            "the formula has {variables} variables, and this step names variable {greatest}"
-        )),
+    match variables {
+        Some(variables) if variables < greatest => lines.add(
+            "the formula has {} variables, and this step names variable {}",
+            &[Word::Number(variables), Word::Number(greatest)],
+        ),
         _ => Ok(()),
     }
 }
 
-// How many variables the formula has.
-fn variables_of<R: Files + AllocGlobal>(look: &Look<'_, R>, about: ProofOf) -> Option<u64> {
-    let circuit = look.bytes(look.files.circuit).ok()?;
+// How many variables the formula has, if the step that is refused may name another one.
+fn variables_of<R: Files + AllocGlobal>(
+    look: &Look<'_, R>,
+    about: ProofOf,
+    fault: ProofFault,
+    seen: &Seen,
+) -> Option<u64> {
+    if !matches!(fault, ProofFault::Step { .. })
+        || seen.walk.step.greatest == 0
+        || seen.known.is_some()
+    {
+        return None;
+    }
+    match look.bytes(look.files.circuit) {
+        Ok(circuit) => variables_in(circuit.as_slice(), about, look.files.frames),
+        Err(_) => None,
+    }
+}
+
+fn variables_in(circuit: &[u8], about: ProofOf, frames: u32) -> Option<u64> {
     match about {
-        ProofOf::Runs => variables_within(circuit.as_slice(), look.files.frames),
-        ProofOf::Step => variables_of_step(circuit.as_slice(), look.files.frames),
+        ProofOf::Runs => variables_within(circuit, frames),
+        ProofOf::Step => variables_of_step(circuit, frames),
         // They are those of another circuit.
         ProofOf::Alive | ProofOf::Certificate => None,
     }
 }
 
-fn say_cause<R: Files + AllocGlobal>(
-    look: &mut Look<'_, R>,
+fn push_cause(
+    lines: &mut Explanation,
     about: ProofOf,
     fault: ProofFault,
     known: Option<Kind>,
 ) -> Result<(), Memory> {
     match (known, fault) {
-        (Some(known), _) => known.push(&mut look.lines, Part::Proof),
-        (None, ProofFault::Text { .. }) => look.say("have the solver write DRAT, to its end"),
-        (None, _) => {
-            look.say(formula_of(about))?;
-            match about {
-                ProofOf::Certificate => look.say(
-                    "or the certificate is wrong: give a solver's model to aig witness --certificate --model to see which claim fails",
-                ),
-                _ => Ok(()),
-            }
+        (Some(known), _) => return known.push(lines, Part::Proof),
+        (None, ProofFault::Text { .. }) => {
+            return lines.say("have the solver write DRAT, to its end");
         }
+        (None, _) => {}
+    }
+    lines.say(formula_of(about))?;
+    match about {
+        ProofOf::Certificate => lines.say(
+            "or the certificate is wrong: give a solver's model to aig witness --certificate --model to see which claim fails",
+        ),
+        _ => Ok(()),
     }
 }
 

@@ -1,7 +1,9 @@
 //! A walk through the bytes of a proof or a model, up to a step or to a byte. It keeps one step, and the first bytes of
 //! its clause.
 
-use crate::circuit::parts::SHOWN;
+use crate::circuit::place::Place;
+use crate::line::{Line, SHOWN, Word};
+use crate::text_lines::{is_blank, place_of};
 use aig_bytes::Memory;
 use std::alloc::Global;
 
@@ -17,18 +19,10 @@ pub enum Goal {
 }
 
 /// How a proof is spelled.
-#[derive(Clone, Copy, PartialEq, Eq)]
+#[derive(Clone, Copy)]
 pub enum Spelling {
     Text,
     Binary,
-}
-
-/// A place in a file: its byte, counted from 0, and its line and column, both counted from 1.
-#[derive(Clone, Copy)]
-pub struct Spot {
-    pub byte: u64,
-    pub line: u64,
-    pub column: u64,
 }
 
 /// A step of a proof, as far as it was read.
@@ -36,7 +30,7 @@ pub struct Spot {
 pub struct Step {
     /// 0 before the first step.
     pub number: u64,
-    pub spot: Spot,
+    pub place: Place,
     pub is_deletion: bool,
     /// The first bytes of its literals as text, one more than a line shows at most.
     pub clause: Vec<u8>,
@@ -52,11 +46,11 @@ pub struct Walk {
     goal: Goal,
     pub spelling: Spelling,
     /// The place of the next byte.
-    pub spot: Spot,
+    pub place: Place,
     is_comment: bool,
     /// The first bytes of the last word, or of the last number of the binary form.
     pub word: Vec<u8>,
-    pub word_spot: Spot,
+    pub word_place: Place,
     number: u64,
     power: u64,
     pub step: Step,
@@ -64,25 +58,14 @@ pub struct Walk {
     pub is_over: bool,
 }
 
-const FIRST: Spot = Spot {
-    byte: 0,
-    line: 1,
-    column: 1,
-};
-
 /// How the proof that begins with these bytes is spelled, as `aig_sat` tells it.
 pub fn spelling_of(bytes: &[u8]) -> Spelling {
     match bytes {
         [b'a', ..] => Spelling::Binary,
-        [b'd', b' ' | b'\t', ..] if !bytes.contains(&0) => Spelling::Text,
+        [b'd', b' ' | b'\t', ..] if place_of(bytes, 0).is_none() => Spelling::Text,
         [b'd', _, ..] => Spelling::Binary,
         _ => Spelling::Text,
     }
-}
-
-/// Whether the byte separates words.
-pub fn is_blank(byte: u8) -> bool {
-    matches!(byte, b' ' | b'\t' | b'\n')
 }
 
 /// The number that a word spells after its sign; 0 if it spells none.
@@ -109,23 +92,11 @@ fn push_some(text: &mut Vec<u8>, more: &[u8]) -> Result<(), Memory> {
     Ok(())
 }
 
-impl Spot {
-    fn pass(&mut self, byte: u8) {
-        self.byte = self.byte.saturating_add(1);
-        if byte == b'\n' {
-            self.line = self.line.saturating_add(1);
-            self.column = 1;
-        } else {
-            self.column = self.column.saturating_add(1);
-        }
-    }
-}
-
 impl Step {
     fn none(alloc: Global) -> Step {
         Step {
             number: 0,
-            spot: FIRST,
+            place: Place::FIRST,
             is_deletion: false,
             clause: Vec::new(alloc),
             greatest: 0,
@@ -133,9 +104,9 @@ impl Step {
         }
     }
 
-    fn begin(&mut self, spot: Spot, is_deletion: bool) {
+    fn begin(&mut self, place: Place, is_deletion: bool) {
         self.number = self.number.saturating_add(1);
-        self.spot = spot;
+        self.place = place;
         self.is_deletion = is_deletion;
         self.clause.clear();
         self.greatest = 0;
@@ -158,10 +129,10 @@ impl Walk {
             alloc,
             goal,
             spelling,
-            spot: FIRST,
+            place: Place::FIRST,
             is_comment: false,
             word: Vec::new(alloc),
-            word_spot: FIRST,
+            word_place: Place::FIRST,
             number: 0,
             power: 1,
             step: Step::none(alloc),
@@ -179,22 +150,22 @@ impl Walk {
                 Spelling::Text => self.pass_text(*byte)?,
                 Spelling::Binary => self.pass_binary(*byte)?,
             }
-            self.spot.pass(*byte);
+            self.place.pass(*byte);
         }
         Ok(())
     }
 
     /// The end of the file, which ends a word of a text.
     pub fn end(&mut self) -> Result<(), Memory> {
-        if self.is_over || self.spelling == Spelling::Binary {
-            return Ok(());
+        match self.spelling {
+            Spelling::Text if !self.is_over => self.end_word(),
+            Spelling::Text | Spelling::Binary => Ok(()),
         }
-        self.end_word()
     }
 
     /// Whether the word at the goal is the first one of its step.
     pub fn is_first_word(&self) -> bool {
-        self.is_over && self.step.spot.byte == self.word_spot.byte
+        self.is_over && self.step.place.byte == self.word_place.byte
     }
 
     fn pass_text(&mut self, byte: u8) -> Result<(), Memory> {
@@ -202,10 +173,10 @@ impl Walk {
             self.is_comment = byte != b'\n';
             return Ok(());
         }
-        if is_blank(byte) {
+        if is_blank(&byte) {
             return self.end_word();
         }
-        if byte == b'c' && self.spot.column == 1 {
+        if byte == b'c' && self.place.column == 1 {
             self.is_comment = true;
             return Ok(());
         }
@@ -214,7 +185,7 @@ impl Walk {
 
     fn grow_word(&mut self, byte: u8) -> Result<(), Memory> {
         if self.word.is_empty() {
-            self.word_spot = self.spot;
+            self.word_place = self.place;
         }
         push_some(&mut self.word, &[byte])
     }
@@ -223,25 +194,25 @@ impl Walk {
         if self.word.is_empty() {
             return Ok(());
         }
-        let is_deletion = self.word.as_slice() == b"d".as_slice();
+        let is_deletion = matches!(self.word.as_slice(), [b'd']);
         if !self.step.is_open {
-            self.step.begin(self.word_spot, is_deletion);
+            self.step.begin(self.word_place, is_deletion);
         }
-        if self.word.as_slice() == b"0".as_slice() {
+        if matches!(self.word.as_slice(), [b'0']) {
             self.end_step();
         } else if !is_deletion {
             let variable = number_of(&self.word);
             self.step.add(&self.word, variable)?;
         }
-        self.leave_word(self.spot.byte);
+        self.leave_word(self.place.byte);
         Ok(())
     }
 
     fn pass_binary(&mut self, byte: u8) -> Result<(), Memory> {
         self.grow_word(byte)?;
-        let next = self.spot.byte.saturating_add(1);
+        let next = self.place.byte.saturating_add(1);
         if !self.step.is_open {
-            self.step.begin(self.spot, byte == b'd');
+            self.step.begin(self.place, byte == b'd');
             self.leave_word(next);
             return Ok(());
         }
@@ -261,7 +232,8 @@ impl Walk {
         if self.number == 0 {
             self.end_step();
         } else {
-            let literal = format!(in self.alloc; "{sign}{variable}")?;
+            let mut literal = Line::new(self.alloc);
+            literal.put("{}{}", &[Word::Text(sign), Word::Number(variable)])?;
             self.step.add(literal.as_bytes(), variable)?;
         }
         self.number = 0;

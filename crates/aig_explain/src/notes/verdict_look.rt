@@ -1,8 +1,9 @@
 //! What `--explain` prints after a verdict: the property that it is about; and if a witness is of another property.
 
-use crate::circuit::parts::shortened;
 use crate::explanation::Explanation;
+use crate::line::Word;
 use crate::notes::look::Look;
+use crate::text_lines::line_of;
 use aig_base::{Circuit, Kind, Memory, PropertySection};
 use aig_files::Judged;
 use aig_names::position_of;
@@ -23,13 +24,10 @@ fn name_of_witness<R: Files + AllocGlobal>(look: &mut Look<'_, R>) -> Result<(),
     let Some(name) = look.files.run else {
         return Ok(());
     };
-    let Ok(witness) = look.bytes(name) else {
-        return Ok(());
-    };
-    // Its second line has the position of the property.
-    match witness.as_slice().split(|byte| *byte == b'\n').nth(1) {
-        Some(line) => name_property(look, line),
-        None => Ok(()),
+    match look.bytes(name) {
+        // Its second line has the position of the property.
+        Ok(witness) => name_property(look, line_of(witness.as_slice(), 2)),
+        Err(_) => Ok(()),
     }
 }
 
@@ -38,28 +36,32 @@ fn name_property<R: Files + AllocGlobal>(
     look: &mut Look<'_, R>,
     text: &[u8],
 ) -> Result<(), Memory> {
-    let Some(circuit) = circuit_of(look) else {
-        return Ok(());
-    };
-    let Ok(position) = position_of(&circuit, PropertySection::Bad, text) else {
-        return Ok(());
-    };
-    push_named(&mut look.lines, "property:", Some(&circuit), position)
+    match circuit_of(look) {
+        Some(circuit) => push_judged(&mut look.lines, &circuit, text),
+        None => Ok(()),
+    }
+}
+
+fn push_judged(lines: &mut Explanation, circuit: &Circuit, text: &[u8]) -> Result<(), Memory> {
+    match position_of(circuit, PropertySection::Bad, text) {
+        Ok(position) => push_named(lines, "property:", Some(circuit), position),
+        Err(_) => Ok(()),
+    }
 }
 
 /// The circuit, unless a second look does not show it.
 fn circuit_of<R: Files + AllocGlobal>(look: &Look<'_, R>) -> Option<Circuit> {
-    let Ok(file) = look.bytes(look.files.circuit) else {
-        return None;
-    };
-    read_circuit(look.rt.alloc(), file.as_slice()).ok()
+    match look.bytes(look.files.circuit) {
+        Ok(file) => read_circuit(look.rt.alloc(), file.as_slice()).ok(),
+        Err(_) => None,
+    }
 }
 
 /// Adds a line with a property: its position, and its name if the circuit is known and gives it one.
-fn push_named(
+fn push_named<'a>(
     lines: &mut Explanation,
-    before: &str,
-    circuit: Option<&Circuit>,
+    before: &'a str,
+    circuit: Option<&'a Circuit>,
     position: u32,
 ) -> Result<(), Memory> {
     let name = match circuit {
@@ -67,11 +69,11 @@ fn push_named(
         None => None,
     };
     match name {
-        Some(name) => {
-            let shown = shortened(lines.alloc(), name)?;
-            lines.add(format_args!("{before} b{position} {shown}"))
-        }
-        None => lines.add(format_args!("{before} b{position}")),
+        Some(name) => lines.add(
+            "{} b{} {}",
+            &[Word::Text(before), Word::Count(position), Word::Bytes(name)],
+        ),
+        None => lines.add("{} b{}", &[Word::Text(before), Word::Count(position)]),
     }
 }
 
@@ -84,15 +86,21 @@ pub fn explain_other<R: Files + AllocGlobal>(
     let Some(name) = look.files.run else {
         return Ok(());
     };
-    look.name(name)?;
+    look.lines.name(name)?;
     let circuit = circuit_of(look);
-    let lines = &mut look.lines;
-    push_named(
-        lines,
-        "line 2 names the bad state property",
-        circuit.as_ref(),
-        found,
-    )?;
-    push_named(lines, "--property names", circuit.as_ref(), asked)?;
-    lines.add(format_args!("aig check --property b{found} checks this witness"))
+    push_other(&mut look.lines, circuit.as_ref(), found, asked)
+}
+
+fn push_other(
+    lines: &mut Explanation,
+    circuit: Option<&Circuit>,
+    found: u32,
+    asked: u32,
+) -> Result<(), Memory> {
+    push_named(lines, "line 2 names the bad state property", circuit, found)?;
+    push_named(lines, "--property names", circuit, asked)?;
+    lines.add(
+        "aig check --property b{} checks this witness",
+        &[Word::Count(found)],
+    )
 }
