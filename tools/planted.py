@@ -83,7 +83,7 @@ WITHOUT = {
     "aig_prompt": "Table::new",
     "aig_sat": "Refutation::new Refutation::add_variables Refutation::delete",
     "aig_why": "Run::new",
-    "aig_terminal": "Shown::new Shown::flush Terminal::begin Terminal::runtime Terminal::write_some Tracked::new",
+    "aig_files": "Shown::new Shown::flush Terminal::begin Terminal::runtime Terminal::write_some Tracked::new",
     "aig_explain": "Explanation::new",
 }
 

@@ -1,6 +1,6 @@
 -- What a question's file asks, where some bytes were read of its certificate.
 use Rattle.std.proofs.Common.{List, ℕ, Result, Ok, Err, OnOk}
-use Rattle.aig_run.specs.declared.run_fault.RunFault.{RunFault}
+use Rattle.aig_command.specs.declared.run_fault.RunFault.{RunFault}
 
 -- what is said with the bytes that were read is said with some bytes
 pub some_claims : (r : Result (Unit {0}) RunFault) (P : List ℕ → Type 0) (claims : List ℕ) → OnOk r (P claims)

@@ -7,16 +7,16 @@ use Rattle.aig_parts.specs.declared.fault.Fault.TheVariants as circuits
 use Rattle.aig_parts.specs.declared.raw.Raw.{Raw}
 use Rattle.aig_sim.specs.declared.witness.verdict.Verdict.{Verdict}
 use Rattle.aig_sim.specs.declared.witness.verdict.Verdict.TheVariants.{Initial, Constraint, NotBad, Confirmed}
-use Rattle.aig_run.specs.Command.{CommandEnds, EndsReading, OfCircuit, OfFile, OfReader, Text}
-use Rattle.aig_run.specs.Flushed.{IsFlushed, flushes, fails}
-use Rattle.aig_run.specs.declared.run_fault.RunFault.{RunFault}
-use Rattle.aig_run.specs.declared.run_fault.RunFault.TheVariants as run_faults
+use Rattle.aig_command.specs.Command.{CommandEnds, EndsReading, OfCircuit, OfFile, OfReader, Text}
+use Rattle.aig_command.specs.Flushed.{IsFlushed, flushes, fails}
+use Rattle.aig_command.specs.declared.run_fault.RunFault.{RunFault}
+use Rattle.aig_command.specs.declared.run_fault.RunFault.TheVariants as run_faults
 use Rattle.aig_commands.specs.GoesWell.{GoesWell}
 use Rattle.aig_files.specs.declared.exit.Exit.{Exit}
 use Rattle.aig_files.specs.declared.exit.Exit.TheVariants as exits
 use Rattle.aig_files.specs.Known.{still_known}
-use Rattle.aig_terminal.specs.declared.part.Part.{Part}
-use Rattle.aig_terminal.specs.declared.part.Part.TheVariants as parts
+use Rattle.aig_files.specs.declared.part.Part.{Part}
+use Rattle.aig_files.specs.declared.part.Part.TheVariants as parts
 use Rattle.aig.specs.Ends.{Answers, AreConfirmed, ChecksWitness, Ends, EndsFlushed, ForSomeText, IsUnwritten, as_meant, end_of}
 use Rattle.aig.specs.Ends.{end_of_streamed, end_of_verdict, unread, writes}
 

@@ -1,8 +1,8 @@
 -- The file of a run that is given with a circuit.
 use Rattle.std.proofs.Common.{◌≡◌, ℕ, List, Option, None, Some, ap, sym, subst}
 use Rattle.std.specs.Prelude.{IfSome, option_map}
-use Rattle.aig_run.specs.declared.given.Given.{Given}
-use Rattle.aig_run.specs.declared.given.Given.TheVariants as given
+use Rattle.aig_command.specs.declared.given.Given.{Given}
+use Rattle.aig_command.specs.declared.given.Given.TheVariants as given
 use Rattle.aig.specs.GivenFiles.{given_left}
 
 -- what was read of a file is what it had left, in whatever it is kept

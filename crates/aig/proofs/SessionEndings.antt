@@ -3,9 +3,9 @@ use Rattle.std.proofs.Common.{◌⊎◌, inl, inr, ℕ, List, [], Result, Ok, Er
 use Rattle.std.specs.Prelude.{Bool}
 use Rattle.aig_bytes.specs.Flow.{Flow}
 use Rattle.aig_files.specs.declared.exit.Exit.{Exit}
-use Rattle.aig_run.specs.declared.given.Given.{Given}
-use Rattle.aig_run.specs.declared.run_fault.RunFault.{RunFault}
-use Rattle.aig_run.specs.declared.run_fault.RunFault.TheVariants as run_faults
+use Rattle.aig_command.specs.declared.given.Given.{Given}
+use Rattle.aig_command.specs.declared.run_fault.RunFault.{RunFault}
+use Rattle.aig_command.specs.declared.run_fault.RunFault.TheVariants as run_faults
 use Rattle.aig_shell.specs.Conversation.{EndsShell, Passes}
 use Rattle.aig.specs.Ends.{Answers, Ends, EndsFlushed, end_of, writes}
 use Rattle.aig.specs.Sessions.{HoldsSession}

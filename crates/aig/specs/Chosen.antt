@@ -5,8 +5,8 @@ use Rattle.std.specs.Option.{unwrap_or}
 use Rattle.clap.specs.Matches.{first_value, found_of}
 use Rattle.clap.specs.declared.parser.matches.ArgMatches.{ArgMatches}
 use Rattle.aig_base.specs.declared.select.PropertySection.TheVariants.{Bad}
-use Rattle.aig_names.specs.Property.{IsNumbered}
-use Rattle.aig_run.specs.Position.{IsPositionIn}
+use Rattle.aig_signals.specs.Property.{IsNumbered}
+use Rattle.aig_command.specs.Position.{IsPositionIn}
 use Rattle.aig_files.specs.Source.{source_remaining}
 use Rattle.aig_files.specs.declared.source.Source.{Source}
 use Rattle.aig_cli.specs.Held.{HoldsFlag, HoldsNumber}

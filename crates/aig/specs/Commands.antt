@@ -2,9 +2,9 @@
 -- Example: `refute` by `RefutesQuestion`, with its own K and P.
 use Rattle.std.specs.Prelude.{ℕ, List, Option, Some, Result, IfSome, OnOk, option_copied}
 use Rattle.aig_sim.specs.declared.stimulus.fault.StimFault.TheVariants as stimuli
-use Rattle.aig_run.specs.Command.{OfCircuit, OfFile}
-use Rattle.aig_run.specs.declared.run_fault.RunFault.TheVariants as run_faults
-use Rattle.aig_run.specs.declared.script_fault.ScriptFault.TheVariants as scripts
+use Rattle.aig_command.specs.Command.{OfCircuit, OfFile}
+use Rattle.aig_command.specs.declared.run_fault.RunFault.TheVariants as run_faults
+use Rattle.aig_command.specs.declared.script_fault.ScriptFault.TheVariants as scripts
 use Rattle.aig_script.specs.Bench.{LeavesBench}
 use Rattle.aig_commands.specs.GoesWell.{GoesWell}
 use Rattle.aig_commands.specs.Certified.{OfCertified}

@@ -9,14 +9,14 @@ use Rattle.aig_sim.specs.declared.witness.verdict.Verdict.TheVariants.{Initial, 
 use Rattle.aig_sim.specs.WitnessText.{IsWitnessOf}
 use Rattle.aig_base.specs.declared.select.PropertySection.{PropertySection}
 use Rattle.aig_format.specs.declared.reader.header.Format.{Format}
-use Rattle.aig_run.specs.Command.{IsFileOf, OfCircuit, Text}
-use Rattle.aig_run.specs.Flushed.{IsFlushed}
-use Rattle.aig_run.specs.declared.run_fault.RunFault.{RunFault}
-use Rattle.aig_run.specs.declared.run_fault.RunFault.TheVariants as run_faults
+use Rattle.aig_command.specs.Command.{IsFileOf, OfCircuit, Text}
+use Rattle.aig_command.specs.Flushed.{IsFlushed}
+use Rattle.aig_command.specs.declared.run_fault.RunFault.{RunFault}
+use Rattle.aig_command.specs.declared.run_fault.RunFault.TheVariants as run_faults
 use Rattle.aig_files.specs.declared.exit.Exit.{Exit}
 use Rattle.aig_files.specs.declared.exit.Exit.TheVariants as exits
-use Rattle.aig_terminal.specs.declared.part.Part.{Part}
-use Rattle.aig_terminal.specs.declared.part.Part.TheVariants as parts
+use Rattle.aig_files.specs.declared.part.Part.{Part}
+use Rattle.aig_files.specs.declared.part.Part.TheVariants as parts
 use Rattle.aig_commands.specs.Check.{Checks, ChecksAndTraces, OfProperty, ShowsVerdict}
 use Rattle.aig_commands.specs.Select.{SelectsNamed}
 use Rattle.aig_commands.specs.declared.select.NamedSelection.{NamedSelection}

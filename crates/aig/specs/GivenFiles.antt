@@ -2,10 +2,10 @@
 -- Example: that of a witness which has 5 bytes left gives these 5.
 use Rattle.std.specs.Prelude.{ℕ, List, Option, None, Some, option_map, ⊤}
 use Rattle.std.specs.Global.{Vec}
-use Rattle.aig_run.specs.declared.given.Given.{Given}
-use Rattle.aig_run.specs.declared.given.Given.TheVariants as given
-use Rattle.aig_terminal.specs.declared.part.Part.{Part}
-use Rattle.aig_terminal.specs.declared.part.Part.TheVariants as parts
+use Rattle.aig_command.specs.declared.given.Given.{Given}
+use Rattle.aig_command.specs.declared.given.Given.TheVariants as given
+use Rattle.aig_files.specs.declared.part.Part.{Part}
+use Rattle.aig_files.specs.declared.part.Part.TheVariants as parts
 
 -- the text that the open file has left, where it is known
 abbrev pub given_left : {F : Type 0} → (F → Option (List ℕ)) → Given F → Option (Given (List ℕ))

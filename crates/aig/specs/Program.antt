@@ -3,7 +3,7 @@
 -- well, and that its K is 20.
 use Rattle.std.specs.Prelude.{◌≡◌, ℕ, List, Option, Result, Ok, Err, IfOk, ⊤}
 use Rattle.clap.specs.declared.parser.matches.ArgMatches.{ArgMatches}
-use Rattle.aig_run.specs.declared.run_fault.RunFault.TheVariants as run_faults
+use Rattle.aig_command.specs.declared.run_fault.RunFault.TheVariants as run_faults
 use Rattle.aig_cli.specs.Held.{HoldsSubcommand}
 use Rattle.aig_files.specs.ExitStatus.{status_of_exit}
 use Rattle.aig_files.specs.Source.{source_remaining}

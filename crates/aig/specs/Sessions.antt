@@ -3,11 +3,11 @@
 use Rattle.std.specs.Prelude.{◌≡◌, ◌⊎◌, ℕ, List, [], Bool, Option, IfSome, Result, Ok, Err}
 use Rattle.aig_parts.specs.declared.raw.Raw.{Raw}
 use Rattle.aig_bench.specs.BenchState.{CircuitAndRows}
-use Rattle.aig_run.specs.Command.{IsFileOf}
-use Rattle.aig_run.specs.Given.{IsGiven, ReadRun}
-use Rattle.aig_run.specs.declared.given.Given.{Given}
-use Rattle.aig_run.specs.declared.run_fault.RunFault.{RunFault}
-use Rattle.aig_run.specs.declared.run_fault.RunFault.TheVariants as run_faults
+use Rattle.aig_command.specs.Command.{IsFileOf}
+use Rattle.aig_command.specs.Given.{IsGiven, ReadRun}
+use Rattle.aig_command.specs.declared.given.Given.{Given}
+use Rattle.aig_command.specs.declared.run_fault.RunFault.{RunFault}
+use Rattle.aig_command.specs.declared.run_fault.RunFault.TheVariants as run_faults
 use Rattle.aig_shell.specs.Conversation.{RefusesFiles, Talk}
 use Rattle.aig_shell.specs.Files.{Call}
 use Rattle.aig_shell.specs.Session.{BeginsAt, first_state}

@@ -4,9 +4,8 @@ ghost use Rattle.aig.specs.Program.{IsUnparsed};
 
 use aig_base::Memory;
 use aig_cli::{matches_of, odd_number, subcommand_of};
-use aig_files::Exit;
-use aig_run::RunFault;
-use aig_terminal::escaped;
+use aig_command::RunFault;
+use aig_files::{Exit, escaped};
 use clap::ArgMatches;
 use clap::error::ErrorKind;
 use std::alloc::Global;

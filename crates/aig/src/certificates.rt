@@ -6,11 +6,11 @@ ghost use Rattle.aig_commands.specs.declared.certified.Purpose.TheVariants as pu
 ghost use Rattle.aig.specs.Ends.{Ends, end_of};
 
 use crate::ended::ended;
+use aig_command::RunFault;
 use aig_commands::certified::Certified;
 use aig_commands::strengthen;
 use aig_files::{Exit, Part, output, read_whole};
 use aig_format::Format;
-use aig_run::RunFault;
 use std::io::Read;
 
 /// Writes a circuit that is strengthened by a certificate.

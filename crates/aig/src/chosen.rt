@@ -13,8 +13,7 @@ mod witnesses;
 
 use crate::command::Command;
 use aig_cli::subcommand_of;
-use aig_files::{Exit, Source};
-use aig_terminal::{Terminal, Tracked};
+use aig_files::{Exit, Source, Terminal, Tracked};
 use circuits::{open_info, open_select, open_toaig, open_unroll};
 use clap::ArgMatches;
 use runs::{open_bench, open_shell, open_sim, open_wave, open_why};

@@ -1,6 +1,6 @@
 //! The commands on a circuit alone: conversion, unrolling, selection, and facts about it.
 ghost use Rattle.std.specs.Prelude.{Some, IfSome, OnOk};
-ghost use Rattle.aig_run.specs.Command.{OfCircuit, OfFile};
+ghost use Rattle.aig_command.specs.Command.{OfCircuit, OfFile};
 ghost use Rattle.aig_commands.specs.GoesWell.{GoesWell};
 ghost use Rattle.aig_commands.specs.Info.{ListsFacts};
 ghost use Rattle.aig_commands.specs.Names.{ListsNames};
@@ -13,12 +13,11 @@ use crate::command::Selection;
 use crate::ended::{ended, streamed};
 use crate::kept::{begin_map, write_map};
 use aig_base::Std;
+use aig_command::{RunFault, flushed};
 use aig_commands::select::NamedSelection;
 use aig_commands::{convert_from, info, select, unroll};
-use aig_files::{Exit, Known, OutputFile, Part, output, read_whole};
+use aig_files::{Exit, Known, OutputFile, Part, Terminal, output, read_whole};
 use aig_format::Format;
-use aig_run::{RunFault, flushed};
-use aig_terminal::Terminal;
 use std::fs::{Files, Metadata};
 use std::io::Read;
 use std::os::fd::AsFd;

@@ -4,8 +4,8 @@ ghost use Rattle.aig_bytes.specs.Flow.{flow};
 ghost use Rattle.aig.specs.Ends.{EndsFlushed, IsUnwritten, end_of, end_of_streamed, end_of_verdict};
 
 use aig_base::{Fault, Write};
+use aig_command::{RunFault, flushed};
 use aig_files::{Exit, OUTPUT, Part, Unwritten};
-use aig_run::{RunFault, flushed};
 use aig_sim::Verdict;
 
 /// Without a fault it ends well. If the flush fails, it ends with `part`.

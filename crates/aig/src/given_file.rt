@@ -1,10 +1,10 @@
 //! The file of the run that is given with a circuit.
 ghost use Rattle.std.specs.Prelude.{◌≡◌, ◌↔◌, ◌⊎◌, IfErr, IfOk, IfSome, IsTrue};
-ghost use Rattle.aig_run.specs.Given.{given_text};
+ghost use Rattle.aig_command.specs.Given.{given_text};
 ghost use Rattle.aig.specs.GivenFiles.{given_items, given_left, given_part, IsWitness};
 
+use aig_command::{Given, RunFault};
 use aig_files::{Exit, Part, read_whole};
-use aig_run::{Given, RunFault};
 use std::alloc::Global;
 use std::io::Read;
 

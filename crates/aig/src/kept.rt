@@ -2,12 +2,11 @@
 
 use aig_base::{Buffered, Circuit, Std};
 use aig_bench::Bench;
+use aig_command::{RunFault, flushed};
 use aig_commands::unroll::unroll_map;
-use aig_files::{Kept, NewFile, OutputFile, Unwritten, find, open_pipe};
-use aig_run::{RunFault, flushed};
+use aig_files::{Kept, NewFile, OutputFile, Shown, Unwritten, find, open_pipe};
 use aig_script::{keep_circuit, keep_stimulus};
 use aig_sim::PlaneGrid;
-use aig_terminal::Shown;
 use std::fs::{Files, Metadata, OpenFile};
 use std::io::{self, ErrorKind};
 use std::os::fd::AsFd;

@@ -4,7 +4,7 @@ use crate::chosen::options::{kept_of, property_text};
 use aig_base::PropertySection;
 use aig_cli::{has_flag, number_of as number_in_option, number_or, subcommand_of, text_of};
 use aig_files::{Judged, RunFiles};
-use aig_names::number_of as number_in;
+use aig_signals::number_of as number_in;
 use clap::ArgMatches;
 
 /// Returns the stimulus, the witness, the model or the proof.

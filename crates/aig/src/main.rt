@@ -22,8 +22,7 @@ mod witnesses;
 
 use aig_cli::has_flag;
 use aig_explain::{explain, is_asked_for};
-use aig_files::{Exit, Source, reserve};
-use aig_terminal::{Terminal, Terminals, Tracked};
+use aig_files::{Exit, Source, Terminal, Terminals, Tracked, reserve};
 use arguments::{parsed, with_odd_number};
 use chosen::open_chosen;
 use clap::ArgMatches;

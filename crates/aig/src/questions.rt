@@ -2,9 +2,9 @@
 ghost use Rattle.std.specs.Prelude.{◌≡◌, ◌⊎◌, IfErr, IfOk, IfSome};
 ghost use Rattle.aig.specs.Questions.{claims_left};
 
+use aig_command::RunFault;
 use aig_commands::question::Question;
 use aig_files::{Exit, Part, read_whole};
-use aig_run::RunFault;
 use std::alloc::Global;
 use std::io::Read;
 

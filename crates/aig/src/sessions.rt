@@ -1,5 +1,5 @@
 //! `shell`: a session over the terminal of its user.
-ghost use Rattle.aig_run.specs.Given.{given_text};
+ghost use Rattle.aig_command.specs.Given.{given_text};
 ghost use Rattle.aig.specs.Ends.{Ends, end_of};
 ghost use Rattle.aig.specs.Sessions.{EndsSession, HoldsSession};
 
@@ -7,10 +7,9 @@ use crate::ended::ended;
 use crate::given_file::{read_given_file, text_of_given};
 use crate::kept::{Failure, keep_texts};
 use aig_base::Std;
-use aig_files::{Exit, Kept, Part, Unwritten, output, read_whole};
-use aig_run::{Given, RunFault};
+use aig_command::{Given, RunFault};
+use aig_files::{Exit, Kept, Part, Terminal, Unwritten, output, read_whole};
 use aig_shell::{FileText, Keep, Reason, Unkept, run_shell};
-use aig_terminal::Terminal;
 use std::fs::Files;
 use std::io::{ErrorKind, Read};
 use std::os::fd::AsFd;

@@ -1,7 +1,7 @@
 //! The commands on a circuit and a stimulus: traces, dumps and scripts.
 
 ghost use Rattle.std.specs.Prelude.{IfSome};
-ghost use Rattle.aig_run.specs.Command.{OfCircuit};
+ghost use Rattle.aig_command.specs.Command.{OfCircuit};
 ghost use Rattle.aig_script.specs.Bench.{LeavesBench};
 ghost use Rattle.aig_commands.specs.Sim.{WritesSimulation};
 ghost use Rattle.aig_commands.specs.Wave.{WritesWave};
@@ -10,12 +10,11 @@ ghost use Rattle.aig.specs.Ends.{Ends, ForSomeText, end_of};
 use crate::ended::{ended, written};
 use crate::kept::BenchFiles;
 use aig_base::Std;
+use aig_command::{RunFault, ScriptFault, flushed};
 use aig_commands::{sim, wave};
-use aig_files::{Exit, Kept, Part, output, read_whole};
-use aig_run::{RunFault, ScriptFault, flushed};
+use aig_files::{Exit, Kept, Part, Terminal, output, read_whole};
 use aig_script::bench;
 use aig_sim::StimFault;
-use aig_terminal::Terminal;
 use std::fs::Files;
 use std::io::Read;
 use std::os::fd::AsFd;

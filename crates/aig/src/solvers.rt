@@ -7,10 +7,10 @@ ghost use Rattle.aig.specs.Questions.{asked_by, claims_left};
 use crate::ended::ended;
 use crate::questions::read_claims;
 use aig_base::Std;
+use aig_command::RunFault;
 use aig_commands::question::Question;
 use aig_commands::{cnf, model_witness, refute};
 use aig_files::{Exit, Part, output, read_whole};
-use aig_run::RunFault;
 use std::io::Read;
 
 /// Writes the formula of a question.

@@ -1,14 +1,14 @@
 //! The command `why`.
 ghost use Rattle.std.specs.Prelude.{◌≡◌, IfSome, option_copied};
-ghost use Rattle.aig_run.specs.Command.{OfFile};
+ghost use Rattle.aig_command.specs.Command.{OfFile};
 ghost use Rattle.aig_why.specs.Why.{WritesWhy};
 ghost use Rattle.aig.specs.Ends.{Ends, end_of};
 ghost use Rattle.aig.specs.GivenFiles.{given_left};
 
 use crate::ended::ended;
 use crate::given_file::{read_given_file, text_of_given};
+use aig_command::{Given, RunFault};
 use aig_files::{Exit, Part, output, read_whole};
-use aig_run::{Given, RunFault};
 use aig_why::Span;
 use std::io::Read;
 

@@ -1,15 +1,15 @@
 //! The commands on a witness: its check, its reduction, the dump of its run, and how it is made of a stimulus.
 ghost use Rattle.std.specs.Prelude.{IfSome, OnOk};
-ghost use Rattle.aig_run.specs.Command.{OfFile};
+ghost use Rattle.aig_command.specs.Command.{OfFile};
 ghost use Rattle.aig_commands.specs.Reduce.{Reduces};
 ghost use Rattle.aig_commands.specs.Wave.{DumpsRun};
 ghost use Rattle.aig_commands.specs.Witness.{WritesWitness};
 ghost use Rattle.aig.specs.Ends.{AreConfirmed, ChecksWitness, Ends, end_of, end_of_verdict};
 
 use crate::ended::{confirmed, ended};
+use aig_command::RunFault;
 use aig_commands::{check, reduce, wave, witness};
 use aig_files::{Exit, Part, output, read_whole};
-use aig_run::RunFault;
 use std::io::Read;
 
 /// Writes the verdict on a witness, and before it the trace of its run if `with_trace`. If a property is asked for, a

@@ -1,8 +1,8 @@
 -- What a call for C asks, by its flag.
 use Rattle.std.proofs.Common.{◌≡◌, ℕ, List, Result, Err, refl, subst}
 use Rattle.std.specs.Prelude.{Bool, true, false}
-use Rattle.aig_run.specs.Command.{OfFile}
-use Rattle.aig_run.specs.declared.run_fault.RunFault.{RunFault}
+use Rattle.aig_command.specs.Command.{OfFile}
+use Rattle.aig_command.specs.declared.run_fault.RunFault.{RunFault}
 use Rattle.aig_commands.specs.Cnf.{WritesFormula}
 use Rattle.aig_commands.specs.ModelWitness.{WritesModel}
 use Rattle.aig_commands.specs.Questions.{Asked, NamesQuestion, WritesQuestion}

@@ -5,11 +5,11 @@ use Rattle.std.proofs.lemmas.List.{append-nil}
 use Rattle.aig_bytes.specs.Bytes.{before, after, IsAtEnd}
 use Rattle.aig_bytes.specs.Flow.{Flow, flow}
 use Rattle.aig_parts.specs.declared.raw.Raw.{Raw}
-use Rattle.aig_run.specs.Command.{CommandEnds, EndsReading, OfFile, OfReader, Text}
-use Rattle.aig_run.specs.Status.{status_of}
-use Rattle.aig_run.specs.declared.run_fault.RunFault.{RunFault}
-use Rattle.aig_run.specs.declared.run_fault.RunFault.TheVariants as run_faults
-use Rattle.aig_run.specs.declared.script_fault.ScriptFault.TheVariants as scripts
+use Rattle.aig_command.specs.Command.{CommandEnds, EndsReading, OfFile, OfReader, Text}
+use Rattle.aig_command.specs.Status.{status_of}
+use Rattle.aig_command.specs.declared.run_fault.RunFault.{RunFault}
+use Rattle.aig_command.specs.declared.run_fault.RunFault.TheVariants as run_faults
+use Rattle.aig_command.specs.declared.script_fault.ScriptFault.TheVariants as scripts
 use Rattle.aig_c.specs.Answers.{Refuses}
 
 same_bytes : (xs ys : List ℕ) → Some xs ≡ Some ys → xs ≡ ys

@@ -6,8 +6,8 @@ use Rattle.aig_cnf.specs.Query.{step, within}
 use Rattle.aig_cnf.specs.declared.query.Query.{Query}
 use Rattle.aig_format.specs.declared.reader.header.Format.{Format}
 use Rattle.aig_format.specs.declared.reader.header.Format.TheVariants.{Ascii, Binary}
-use Rattle.aig_run.specs.Status.{status_of}
-use Rattle.aig_run.specs.declared.run_fault.RunFault.{RunFault}
+use Rattle.aig_command.specs.Status.{status_of}
+use Rattle.aig_command.specs.declared.run_fault.RunFault.{RunFault}
 use Rattle.aig_sim.specs.declared.witness.verdict.Verdict.{Verdict}
 use Rattle.aig_sim.specs.declared.witness.verdict.Verdict.TheVariants.{Confirmed}
 

@@ -1,12 +1,12 @@
 //! What a call returns: its status, and a text in the caller's room.
 ghost use Rattle.std.specs.Prelude.{◌≡◌, ◌≢◌, ◌<◌, ◌≤◌, false, length, take, true};
-ghost use Rattle.aig_run.specs.Status.{status_of};
+ghost use Rattle.aig_command.specs.Status.{status_of};
 ghost use Rattle.aig_commands.specs.Questions.{asked_of};
 ghost use Rattle.aig_c.specs.Answers.{format_of, is_confirmed};
 
+use aig_command::{RunFault, ScriptFault};
 use aig_commands::question::Question;
 use aig_format::Format;
-use aig_run::{RunFault, ScriptFault};
 use aig_sim::Verdict;
 use std::alloc::Global;
 

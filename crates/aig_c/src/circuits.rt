@@ -1,6 +1,6 @@
 //! Circuits: conversion, facts and names, unrolled and strengthened circuits.
 ghost use Rattle.std.specs.Prelude.{◌≡◌, ◌<◌, ◌≤◌, Ok, Some, length, take};
-ghost use Rattle.aig_run.specs.Command.{OfFile};
+ghost use Rattle.aig_command.specs.Command.{OfFile};
 ghost use Rattle.aig_commands.specs.Certified.{OfCertified};
 ghost use Rattle.aig_commands.specs.Info.{ListsFacts};
 ghost use Rattle.aig_commands.specs.Names.{ListsNames};

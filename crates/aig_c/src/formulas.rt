@@ -1,7 +1,7 @@
 //! Formulas for SAT solvers, and the witnesses that their models name.
 ghost use Rattle.std.specs.Prelude.{◌≡◌, ◌<◌, ◌≤◌, Ok, length, take};
 ghost use Rattle.aig_cnf.specs.Query.{induction};
-ghost use Rattle.aig_run.specs.Command.{OfFile};
+ghost use Rattle.aig_command.specs.Command.{OfFile};
 ghost use Rattle.aig_commands.specs.Alive.{WritesAlive};
 ghost use Rattle.aig_commands.specs.Certified.{OfCertified};
 ghost use Rattle.aig_commands.specs.Cnf.{WritesCertified, WritesFormula};

@@ -1,6 +1,6 @@
 //! Refutations: what a SAT solver's proofs say of a circuit.
 ghost use Rattle.std.specs.Prelude.{◌≡◌, ◌<◌, ◌≤◌, Ok, length, take};
-ghost use Rattle.aig_run.specs.Command.{OfFile};
+ghost use Rattle.aig_command.specs.Command.{OfFile};
 ghost use Rattle.aig_commands.specs.Alive.{IsFileWithoutRun, RefutesAlive};
 ghost use Rattle.aig_commands.specs.Certified.{OfCertified};
 ghost use Rattle.aig_commands.specs.Questions.{RefutesQuestion, Says, asked_of};

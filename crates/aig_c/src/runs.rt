@@ -1,6 +1,6 @@
 //! Runs: verdicts on witnesses, witnesses, waves and scripts.
 ghost use Rattle.std.specs.Prelude.{◌≡◌, ◌≢◌, ◌<◌, ◌≤◌, Ok, Some, length, take};
-ghost use Rattle.aig_run.specs.Command.{OfFile, Text};
+ghost use Rattle.aig_command.specs.Command.{OfFile, Text};
 ghost use Rattle.aig_sim.specs.declared.witness.verdict.Verdict.{Verdict};
 ghost use Rattle.aig_script.specs.Bench.{RunsScript};
 ghost use Rattle.aig_commands.specs.Check.{Checks};

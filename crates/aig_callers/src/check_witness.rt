@@ -1,13 +1,13 @@
 //! Checks a witness of a circuit file, and says by its contract what the answer means.
 
 ghost use Rattle.std.specs.Prelude.{◌≡◌, ℕ, List, Ok, true};
-ghost use Rattle.aig_run.specs.Command.{OfFile};
+ghost use Rattle.aig_command.specs.Command.{OfFile};
 ghost use Rattle.aig_sim.specs.declared.witness.verdict.Verdict.{Verdict};
 ghost use Rattle.aig_commands.specs.Check.{Checks};
 
 use aig_base::MemWriter;
+use aig_command::RunFault;
 use aig_commands::check_bytes;
-use aig_run::RunFault;
 use aig_sim::Verdict;
 use std::alloc::Global;
 use std::io;

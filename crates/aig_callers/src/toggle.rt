@@ -2,7 +2,7 @@
 
 use aig_base::{Lit, Tern};
 use aig_bench::{Bench, EditFault};
-use aig_run::{RunFault, read_circuit, read_rows};
+use aig_command::{RunFault, read_circuit, read_rows};
 use aig_sim::PlaneGrid;
 use std::alloc::Global;
 use std::io;

@@ -1,8 +1,8 @@
 //! Unrolls a circuit for three frames, and writes it as text.
 
 use aig_base::{Circuit, Levels, Std};
+use aig_command::{RunFault, as_output, read_circuit};
 use aig_format::write_ascii;
-use aig_run::{RunFault, as_output, read_circuit};
 use aig_unroll::unroll;
 use std::alloc::Global;
 use std::io;

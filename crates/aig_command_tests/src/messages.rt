@@ -3,7 +3,7 @@ use aig_base::{Fault, Io, Kind, Memory, SelectFault, WouldCycle};
 use aig_bench::BenchFault;
 use aig_certificate::StrengthenFault;
 use aig_cnf::CnfFault;
-use aig_run::{RunFault, ScriptFault};
+use aig_command::{RunFault, ScriptFault};
 use aig_sat::{ModelFault, ProofFault};
 use aig_sim::{ReachFault, StimFault, WitnessFault};
 use aig_unroll::UnrollFault;

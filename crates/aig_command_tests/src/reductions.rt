@@ -1,7 +1,7 @@
 //! Reductions of witnesses from bytes to bytes.
 use crate::files::writes;
+use aig_command::RunFault;
 use aig_commands::reduce::reduce;
-use aig_run::RunFault;
 use aig_sim::Verdict;
 
 // Its input is bad.

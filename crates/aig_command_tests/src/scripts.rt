@@ -1,7 +1,7 @@
 //! Scripts and their replies.
 use crate::files::{TWO_GATES, writes};
 use aig_base::{MemReader, MemWriter};
-use aig_run::{RunFault, ScriptFault};
+use aig_command::{RunFault, ScriptFault};
 use aig_script::run_bench;
 use aig_sim::ByteGrid;
 use std::alloc::Global;

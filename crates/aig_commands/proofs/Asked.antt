@@ -6,11 +6,11 @@ use Rattle.aig_bytes.specs.Flow.{Flow, flow}
 use Rattle.aig_sim.specs.declared.witness.fault.WitnessFault.{WitnessFault}
 use Rattle.aig_sim.specs.declared.witness.verdict.Verdict.{Verdict}
 use Rattle.aig_sim.specs.WitnessText.{IsWitnessOf, HasWitnessFault}
-use Rattle.aig_run.specs.Command.{CommandEnds, IsFileOf, OfFile}
-use Rattle.aig_run.specs.declared.run_fault.RunFault.{RunFault}
-use Rattle.aig_run.specs.declared.run_fault.RunFault.TheVariants as run_faults
-use Rattle.aig_run.proofs.Files.{MeansNoFault, ends_of_file}
-use Rattle.aig_run.proofs.Written.{ends_map, got_none}
+use Rattle.aig_command.specs.Command.{CommandEnds, IsFileOf, OfFile}
+use Rattle.aig_command.specs.declared.run_fault.RunFault.{RunFault}
+use Rattle.aig_command.specs.declared.run_fault.RunFault.TheVariants as run_faults
+use Rattle.aig_command.proofs.Files.{MeansNoFault, ends_of_file}
+use Rattle.aig_command.proofs.Written.{ends_map, got_none}
 use Rattle.aig_commands.specs.Check.{Checks, ChecksAndTraces, OfProperty}
 use Rattle.aig_commands.specs.state.Asked.{RefusesAsked}
 

@@ -6,11 +6,11 @@ use Rattle.aig_bytes.specs.Flow.{Flow, flow}
 use Rattle.aig_parts.specs.declared.raw.Raw.{Raw}
 use Rattle.aig_base.specs.Circuit.{IsCircuit}
 use Rattle.aig_refute.proofs.ExtensionLemmas.{unreachable_of_extension}
-use Rattle.aig_run.specs.Command.{CommandEnds}
-use Rattle.aig_run.specs.declared.run_fault.RunFault.{RunFault}
-use Rattle.aig_run.specs.declared.run_fault.RunFault.TheVariants as run_faults
-use Rattle.aig_run.proofs.Files.{answered}
-use Rattle.aig_run.proofs.Written.{ends_map, got_none}
+use Rattle.aig_command.specs.Command.{CommandEnds}
+use Rattle.aig_command.specs.declared.run_fault.RunFault.{RunFault}
+use Rattle.aig_command.specs.declared.run_fault.RunFault.TheVariants as run_faults
+use Rattle.aig_command.proofs.Files.{answered}
+use Rattle.aig_command.proofs.Written.{ends_map, got_none}
 use Rattle.aig_commands.specs.Certified.{IsCertified, OfCertified, RefusesCertified}
 use Rattle.aig_commands.specs.Refute.{ChecksInduction, IsFileNeverReached}
 use Rattle.aig_commands.specs.declared.certified.Purpose.{Purpose}

@@ -4,9 +4,9 @@ use Rattle.aig_parts.specs.declared.raw.Raw.{Raw}
 use Rattle.aig_base.specs.Circuit.{IsCircuit}
 use Rattle.aig_bytes.specs.Flow.{Flow}
 use Rattle.aig_format.specs.FileReading.{Raises}
-use Rattle.aig_run.specs.declared.run_fault.RunFault.{RunFault}
-use Rattle.aig_run.specs.Command.{IsFileOf, OfFile, OfReader}
-use Rattle.aig_run.proofs.Files.{MeansNoFault, Answers, of_reader}
+use Rattle.aig_command.specs.declared.run_fault.RunFault.{RunFault}
+use Rattle.aig_command.specs.Command.{IsFileOf, OfFile, OfReader}
+use Rattle.aig_command.proofs.Files.{MeansNoFault, Answers, of_reader}
 use Rattle.aig_commands.specs.GoesWell.{GoesWell}
 
 module _ {T : Type 0} (Means : Raw → Result T RunFault → List ℕ → Type 0) (raw : Raw) where

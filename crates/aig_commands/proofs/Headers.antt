@@ -15,8 +15,8 @@ use Rattle.aig_sim.specs.declared.stimulus.fault.StimFault.TheVariants as stimul
 use Rattle.aig_sim.specs.Dump.{closing}
 use Rattle.aig_sim.specs.DumpHeader.{header}
 use Rattle.aig_sim.proofs.SimulationLemmas.{before_nil}
-use Rattle.aig_run.specs.Command.{IsFileOf}
-use Rattle.aig_run.proofs.Files.{Answers}
+use Rattle.aig_command.specs.Command.{IsFileOf}
+use Rattle.aig_command.proofs.Files.{Answers}
 use Rattle.aig_commands.specs.Wave.{HeaderFirst}
 use Rattle.aig_commands.proofs.Runs.{Dumped}
 

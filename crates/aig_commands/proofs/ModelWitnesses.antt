@@ -12,8 +12,8 @@ use Rattle.aig_unroll.specs.Unrolled.{unrolled}
 use Rattle.aig_sat.specs.model.ModelText.{HasStatus, IsModelOf, IsUnknown, IsUnsatisfiable}
 use Rattle.aig_sat.specs.declared.model.fault.ModelFault.{ModelFault}
 use Rattle.aig_sat.specs.declared.model.fault.ModelFault.TheVariants as models
-use Rattle.aig_run.specs.declared.run_fault.RunFault.{RunFault}
-use Rattle.aig_run.specs.declared.run_fault.RunFault.TheVariants as run_faults
+use Rattle.aig_command.specs.declared.run_fault.RunFault.{RunFault}
+use Rattle.aig_command.specs.declared.run_fault.RunFault.TheVariants as run_faults
 use Rattle.aig_commands.specs.ModelWitness.{RefusesModel, WritesModel, names}
 
 pub model_refused : {T : Type 0} (variables : ℕ) (model : List ℕ) (r : Result T ModelFault)

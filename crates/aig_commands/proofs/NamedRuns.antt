@@ -18,7 +18,7 @@ use Rattle.aig_refute.specs.UnrolledWitness.{cut, filled, rows_in, start_in}
 use Rattle.aig_sim.specs.Reached.{ReachesNone}
 use Rattle.aig_sim.specs.declared.witness.reach_fault.ReachFault.{ReachFault}
 use Rattle.aig_sim.specs.declared.witness.reach_fault.ReachFault.TheVariants as reaches
-use Rattle.aig_run.specs.declared.run_fault.RunFault.TheVariants as run_faults
+use Rattle.aig_command.specs.declared.run_fault.RunFault.TheVariants as run_faults
 use Rattle.aig_unroll.specs.FrameLiteral.{input_count, is_uninitialised}
 use Rattle.aig_commands.specs.ModelWitness.{WritesNamed}
 

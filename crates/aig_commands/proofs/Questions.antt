@@ -21,11 +21,11 @@ use Rattle.aig_cnf.specs.declared.query.Query.{Query}
 use Rattle.aig_refute.proofs.NoRuns.{no_run}
 use Rattle.aig_refute.proofs.OneFormula.{by_one_formula}
 use Rattle.aig_refute.proofs.UnreachableLemmas.{unreachable_within}
-use Rattle.aig_run.specs.Command.{CommandEnds, OfFile}
-use Rattle.aig_run.specs.declared.run_fault.RunFault.{RunFault}
-use Rattle.aig_run.specs.declared.run_fault.RunFault.TheVariants as run_faults
-use Rattle.aig_run.proofs.Files.{MeansNoFault, answered, of_file}
-use Rattle.aig_run.proofs.Written.{ends_map, got_none}
+use Rattle.aig_command.specs.Command.{CommandEnds, OfFile}
+use Rattle.aig_command.specs.declared.run_fault.RunFault.{RunFault}
+use Rattle.aig_command.specs.declared.run_fault.RunFault.TheVariants as run_faults
+use Rattle.aig_command.proofs.Files.{MeansNoFault, answered, of_file}
+use Rattle.aig_command.proofs.Written.{ends_map, got_none}
 use Rattle.aig_sat.specs.declared.proof.fault.ProofFault.{ProofFault}
 use Rattle.aig_commands.specs.Certified.{IsCertified, RefusesCertified, apart, no_certificate, no_circuit, strengthening_fault}
 use Rattle.aig_commands.specs.Questions.{Asked, ChecksFor, NamesFor, OfSubject, RefutesFor, RefutesQuestion, Says, WritesFor}

@@ -5,8 +5,8 @@ use Rattle.aig_parts.specs.declared.raw.Raw.{Raw}
 use Rattle.aig_bytes.specs.Bytes.{after, IsBeginning, Writes}
 use Rattle.aig_bytes.proofs.WriteLemmas.{after-append}
 use Rattle.aig_sim.specs.declared.witness.verdict.Verdict.{Verdict}
-use Rattle.aig_run.specs.declared.run_fault.RunFault.{RunFault}
-use Rattle.aig_run.specs.declared.run_fault.RunFault.TheVariants as run_faults
+use Rattle.aig_command.specs.declared.run_fault.RunFault.{RunFault}
+use Rattle.aig_command.specs.declared.run_fault.RunFault.TheVariants as run_faults
 use Rattle.aig_sim.specs.declared.witness.verdict.Verdict.TheVariants.{Confirmed}
 use Rattle.aig_sim.specs.Verdict.{IsVerdict, IsConfirmed}
 use Rattle.aig_sim.specs.WitnessText.{Witness, SpellsWitness, IsAdmitted}

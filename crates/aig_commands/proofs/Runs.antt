@@ -18,10 +18,10 @@ use Rattle.aig_sim.specs.Dumped as dumped
 use Rattle.aig_sim.specs.Simulated as simulated
 use Rattle.aig_sim.specs.Simulated.{Streams, BeginsWithRows, NoneFailed, OneReadFailed, OneWriteFailed}
 use Rattle.aig_sim.specs.StimulusText.{row_line, HoldsRows, SpellsRows}
-use Rattle.aig_run.specs.declared.run_fault.RunFault.{RunFault}
-use Rattle.aig_run.specs.declared.run_fault.RunFault.TheVariants as run_faults
-use Rattle.aig_run.specs.Command.{Got, BreaksOff, Text, Gave, WritesAll, EndsReading}
-use Rattle.aig_run.proofs.Written.{gave_part, gave_whole}
+use Rattle.aig_command.specs.declared.run_fault.RunFault.{RunFault}
+use Rattle.aig_command.specs.declared.run_fault.RunFault.TheVariants as run_faults
+use Rattle.aig_command.specs.Command.{Got, BreaksOff, Text, Gave, WritesAll, EndsReading}
+use Rattle.aig_command.proofs.Written.{gave_part, gave_whole}
 use Rattle.aig_commands.specs.Sim.{AreRowsOf, WritesSimulation}
 use Rattle.aig_commands.specs.Wave.{WritesWave, dump_text}
 

@@ -4,8 +4,8 @@ use Rattle.aig_parts.specs.declared.raw.Raw.{Raw}
 use Rattle.aig_base.specs.declared.select.PropertySection.{PropertySection}
 use Rattle.aig_base.specs.Selected.{selected, CanSelect}
 use Rattle.aig_format.specs.declared.reader.header.Format.{Format}
-use Rattle.aig_run.specs.declared.run_fault.RunFault.{RunFault}
-use Rattle.aig_run.specs.declared.run_fault.RunFault.TheVariants as run_faults
+use Rattle.aig_command.specs.declared.run_fault.RunFault.{RunFault}
+use Rattle.aig_command.specs.declared.run_fault.RunFault.TheVariants as run_faults
 use Rattle.aig_commands.specs.Toaig.{Converts}
 use Rattle.aig_commands.specs.Select.{Selects, SelectsNamed}
 use Rattle.aig_commands.specs.declared.select.NamedSelection.{NamedSelection}

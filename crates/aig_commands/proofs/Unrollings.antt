@@ -3,10 +3,10 @@ use Rattle.std.proofs.Common.{◌≡◌, ℕ, List, Result, Ok, Err, refl}
 use Rattle.aig_parts.specs.declared.raw.Raw.{Raw}
 use Rattle.aig_bytes.specs.Flow.{Flow}
 use Rattle.aig_format.specs.declared.reader.header.Format.{Format}
-use Rattle.aig_run.specs.declared.run_fault.RunFault.{RunFault}
-use Rattle.aig_run.specs.declared.run_fault.RunFault.TheVariants as run_faults
-use Rattle.aig_run.specs.Command.{CommandEnds}
-use Rattle.aig_run.proofs.Written.{through, keeps_through, ends_changed}
+use Rattle.aig_command.specs.declared.run_fault.RunFault.{RunFault}
+use Rattle.aig_command.specs.declared.run_fault.RunFault.TheVariants as run_faults
+use Rattle.aig_command.specs.Command.{CommandEnds}
+use Rattle.aig_command.proofs.Written.{through, keeps_through, ends_changed}
 use Rattle.aig_commands.specs.Unroll.{Unrolls, UnrollsKept}
 
 module _ {X : Type 0} (out : Flow X) (k : ℕ) (to : Format) (raw : Raw) where

@@ -8,7 +8,7 @@ use Rattle.aig_parts.specs.declared.raw.Raw.{Raw}
 use Rattle.aig_parts.specs.declared.ternary.Tern.{Tern}
 use Rattle.aig_base.specs.Value.{start_of, reset_value}
 use Rattle.aig_values.specs.InputRows.{HaveWidth}
-use Rattle.aig_run.specs.declared.run_fault.RunFault.TheVariants as run_faults
+use Rattle.aig_command.specs.declared.run_fault.RunFault.TheVariants as run_faults
 use Rattle.aig_sim.specs.Reached.{IsFirstReached, ReachesNone}
 use Rattle.aig_sim.specs.StimulusText.{SpellsRows}
 use Rattle.aig_sim.specs.WitnessText.{IsDecimal, witness_text}

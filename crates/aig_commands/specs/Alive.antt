@@ -8,9 +8,9 @@ use Rattle.aig_cnf.specs.Formula.{Cnf}
 use Rattle.aig_cnf.specs.declared.heading.Heading.TheVariants.{Alive}
 use Rattle.aig_cnf.specs.declared.query.Goal.TheVariants as goals
 use Rattle.aig_refute.specs.Unreachable.{HasNoRun}
-use Rattle.aig_run.specs.Command.{IsFileOf}
-use Rattle.aig_run.specs.declared.run_fault.RunFault.{RunFault}
-use Rattle.aig_run.specs.declared.run_fault.RunFault.TheVariants as run_faults
+use Rattle.aig_command.specs.Command.{IsFileOf}
+use Rattle.aig_command.specs.declared.run_fault.RunFault.{RunFault}
+use Rattle.aig_command.specs.declared.run_fault.RunFault.TheVariants as run_faults
 use Rattle.aig_commands.specs.Refute.{answer_line, answer_text}
 
 -- the bytes are the text of the formula that a run keeps all constraints at k frames, with the circuit's own names

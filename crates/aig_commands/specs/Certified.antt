@@ -10,9 +10,9 @@ use Rattle.aig_certificate.specs.Answers.{RefusesStrengthening}
 use Rattle.aig_certificate.specs.Strengthened.{IsStrengthened}
 use Rattle.aig_certificate.specs.declared.fault.StrengthenFault.{StrengthenFault}
 use Rattle.aig_certificate.specs.declared.fault.StrengthenFault.TheVariants as faults
-use Rattle.aig_run.specs.Command.{IsFileOf, RefusesCircuit}
-use Rattle.aig_run.specs.declared.run_fault.RunFault.{RunFault}
-use Rattle.aig_run.specs.declared.run_fault.RunFault.TheVariants as run_faults
+use Rattle.aig_command.specs.Command.{IsFileOf, RefusesCircuit}
+use Rattle.aig_command.specs.declared.run_fault.RunFault.{RunFault}
+use Rattle.aig_command.specs.declared.run_fault.RunFault.TheVariants as run_faults
 use Rattle.aig_commands.specs.declared.certified.Purpose.{Purpose}
 use Rattle.aig_commands.specs.declared.certified.Purpose.TheVariants.{Circuit, Formula}
 

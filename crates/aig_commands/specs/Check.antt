@@ -10,8 +10,8 @@ use Rattle.aig_sim.specs.Replayed.{ReportsRun}
 use Rattle.aig_sim.specs.Verdict.{IsVerdict, IsConfirmed}
 use Rattle.aig_sim.specs.WitnessText.{Witness, SpellsWitness, IsAdmitted, IsWitnessOf, HasWitnessFault}
 use Rattle.aig_values.specs.Trace.{IsTrace}
-use Rattle.aig_run.specs.declared.run_fault.RunFault.{RunFault}
-use Rattle.aig_run.specs.declared.run_fault.RunFault.TheVariants as run_faults
+use Rattle.aig_command.specs.declared.run_fault.RunFault.{RunFault}
+use Rattle.aig_command.specs.declared.run_fault.RunFault.TheVariants as run_faults
 
 -- a verdict's line
 abbrev pub verdict_text : Verdict → List ℕ

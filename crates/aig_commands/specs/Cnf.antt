@@ -10,8 +10,8 @@ use Rattle.aig_cnf.specs.Query.{induction, subject}
 use Rattle.aig_cnf.specs.declared.heading.Heading.{Heading}
 use Rattle.aig_cnf.specs.declared.heading.Heading.TheVariants.{Certified, Runs}
 use Rattle.aig_cnf.specs.declared.query.Query.{Query}
-use Rattle.aig_run.specs.declared.run_fault.RunFault.{RunFault}
-use Rattle.aig_run.specs.declared.run_fault.RunFault.TheVariants as run_faults
+use Rattle.aig_command.specs.declared.run_fault.RunFault.{RunFault}
+use Rattle.aig_command.specs.declared.run_fault.RunFault.TheVariants as run_faults
 
 -- the bytes are the text of the formula, with comment lines about the circuit that is unrolled for it
 abbrev pub IsFormulaText : Heading → Raw → Query → List ℕ → Type 0

@@ -13,8 +13,8 @@ use Rattle.aig_sat.specs.declared.model.fault.ModelFault.TheVariants as models
 use Rattle.aig_refute.specs.PartialModels.{named_rows, named_start}
 use Rattle.aig_sim.specs.Reached.{ReachesNone}
 use Rattle.aig_sim.specs.declared.witness.reach_fault.ReachFault.TheVariants as reaches
-use Rattle.aig_run.specs.declared.run_fault.RunFault.{RunFault}
-use Rattle.aig_run.specs.declared.run_fault.RunFault.TheVariants as run_faults
+use Rattle.aig_command.specs.declared.run_fault.RunFault.{RunFault}
+use Rattle.aig_command.specs.declared.run_fault.RunFault.TheVariants as run_faults
 use Rattle.aig_unroll.specs.FrameLiteral.{frame_size, input_count}
 use Rattle.aig_commands.specs.Witness.{SpellsFirst}
 

@@ -9,7 +9,7 @@ use Rattle.aig_parts.specs.declared.symbols.Kind.TheVariants as kinds
 use Rattle.aig_parts.specs.Letters.{letter}
 use Rattle.aig_format.specs.Spelling.{Entry}
 use Rattle.aig_unroll.specs.InputMap.{is_same, map_field, symbol_name_at}
-use Rattle.aig_run.specs.declared.run_fault.RunFault.{RunFault}
+use Rattle.aig_command.specs.declared.run_fault.RunFault.{RunFault}
 
 -- the line of the entry at position p of a section: its letter, its position, its literal as it is shown, and its name,
 -- empty where it has none

@@ -9,9 +9,9 @@ use Rattle.aig_cnf.specs.declared.fault.CnfFault.TheVariants as formulas
 use Rattle.aig_cnf.specs.declared.heading.Heading.{Heading}
 use Rattle.aig_cnf.specs.declared.heading.Heading.TheVariants.{Runs, Alive, Certified}
 use Rattle.aig_cnf.specs.declared.query.Query.{Query}
-use Rattle.aig_run.specs.Command.{OfFile}
-use Rattle.aig_run.specs.declared.run_fault.RunFault.{RunFault}
-use Rattle.aig_run.specs.declared.run_fault.RunFault.TheVariants as run_faults
+use Rattle.aig_command.specs.Command.{OfFile}
+use Rattle.aig_command.specs.declared.run_fault.RunFault.{RunFault}
+use Rattle.aig_command.specs.declared.run_fault.RunFault.TheVariants as run_faults
 use Rattle.aig_commands.specs.Alive.{ChecksAlive, IsFileWithoutRun, RefutesAlive, WritesAlive}
 use Rattle.aig_commands.specs.Certified.{OfCertified}
 use Rattle.aig_commands.specs.Cnf.{WritesCertified, WritesFormula}

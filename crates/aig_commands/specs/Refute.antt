@@ -12,9 +12,9 @@ use Rattle.aig_cnf.specs.declared.query.Goal.TheVariants as goals
 use Rattle.aig_sat.specs.declared.proof.fault.ProofFault.{ProofFault}
 use Rattle.aig_refute.specs.Checked.{check_reads_failed}
 use Rattle.aig_refute.specs.Unreachable.{IsUnreachable, IsUnreachableWithin}
-use Rattle.aig_run.specs.declared.run_fault.RunFault.{RunFault}
-use Rattle.aig_run.specs.declared.run_fault.RunFault.TheVariants as run_faults
-use Rattle.aig_run.specs.Command.{IsFileOf}
+use Rattle.aig_command.specs.declared.run_fault.RunFault.{RunFault}
+use Rattle.aig_command.specs.declared.run_fault.RunFault.TheVariants as run_faults
+use Rattle.aig_command.specs.Command.{IsFileOf}
 
 -- What the check of a proof about the formula of a query shows of a circuit, where it is one; or there is no formula,
 -- or the proof is refused.

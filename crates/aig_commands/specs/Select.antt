@@ -5,9 +5,9 @@ use Rattle.aig_parts.specs.declared.raw.Raw.{Raw}
 use Rattle.aig_base.specs.declared.select.PropertySection.{PropertySection}
 use Rattle.aig_base.specs.Selected.{selected, CanSelect, RefusesSelection}
 use Rattle.aig_format.specs.declared.reader.header.Format.{Format}
-use Rattle.aig_names.specs.Named.{IsNamed, RefusesNames}
-use Rattle.aig_run.specs.declared.run_fault.RunFault.{RunFault}
-use Rattle.aig_run.specs.declared.run_fault.RunFault.TheVariants as run_faults
+use Rattle.aig_signals.specs.Named.{IsNamed, RefusesNames}
+use Rattle.aig_command.specs.declared.run_fault.RunFault.{RunFault}
+use Rattle.aig_command.specs.declared.run_fault.RunFault.TheVariants as run_faults
 use Rattle.aig_commands.specs.Toaig.{Converts}
 use Rattle.aig_commands.specs.declared.select.NamedSelection.{NamedSelection}
 

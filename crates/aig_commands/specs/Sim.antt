@@ -7,9 +7,9 @@ use Rattle.aig_base.specs.Value.{start_of}
 use Rattle.aig_sim.specs.declared.stimulus.fault.StimFault.TheVariants as stimuli
 use Rattle.aig_sim.specs.StimulusText.{SpellsRows, HasFaultyLine, HoldsRows}
 use Rattle.aig_values.specs.Trace.{IsTrace}
-use Rattle.aig_run.specs.declared.run_fault.RunFault.{RunFault}
-use Rattle.aig_run.specs.declared.run_fault.RunFault.TheVariants.{Stimulus}
-use Rattle.aig_run.specs.Command.{Text}
+use Rattle.aig_command.specs.declared.run_fault.RunFault.{RunFault}
+use Rattle.aig_command.specs.declared.run_fault.RunFault.TheVariants.{Stimulus}
+use Rattle.aig_command.specs.Command.{Text}
 
 -- The rows that a run has read of a stimulus, by its answer. With how many they are: all of the whole text (the
 -- greatest number of 64 bits stands for any greater). With a faulty line: those before it; a limit on frames is none of

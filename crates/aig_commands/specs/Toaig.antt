@@ -7,8 +7,8 @@ use Rattle.aig_base.specs.Renumbered.{renumbered, IsBinaryReady}
 use Rattle.aig_format.specs.declared.reader.header.Format.{Format}
 use Rattle.aig_format.specs.declared.reader.header.Format.TheVariants.{Ascii, Binary}
 use Rattle.aig_format.specs.Spelling.{short_ascii, short_binary}
-use Rattle.aig_run.specs.declared.run_fault.RunFault.{RunFault}
-use Rattle.aig_run.specs.declared.run_fault.RunFault.TheVariants as run_faults
+use Rattle.aig_command.specs.declared.run_fault.RunFault.{RunFault}
+use Rattle.aig_command.specs.declared.run_fault.RunFault.TheVariants as run_faults
 
 -- the bytes that a circuit is converted to: as it stands where the format can hold it so, else renumbered
 abbrev pub IsConverted : Raw → Format → List ℕ → Type 0

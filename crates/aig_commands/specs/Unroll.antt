@@ -7,8 +7,8 @@ use Rattle.aig_format.specs.declared.reader.header.Format.TheVariants.{Ascii, Bi
 use Rattle.aig_format.specs.Spelling.{short_ascii, short_binary}
 use Rattle.aig_unroll.specs.Answers.{AnswersUnrolling}
 use Rattle.aig_unroll.specs.InputMap.{map_text}
-use Rattle.aig_run.specs.declared.run_fault.RunFault.{RunFault}
-use Rattle.aig_run.specs.declared.run_fault.RunFault.TheVariants as run_faults
+use Rattle.aig_command.specs.declared.run_fault.RunFault.{RunFault}
+use Rattle.aig_command.specs.declared.run_fault.RunFault.TheVariants as run_faults
 
 -- the short spelling of a circuit in a format
 abbrev pub short_spelling : Format → Raw → List ℕ

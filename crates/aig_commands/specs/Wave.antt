@@ -11,9 +11,9 @@ use Rattle.aig_sim.specs.declared.stimulus.fault.StimFault.TheVariants as stimul
 use Rattle.aig_sim.specs.Dump.{IsDump, AreFrames, closing}
 use Rattle.aig_sim.specs.DumpHeader.{header}
 use Rattle.aig_sim.specs.Replayed.{ReportsRun}
-use Rattle.aig_run.specs.declared.run_fault.RunFault.{RunFault}
-use Rattle.aig_run.specs.declared.run_fault.RunFault.TheVariants.{Stimulus}
-use Rattle.aig_run.specs.Command.{Text}
+use Rattle.aig_command.specs.declared.run_fault.RunFault.{RunFault}
+use Rattle.aig_command.specs.declared.run_fault.RunFault.TheVariants.{Stimulus}
+use Rattle.aig_command.specs.Command.{Text}
 use Rattle.aig_commands.specs.Check.{RefusesWitness}
 use Rattle.aig_commands.specs.Sim.{AreRowsOf}
 

@@ -8,9 +8,9 @@ use Rattle.aig_sim.specs.Reached.{IsFirstReached, ReachesNone, witness_at}
 use Rattle.aig_sim.specs.StimulusText.{SpellsRows}
 use Rattle.aig_sim.specs.WitnessText.{SpellsWitness}
 use Rattle.aig_sim.specs.declared.witness.reach_fault.ReachFault.TheVariants as reaches
-use Rattle.aig_run.specs.declared.run_fault.RunFault.{RunFault}
-use Rattle.aig_run.specs.declared.run_fault.RunFault.TheVariants as run_faults
-use Rattle.aig_run.specs.Command.{RefusesStimulus}
+use Rattle.aig_command.specs.declared.run_fault.RunFault.{RunFault}
+use Rattle.aig_command.specs.declared.run_fault.RunFault.TheVariants as run_faults
+use Rattle.aig_command.specs.Command.{RefusesStimulus}
 
 -- the text is the witness of the first frame at which a run reaches a property that is asked for; its verdict is
 -- `confirmed`

@@ -3,14 +3,14 @@ ghost use Rattle.std.specs.Prelude.{◌≡◌, ℕ, IfErr, IfOk, Some, slice_get
 ghost use Rattle.aig_parts.specs.declared.raw.Raw.{Raw};
 ghost use Rattle.aig_certificate.specs.Answers.{RefusesStrengthening};
 ghost use Rattle.aig_certificate.specs.Extension.{IsExtension};
-ghost use Rattle.aig_run.specs.Command.{IsFileOf, RefusesCircuit};
+ghost use Rattle.aig_command.specs.Command.{IsFileOf, RefusesCircuit};
 ghost use Rattle.aig_commands.specs.Certified.{IsCertified, RefusesCertified, strengthening_fault};
 ghost use Rattle.aig_commands.specs.state.Extended.{IsExtensionOf};
 
 use aig_base::{Circuit, Fault};
 use aig_certificate::{StrengthenFault, strengthened};
 use aig_cnf::CnfFault;
-use aig_run::{RunFault, read_circuit};
+use aig_command::{RunFault, read_circuit};
 use std::alloc::Global;
 
 /// A circuit's file, the position of one of its bad state properties, and the file of a certificate for it.

@@ -2,15 +2,15 @@
 ghost use Rattle.std.specs.Prelude.{◌≡◌, ◌≢◌, ℕ, ◌+◌, ◌≤◌, Err, IfErr, IfSome, OnOk};
 ghost use Rattle.aig_bytes.specs.Bytes.{Writes};
 ghost use Rattle.aig_bytes.specs.Flow.{flow};
-ghost use Rattle.aig_run.specs.Command.{OfFile};
-ghost use Rattle.aig_run.specs.Command.{CommandEnds};
+ghost use Rattle.aig_command.specs.Command.{OfFile};
+ghost use Rattle.aig_command.specs.Command.{CommandEnds};
 ghost use Rattle.aig_commands.specs.GoesWell.{GoesWell};
 ghost use Rattle.aig_commands.specs.Check.{verdict_text, Checks, ChecksAndTraces, OfProperty};
 ghost use Rattle.aig_commands.specs.state.Asked.{RefusesAsked};
 ghost use Rattle.aig_sim.specs.WitnessText.{IsWitnessOf};
 
 use aig_base::{Circuit, Io, Write, write_all, write_number};
-use aig_run::{RunFault, read_circuit};
+use aig_command::{RunFault, read_circuit};
 use aig_sim::{ReplayFault, Verdict, check_witness, trace_witness, witness_property};
 use std::alloc::Global;
 

@@ -3,13 +3,13 @@ ghost use Rattle.std.specs.Prelude.{◌≡◌, IfErr};
 ghost use Rattle.aig_bytes.specs.Bytes.{Writes};
 ghost use Rattle.aig_bytes.specs.Flow.{flow};
 ghost use Rattle.aig_cnf.specs.CnfText.{cnf_text};
-ghost use Rattle.aig_run.specs.Command.{CommandEnds};
+ghost use Rattle.aig_command.specs.Command.{CommandEnds};
 ghost use Rattle.aig_commands.specs.Questions.{WritesFor, WritesQuestion, asked_of, heading_of};
 
 use crate::question::{Question, circuit_of, formula_of, heading_of};
 use aig_base::{Circuit, Io, Write};
 use aig_cnf::{Formula, Heading};
-use aig_run::RunFault;
+use aig_command::RunFault;
 use std::alloc::Global;
 
 /// Writes a formula, and what its variables are.

@@ -5,20 +5,20 @@ ghost use Rattle.aig_bytes.specs.Bytes.{Writes};
 ghost use Rattle.aig_base.specs.Greatest.{IsGreatestLevel};
 ghost use Rattle.aig_format.specs.Formats.{IsInFormat};
 ghost use Rattle.aig_bytes.specs.Flow.{flow};
-ghost use Rattle.aig_run.specs.Command.{CommandEnds};
+ghost use Rattle.aig_command.specs.Command.{CommandEnds};
 ghost use Rattle.aig_commands.specs.Info.{AreFacts, ListsFacts, comment_size, fact_line, format_name};
 ghost use Rattle.aig_commands.specs.Info.{info_text, fact_number_line, number_lines, yes_or_no};
 ghost use Rattle.aig_commands.specs.Info.{is_constant, is_impossible, starts_at_one};
 ghost use Rattle.aig_commands.specs.Names.{ListsNames, entries_text};
-ghost use Rattle.aig_run.specs.Command.{OfReader};
+ghost use Rattle.aig_command.specs.Command.{OfReader};
 
 use crate::entries::write_entries;
 use aig_base::{
     Circuit, Io, Latch, Levels, Lit, Memory, Read, Write, greatest_fan_out, is_binary_ready,
     write_all,
 };
+use aig_command::RunFault;
 use aig_format::{Format, read_from, read_with_format};
-use aig_run::RunFault;
 use aig_unroll::uninitialised;
 use itoa::Buffer;
 use std::alloc::Global;

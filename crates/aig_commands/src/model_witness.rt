@@ -4,7 +4,7 @@ ghost use Rattle.std.specs.Prelude.{◌≡◌, ◌<◌, ◌≤◌, IfOk, IfErr, 
 ghost use Rattle.aig_bytes.specs.Flow.{flow};
 ghost use Rattle.aig_cnf.specs.Answers.{HasFormula, RefusesFormula};
 ghost use Rattle.aig_cnf.specs.Query.{depth, subject};
-ghost use Rattle.aig_run.specs.Command.{CommandEnds};
+ghost use Rattle.aig_command.specs.Command.{CommandEnds};
 ghost use Rattle.aig_unroll.specs.FrameLiteral.{input_count};
 ghost use Rattle.aig_unroll.specs.Unrollable.{FitsLimits};
 ghost use Rattle.aig_commands.specs.ModelWitness.{RefusesModel, WritesModel, WritesNamed, variable_count};
@@ -15,7 +15,7 @@ use crate::named_run::find_named;
 use crate::question::{INDUCTION, Question, circuit_of, heading_of};
 use aig_base::{Circuit, Tern, Write};
 use aig_cnf::{CnfFault, Formula, Heading, Query};
-use aig_run::RunFault;
+use aig_command::RunFault;
 use aig_sat::{Assignment, ModelFault, read_model};
 use std::alloc::Global;
 

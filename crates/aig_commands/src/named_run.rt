@@ -12,7 +12,7 @@ ghost use Rattle.aig_commands.specs.ModelWitness.{WritesNamed};
 
 use crate::witness::{FoundRun, find};
 use aig_base::{Circuit, Latch, Memory, Tern};
-use aig_run::RunFault;
+use aig_command::RunFault;
 use aig_sim::{ReachFault, Stimulus, first_value};
 use aig_unroll::uninitialised;
 use std::alloc::Global;

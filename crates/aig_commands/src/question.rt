@@ -3,12 +3,12 @@ ghost use Rattle.std.specs.Prelude.{◌≡◌, IfErr, IfOk, OnOk};
 ghost use Rattle.aig_commands.specs.Questions.{asked_of, certificate_of, heading_of, query_of, question_map};
 ghost use Rattle.aig_commands.specs.state.About.{HasItsFormula, IsAbout, IsItsFormula, RefusesFile, RefusesFiles};
 ghost use Rattle.aig_commands.specs.state.About.{RefusesItsFormula, subject_of};
-ghost use Rattle.aig_run.specs.Command.{IsFileOf};
+ghost use Rattle.aig_command.specs.Command.{IsFileOf};
 
 use crate::certified::{Certified, Purpose};
 use aig_base::Circuit;
 use aig_cnf::{CnfFault, Formula, Goal, Heading, Query};
-use aig_run::{RunFault, read_circuit};
+use aig_command::{RunFault, read_circuit};
 use std::alloc::Global;
 
 /// What is asked of a circuit's file. A certificate is its bytes, or an open file. A property is a bad state property,

@@ -3,14 +3,14 @@ ghost use Rattle.std.specs.Prelude.{◌≡◌, IfErr, IfOk};
 ghost use Rattle.aig_base.specs.Circuit.{IsCircuit};
 ghost use Rattle.aig_bytes.specs.Bytes.{Writes};
 ghost use Rattle.aig_bytes.specs.Flow.{flow};
-ghost use Rattle.aig_run.specs.Command.{CommandEnds, OfFile};
+ghost use Rattle.aig_command.specs.Command.{CommandEnds, OfFile};
 ghost use Rattle.aig_reduce.specs.Answers.{AnswersReduction};
 ghost use Rattle.aig_commands.specs.Reduce.{HasDecimalPosition, Reduces, RefusesToReduce, reduction_text, verdict_of};
 
 use crate::check::write_verdict;
 use aig_base::{Circuit, Io, Write};
+use aig_command::{RunFault, read_circuit};
 use aig_reduce::{ReduceFault, Reduction, reduce_witness};
-use aig_run::{RunFault, read_circuit};
 use aig_sim::Verdict;
 use std::alloc::Global;
 

@@ -5,7 +5,7 @@ ghost use Rattle.aig_bytes.specs.Bytes.{Writes};
 ghost use Rattle.aig_bytes.specs.Flow.{flow};
 ghost use Rattle.aig_sat.specs.checker.Consequence.{IsUnsatisfiable};
 ghost use Rattle.aig_sat.specs.proof.Proofs.{IsProof};
-ghost use Rattle.aig_run.specs.Command.{CommandEnds};
+ghost use Rattle.aig_command.specs.Command.{CommandEnds};
 ghost use Rattle.aig_commands.specs.Questions.{ChecksFor, RefutesQuestion, Says, asked_of, heading_of};
 ghost use Rattle.aig_commands.specs.Refute.{ChecksStep, answer_line, proof_reads_failed, step_reads_failed};
 ghost use Rattle.aig_commands.specs.state.About.{Answers, ChecksFormula, IsChecked, IsOfStepProof};
@@ -13,8 +13,8 @@ ghost use Rattle.aig_commands.specs.state.About.{Answers, ChecksFormula, IsCheck
 use crate::question::{Question, circuit_of, formula_of, query_of};
 use aig_base::{Circuit, Io, Read, Write, write_all, write_number};
 use aig_cnf::{Formula, Goal, Query};
+use aig_command::RunFault;
 use aig_refute::check;
-use aig_run::RunFault;
 use aig_sat::ProofFault;
 use std::alloc::Global;
 

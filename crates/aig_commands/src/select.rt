@@ -1,15 +1,15 @@
 //! `select`: a circuit with some of its properties.
 ghost use Rattle.std.specs.Prelude.{◌≡◌, IfErr, IfOk};
 ghost use Rattle.aig_bytes.specs.Flow.{flow};
-ghost use Rattle.aig_run.specs.Command.{CommandEnds, OfReader};
+ghost use Rattle.aig_command.specs.Command.{CommandEnds, OfReader};
 ghost use Rattle.aig_commands.specs.Select.{Selects, SelectsNamed};
 ghost use Rattle.aig_commands.specs.state.NamedSelections.{IsSelectedAndNamed, RefusesNamedSelection};
 
 use crate::toaig::write_converted;
 use aig_base::{Circuit, PropertySection, Read, Write};
+use aig_command::RunFault;
 use aig_format::{Format, read_from};
-use aig_names::named;
-use aig_run::RunFault;
+use aig_signals::named;
 use std::alloc::Global;
 
 /// Selects properties of a circuit, and writes it in a format.

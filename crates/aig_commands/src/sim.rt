@@ -1,14 +1,14 @@
 //! `sim`: the trace of a circuit's run on a stimulus.
 ghost use Rattle.std.specs.Prelude.{◌≡◌, Err, IfErr};
 ghost use Rattle.aig_bytes.specs.Flow.{flow};
-ghost use Rattle.aig_run.specs.Command.{OfReader};
-ghost use Rattle.aig_run.specs.Command.{EndsReading};
+ghost use Rattle.aig_command.specs.Command.{OfReader};
+ghost use Rattle.aig_command.specs.Command.{EndsReading};
 ghost use Rattle.aig_commands.specs.Sim.{WritesSimulation};
 ghost use Rattle.aig_commands.specs.state.Parts.{IsOfStimulus};
 
 use aig_base::{Circuit, Fault, Read, Write};
+use aig_command::RunFault;
 use aig_format::read_from;
-use aig_run::RunFault;
 use aig_sim::{StimFault, simulate};
 use std::alloc::Global;
 

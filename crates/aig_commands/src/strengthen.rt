@@ -1,7 +1,7 @@
 //! `strengthen`: a circuit that is strengthened by a certificate.
 ghost use Rattle.std.specs.Prelude.{◌≡◌};
 ghost use Rattle.aig_bytes.specs.Flow.{flow};
-ghost use Rattle.aig_run.specs.Command.{CommandEnds};
+ghost use Rattle.aig_command.specs.Command.{CommandEnds};
 ghost use Rattle.aig_commands.specs.Certified.{OfCertified};
 ghost use Rattle.aig_commands.specs.Toaig.{Converts};
 ghost use Rattle.aig_commands.specs.declared.certified.Purpose.TheVariants.{Circuit};
@@ -9,8 +9,8 @@ ghost use Rattle.aig_commands.specs.declared.certified.Purpose.TheVariants.{Circ
 use crate::certified::{Certified, Purpose};
 use crate::toaig::write_converted;
 use aig_base::Write;
+use aig_command::RunFault;
 use aig_format::Format;
-use aig_run::RunFault;
 use std::alloc::Global;
 
 /// The command `strengthen`: reads a circuit and a certificate, and writes the strengthened circuit in a format, as

@@ -2,14 +2,14 @@
 ghost use Rattle.std.specs.Prelude.{◌≡◌, ◌≢◌, ℕ, ◌+◌, ◌≤◌, Err, IfErr};
 ghost use Rattle.aig_format.specs.declared.reader.header.Format.TheVariants.{Binary};
 ghost use Rattle.aig_bytes.specs.Flow.{flow};
-ghost use Rattle.aig_run.specs.Command.{OfFile, OfReader};
-ghost use Rattle.aig_run.specs.Command.{CommandEnds};
+ghost use Rattle.aig_command.specs.Command.{OfFile, OfReader};
+ghost use Rattle.aig_command.specs.Command.{CommandEnds};
 ghost use Rattle.aig_commands.specs.GoesWell.{GoesWell};
 ghost use Rattle.aig_commands.specs.Toaig.{Converts};
 
 use aig_base::{Circuit, Read, Write, is_binary_ready, renumber};
+use aig_command::{RunFault, as_output, read_circuit};
 use aig_format::{Format, read_from, write_ascii, write_binary};
-use aig_run::{RunFault, as_output, read_circuit};
 use std::alloc::Global;
 
 /// Writes a circuit as a binary file: a ready one as it stands, any other renumbered.

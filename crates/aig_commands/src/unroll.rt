@@ -4,14 +4,14 @@ ghost use Rattle.aig_base.specs.Renumbered.{IsBinaryReady};
 ghost use Rattle.aig_bytes.specs.Bytes.{Writes};
 ghost use Rattle.aig_bytes.specs.Flow.{flow};
 ghost use Rattle.aig_unroll.specs.InputMap.{map_text};
-ghost use Rattle.aig_run.specs.Command.{OfFile};
-ghost use Rattle.aig_run.specs.Command.{CommandEnds};
+ghost use Rattle.aig_command.specs.Command.{OfFile};
+ghost use Rattle.aig_command.specs.Command.{CommandEnds};
 ghost use Rattle.aig_commands.specs.GoesWell.{GoesWell};
 ghost use Rattle.aig_commands.specs.Unroll.{IsMap, Unrolls, UnrollsKept, short_spelling};
 
 use aig_base::{Circuit, Io, Levels, Write};
+use aig_command::{RunFault, as_output, read_circuit};
 use aig_format::{Format, write_ascii, write_binary};
-use aig_run::{RunFault, as_output, read_circuit};
 use aig_unroll::write_input_map;
 use std::alloc::Global;
 

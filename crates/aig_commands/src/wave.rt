@@ -2,14 +2,14 @@
 ghost use Rattle.std.specs.Prelude.{◌≡◌, ℕ, List, Some, Err, IfErr};
 ghost use Rattle.aig_parts.specs.declared.raw.Raw.{Raw};
 ghost use Rattle.aig_bytes.specs.Flow.{flow};
-ghost use Rattle.aig_run.specs.Command.{IsFileOf, OfFile, OfReader};
-ghost use Rattle.aig_run.specs.Command.{CommandEnds, EndsReading};
+ghost use Rattle.aig_command.specs.Command.{IsFileOf, OfFile, OfReader};
+ghost use Rattle.aig_command.specs.Command.{CommandEnds, EndsReading};
 ghost use Rattle.aig_commands.specs.Wave.{WritesWave, DumpsRun, HeaderFirst};
 ghost use Rattle.aig_commands.specs.state.Parts.{IsOfStimulus};
 
 use aig_base::{Circuit, Fault, Read, Write};
+use aig_command::{RunFault, read_circuit};
 use aig_format::read_from;
-use aig_run::{RunFault, read_circuit};
 use aig_sim::{ReplayFault, StimFault, dump, dump_witness};
 use std::alloc::Global;
 

@@ -6,11 +6,11 @@ ghost use Rattle.aig_bytes.specs.Flow.{flow};
 ghost use Rattle.aig_sim.specs.Reached.{IsFirstReached, ReachesNone};
 ghost use Rattle.aig_sim.specs.StimulusText.{SpellsRows};
 ghost use Rattle.aig_sim.specs.WitnessText.{IsDecimal, witness_text};
-ghost use Rattle.aig_run.specs.Command.{CommandEnds, OfFile};
+ghost use Rattle.aig_command.specs.Command.{CommandEnds, OfFile};
 ghost use Rattle.aig_commands.specs.Witness.{HasAsked, WritesWitness};
 
 use aig_base::{Circuit, Io, Tern, Write};
-use aig_run::{RunFault, read_circuit, read_rows};
+use aig_command::{RunFault, read_circuit, read_rows};
 use aig_sim::{ReachFault, Reached, Stimulus, first_reached, first_states, write_witness};
 use std::alloc::Global;
 

@@ -1,4 +1,4 @@
--- The examples of the definitions of `aig_run`, `aig_refute` and `aig_commands`.
+-- The examples of the definitions of `aig_command`, `aig_refute` and `aig_commands`.
 use Rattle.std.proofs.Common.{◌≡◌, inl, inr, ℕ, zero, suc, ◌<◌, List, [], ◌∷◌, ◌++◌, None, Some, slice_get, ◌≢◌}
 use Rattle.std.proofs.Common.{length, subst, Contains, refl, sym, ap, ◌∙◌, arith}
 use Rattle.std.specs.Prelude.{All, true, Ok, Err, codes}
@@ -39,9 +39,9 @@ use Rattle.aig_cnf.specs.Dimacs.{clause_text, formula_text, literal_text, proble
 use Rattle.aig_cnf.specs.Formula.{formula_of}
 use Rattle.aig_cnf.specs.Query.{within}
 use Rattle.aig_cnf.specs.declared.fault.CnfFault.TheVariants as formulas
-use Rattle.aig_run.specs.Faults.{output_of}
-use Rattle.aig_run.specs.Status.{status_of}
-use Rattle.aig_run.specs.declared.run_fault.RunFault.TheVariants as runs
+use Rattle.aig_command.specs.Faults.{output_of}
+use Rattle.aig_command.specs.Status.{status_of}
+use Rattle.aig_command.specs.declared.run_fault.RunFault.TheVariants as runs
 use Rattle.aig_refute.specs.Checked.{check_reads_failed}
 use Rattle.aig_refute.specs.Unreachable.{HasNoRun, IsUnreachable, IsUnreachableWithin}
 use Rattle.aig_script.specs.BenchFiles.{circuit_text, stimulus_rows_text}

@@ -1,4 +1,4 @@
--- The examples of the definitions of `aig_dump_header`, `aig_names` and `aig_signals`.
+-- The examples of the definitions of `aig_names`, `aig_signals` and `aig_signals`.
 use Rattle.std.proofs.Common.{zero, ◌≡◌, ◌≢◌, inl, inr, ℕ, suc, ◌<◌, [], ◌∷◌, None, Some, refl}
 use Rattle.std.proofs.Common.{arith}
 use Rattle.std.specs.Prelude.{codes, decimal, All}
@@ -8,14 +8,14 @@ use Rattle.aig_parts.specs.declared.raw.Raw.{Raw}
 use Rattle.aig_parts.specs.declared.symbols.Kind.TheVariants.{Input, Latch, Bad}
 use Rattle.aig_parts.specs.declared.ternary.Tern.TheVariants.{Zero, One}
 use Rattle.aig_base.specs.declared.select.PropertySection.TheVariants as sections
-use Rattle.aig_dump_header.specs.Header.{closings, moves, shared}
-use Rattle.aig_dump_header.specs.HeaderRead.{found}
-use Rattle.aig_dump_header.specs.Names.{code_digits, cut_at, identifier_code, names_of, shown_after, symbol_of, words}
-use Rattle.aig_dump_header.specs.Paths.{leaf_of, path_of, scopes_of}
-use Rattle.aig_dump_header.specs.Signals.{columns, entries, section_names}
-use Rattle.aig_dump_header.specs.Vectors.{bit_of, next_name, turned, turned_after}
-use Rattle.aig_names.specs.Named.{IsNamed, symbols_from}
-use Rattle.aig_names.specs.Property.{IsPosition}
+use Rattle.aig_names.specs.Header.{closings, moves, shared}
+use Rattle.aig_names.specs.HeaderRead.{found}
+use Rattle.aig_names.specs.Names.{code_digits, cut_at, identifier_code, names_of, shown_after, symbol_of, words}
+use Rattle.aig_names.specs.Paths.{leaf_of, path_of, scopes_of}
+use Rattle.aig_names.specs.Signals.{columns, entries, section_names}
+use Rattle.aig_names.specs.Vectors.{bit_of, next_name, turned, turned_after}
+use Rattle.aig_signals.specs.Named.{IsNamed, symbols_from}
+use Rattle.aig_signals.specs.Property.{IsPosition}
 use Rattle.aig_signals.specs.Bits.{all_there, bits_named, section_bits}
 use Rattle.aig_signals.specs.Lookup.{least, literals_called, IsNumber, Means}
 use Rattle.aig_signals.specs.Names.{first_name, further_names}

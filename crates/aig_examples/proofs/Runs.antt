@@ -10,7 +10,7 @@ use Rattle.aig_parts.specs.declared.ternary.Tern.{Tern}
 use Rattle.aig_parts.specs.declared.ternary.Tern.TheVariants.{Zero, One, X}
 use Rattle.aig_base.specs.Value as value
 use Rattle.aig_base.specs.Value.{Value}
-use Rattle.aig_dump_header.specs.Names.{code_digits}
+use Rattle.aig_names.specs.Names.{code_digits}
 use Rattle.aig_values.specs.Trace.{IsTrace}
 use Rattle.aig_sim.proofs.WitnessLemmas.{some_digits, zero_is_alone}
 use Rattle.aig_sim.specs.Dump.{all_lines, changed_lines, IsFrameText}

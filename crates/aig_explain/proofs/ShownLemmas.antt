@@ -1,7 +1,7 @@
 -- Lines that are shown.
 use Rattle.std.proofs.Common.{◌≡◌, ℕ, List, [], ◌∷◌, ◌++◌, refl, ap, ◌∙◌, sym, append_assoc}
 use Rattle.std.proofs.lemmas.List.Elements.{All-append, All-cons, All-nil}
-use Rattle.aig_terminal.specs.Shown.{ArePrintable, escaped}
+use Rattle.aig_files.specs.Shown.{ArePrintable, escaped}
 use Rattle.aig_explain.specs.Shown.{lines_text, IsShown, shown_line}
 
 -- a line more at the end

@@ -1,7 +1,7 @@
 -- What an explanation may print: lines of escaped bytes.
 -- Example: the line that shows `a`, ESC, `b` is `  a\x1bb/`.
 use Rattle.std.specs.Prelude.{ℕ, ◌≡◌, List, [], ◌∷◌, ◌++◌, All}
-use Rattle.aig_terminal.specs.Shown.{ArePrintable, escaped}
+use Rattle.aig_files.specs.Shown.{ArePrintable, escaped}
 
 -- lines as text: two spaces before each, LF after it
 abbrev pub lines_text : List (List ℕ) → List ℕ

@@ -1,12 +1,12 @@
 //! Lines that explain a refusal.
 ghost use Rattle.std.specs.Prelude.{◌≡◌, ◌≢◌, ℕ, List, ◌++◌, [], length, IfOk, OnOk, OnErr};
 ghost use Rattle.std.specs.String.{string_bytes};
-ghost use Rattle.aig_terminal.specs.Shown.{ArePrintable, escaped};
+ghost use Rattle.aig_files.specs.Shown.{ArePrintable, escaped};
 ghost use Rattle.aig_explain.specs.Shown.{shown_line, IsShown};
 
 use crate::line::{Line, Word};
 use aig_bytes::Memory;
-use aig_terminal::escaped;
+use aig_files::escaped;
 use std::alloc::Global;
 use std::marker::Model;
 

@@ -1,7 +1,7 @@
 -- The exit status of the program. Where the standard is silent, it is our own choice.
 -- Example: wrong arguments have 2, a verdict other than `confirmed` has 1.
 use Rattle.std.specs.Prelude.{ℕ}
-use Rattle.aig_run.specs.Status.{status_of}
+use Rattle.aig_command.specs.Status.{status_of}
 use Rattle.aig_files.specs.declared.exit.Exit.{Exit}
 use Rattle.aig_files.specs.declared.exit.Exit.TheVariants as exits
 

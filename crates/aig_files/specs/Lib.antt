@@ -1,3 +1,4 @@
 pub mod ExitStatus
 pub mod Known
+pub mod Shown
 pub mod Source

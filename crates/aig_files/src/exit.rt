@@ -2,8 +2,8 @@
 ghost use Rattle.std.specs.Prelude.{◌≡◌};
 ghost use Rattle.aig_files.specs.ExitStatus.{status_of_exit};
 
-use aig_run::RunFault;
-use aig_terminal::Part;
+use crate::part::Part;
+use aig_command::RunFault;
 use std::io;
 
 /// Why the program ends before it is done.

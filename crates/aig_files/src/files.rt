@@ -2,9 +2,11 @@
 ghost use Rattle.std.specs.Prelude.{◌≡◌, ◌⊎◌, IfErr, IfOk, IfSome};
 
 use crate::exit::Exit;
+use crate::part::Part;
+use crate::terminal::Terminal;
+use crate::tracked::Tracked;
 use aig_base::{Buffered, Std};
-use aig_run::RunFault;
-use aig_terminal::{Part, Terminal, Tracked};
+use aig_command::RunFault;
 use std::alloc::Global;
 use std::fs::{self, Files};
 use std::io::{self, ErrorKind, Printer, Read};

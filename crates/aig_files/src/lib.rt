@@ -1,28 +1,39 @@
-//! The files that the arguments of the program name: opened, read, created and replaced; and what ends a run early.
+//! What the program has of the system: the files that its arguments name, opened, read, created and replaced; what its
+//! user sees on a terminal; and what ends a run early.
 #![tactic(auto)]
 
+mod escape;
 mod exit;
 mod files;
 mod kept;
 mod known;
 mod new_file;
 mod output_file;
+mod part;
+mod progress;
 mod reserved;
 mod run_files;
 mod same;
+mod shown;
 mod source;
 mod stack;
+mod terminal;
+mod tracked;
 mod unwritten;
 
-pub use aig_terminal::Part;
+pub use escape::escaped;
 pub use exit::Exit;
 pub use files::{open, output, read_whole};
 pub use kept::Kept;
 pub use known::Known;
 pub use new_file::{NewFile, is_free, name_beside};
 pub use output_file::{OutputFile, find, open_pipe};
+pub use part::Part;
 pub use reserved::{Reserved, reserve};
 pub use run_files::{Judged, RunFiles};
 pub use same::{is_one, is_one_new, leads_to, parts_of};
+pub use shown::Shown;
 pub use source::Source;
+pub use terminal::{Terminal, Terminals};
+pub use tracked::Tracked;
 pub use unwritten::{OUTPUT, Unwritten};

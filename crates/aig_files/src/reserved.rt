@@ -4,7 +4,7 @@ ghost use Rattle.std.specs.Prelude.{◌≡◌, ◌⊎◌, IfErr};
 use crate::exit::Exit;
 use crate::stack::reserve_stack;
 use crate::unwritten::OUTPUT;
-use aig_run::RunFault;
+use aig_command::RunFault;
 use std::fs::{self, Files};
 
 /// Three open files, which no text is written to or read from. The system gives a new file the lowest descriptor that

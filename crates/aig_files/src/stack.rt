@@ -2,7 +2,7 @@
 ghost use Rattle.std.specs.Prelude.{◌≡◌, IfErr};
 
 use crate::exit::Exit;
-use aig_run::RunFault;
+use aig_command::RunFault;
 use std::alloc::Global;
 use std::io::Read;
 

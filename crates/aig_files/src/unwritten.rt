@@ -1,7 +1,7 @@
 //! Why a file is not written.
 
 use crate::exit::Exit;
-use aig_run::RunFault;
+use aig_command::RunFault;
 use std::io::{Error, ErrorKind};
 
 /// How the program ends if it cannot write an output file.

@@ -1,3 +1,7 @@
-pub mod Named
-pub mod Property
+pub mod Header
+pub mod HeaderRead
+pub mod Names
+pub mod Paths
+pub mod Signals
+pub mod Vectors
 pub mod state

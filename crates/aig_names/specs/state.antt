@@ -1,2 +1,2 @@
-pub mod Found
 pub mod Naming
+pub mod Rows

@@ -1,12 +1,14 @@
-//! The names of a circuit's properties: they are given one per line, and looked up.
+//! The header of a value change dump: identifier codes, the names of signals, vectors and scopes. It knows no circuit.
 #![tactic(auto)]
 
-mod fault;
-mod lookup;
-mod naming;
-mod number;
+mod header;
+mod header_laws;
+mod names;
+mod paths;
+mod signals;
+mod vectors;
 
-pub use fault::{NamesFault, PropertyFault};
-pub use lookup::position_of;
-pub use naming::named;
-pub use number::{decimal_of, number_of};
+pub use header::{SignalCounts, dump_header};
+pub use header_laws::law_of_dump_header;
+pub use names::{FirstWord, first_word, push_position, symbol_at};
+pub use vectors::{Bit, bit_of, show_next};

@@ -3,7 +3,7 @@ ghost use Rattle.std.specs.Prelude.{◌≡◌, false, true, OnOk};
 ghost use Rattle.aig_prompt.specs.Folded.{AddsSpaces, AddsWord, Folds};
 
 use aig_bytes::Memory;
-use aig_dump_header::first_word;
+use aig_names::first_word;
 
 /// How many columns a line has.
 const COLUMNS: usize = 80;

@@ -1,10 +1,10 @@
 //! The words of a line.
 ghost use Rattle.std.specs.Prelude.{◌≡◌, ◌++◌, map, IfOk};
-ghost use Rattle.aig_dump_header.specs.Names.{words};
+ghost use Rattle.aig_names.specs.Names.{words};
 ghost use Rattle.aig_prompt.specs.Words as spec;
 
 use aig_bytes::Memory;
-use aig_dump_header::first_word;
+use aig_names::first_word;
 use std::alloc::Global;
 
 /// A byte between words as a space.

@@ -12,8 +12,8 @@ use Rattle.aig_base.specs.Renumbered.{renumbered, renumbered_latch, renumbered_l
 use Rattle.aig_base.specs.Sections.{IsDefined}
 use Rattle.aig_base.specs.Value.{Fits}
 use Rattle.aig_base.proofs.circuits.EachUse.{each_use}
-use Rattle.aig_dump_header.specs.declared.header.SignalCounts.{SignalCounts}
-use Rattle.aig_dump_header.specs.Header as dump
+use Rattle.aig_names.specs.declared.header.SignalCounts.{SignalCounts}
+use Rattle.aig_names.specs.Header as dump
 use Rattle.aig_sim.specs.Dump.{signals, IsFrameText, AreFrames, closing}
 use Rattle.aig_sim.specs.DumpHeader.{header, signal_counts}
 use Rattle.aig_values.specs.Trace.{AreValues}

@@ -9,12 +9,12 @@ use Rattle.aig_bytes.specs.Bytes.{before, after, IsAtEnd}
 use Rattle.aig_bytes.specs.Flow.{Flow}
 use Rattle.aig_bytes.proofs.WriteLemmas.{after-append, after-nil}
 use Rattle.aig_bench.specs.BenchState.{CircuitAndRows, BenchState}
-use Rattle.aig_run.specs.Command.{Got, BreaksOff, Text, Gave, WritesPart, EndsReading}
-use Rattle.aig_run.proofs.Written.{gave_part, gave_whole, through, keeps_through, reading_changed}
-use Rattle.aig_run.specs.declared.run_fault.RunFault.{RunFault}
-use Rattle.aig_run.specs.declared.run_fault.RunFault.TheVariants as run_faults
-use Rattle.aig_run.specs.declared.script_fault.ScriptFault.{ScriptFault}
-use Rattle.aig_run.specs.declared.script_fault.ScriptFault.TheVariants as scripts
+use Rattle.aig_command.specs.Command.{Got, BreaksOff, Text, Gave, WritesPart, EndsReading}
+use Rattle.aig_command.proofs.Written.{gave_part, gave_whole, through, keeps_through, reading_changed}
+use Rattle.aig_command.specs.declared.run_fault.RunFault.{RunFault}
+use Rattle.aig_command.specs.declared.run_fault.RunFault.TheVariants as run_faults
+use Rattle.aig_command.specs.declared.script_fault.ScriptFault.{ScriptFault}
+use Rattle.aig_command.specs.declared.script_fault.ScriptFault.TheVariants as scripts
 use Rattle.aig_script.specs.Lines.{Line, rest_from, whole_lines, lines_of}
 use Rattle.aig_script.specs.Ran.{Answered, StoppedAt, Unflushed, FailsToWrite, Ran, Failing}
 use Rattle.aig_script.specs.Replies.{Replies}

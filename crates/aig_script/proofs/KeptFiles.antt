@@ -8,7 +8,7 @@ use Rattle.aig_format.proofs.FileLaws.{one_reading}
 use Rattle.aig_sim.proofs.OneText.{one_list_of_rows}
 use Rattle.aig_sim.specs.StimulusText.{SpellsRows}
 use Rattle.aig_bench.specs.BenchState.{CircuitAndRows}
-use Rattle.aig_run.specs.Command.{IsFileOf}
+use Rattle.aig_command.specs.Command.{IsFileOf}
 use Rattle.aig_script.specs.BenchFiles.{AreFilesOf, circuit_text}
 
 same_pair : (p q : CircuitAndRows) → p.circuit ≡ q.circuit → p.rows ≡ q.rows → p ≡ q

@@ -5,10 +5,10 @@ use Rattle.std.specs.Prelude.{◌≡◌, ℕ, List, [], IsTrue, Result, Ok, Err}
 use Rattle.aig_bench.specs.BenchState.{CircuitAndRows, BenchState}
 use Rattle.aig_script.specs.Lines.{whole_lines, lines_of}
 use Rattle.aig_script.specs.Replies.{Replies}
-use Rattle.aig_run.specs.Command.{Text}
-use Rattle.aig_run.specs.declared.run_fault.RunFault.{RunFault}
-use Rattle.aig_run.specs.declared.run_fault.RunFault.TheVariants.{Script}
-use Rattle.aig_run.specs.declared.script_fault.ScriptFault.TheVariants as scripts
+use Rattle.aig_command.specs.Command.{Text}
+use Rattle.aig_command.specs.declared.run_fault.RunFault.{RunFault}
+use Rattle.aig_command.specs.declared.run_fault.RunFault.TheVariants.{Script}
+use Rattle.aig_command.specs.declared.script_fault.ScriptFault.TheVariants as scripts
 use Rattle.aig_script.specs.BenchFiles.{AreBenchFiles, RefusesFiles}
 
 -- Which bytes are written for what was read of a script, with which answer: the replies to all lines of a whole script;

@@ -10,9 +10,9 @@ use Rattle.aig_sim.specs.StimulusText.{SpellsRows, row_line}
 use Rattle.aig_bench.specs.declared.bench.fault.BenchFault.{BenchFault}
 use Rattle.aig_bench.specs.declared.bench.fault.BenchFault.TheVariants as benches
 use Rattle.aig_bench.specs.BenchState.{CircuitAndRows}
-use Rattle.aig_run.specs.declared.run_fault.RunFault.{RunFault}
-use Rattle.aig_run.specs.declared.run_fault.RunFault.TheVariants.{Circuit, Stimulus, Bench}
-use Rattle.aig_run.specs.Command.{IsFileOf, RefusesCircuit, RefusesStimulus}
+use Rattle.aig_command.specs.declared.run_fault.RunFault.{RunFault}
+use Rattle.aig_command.specs.declared.run_fault.RunFault.TheVariants.{Circuit, Stimulus, Bench}
+use Rattle.aig_command.specs.Command.{IsFileOf, RefusesCircuit, RefusesStimulus}
 
 -- the files are this circuit and rows of its width, at most 65,536
 pub record AreFilesOf (circuit stimulus : List ℕ) (pair : CircuitAndRows) : Type 0 where

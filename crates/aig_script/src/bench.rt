@@ -3,7 +3,7 @@ ghost use Rattle.std.specs.Prelude.{◌≡◌, ◌≢◌, ℕ, ◌+◌, ◌≤�
 ghost use Rattle.aig_bytes.specs.Bytes.{Writes};
 ghost use Rattle.aig_bytes.specs.Flow.{flow};
 ghost use Rattle.aig_bench.specs.BenchState.{CircuitAndRows};
-ghost use Rattle.aig_run.specs.Command.{IsFileOf, EndsReading};
+ghost use Rattle.aig_command.specs.Command.{IsFileOf, EndsReading};
 ghost use Rattle.aig_script.specs.Bench.{RunsScript, LeavesBench};
 ghost use Rattle.aig_script.specs.BenchFiles.{AreFilesOf, AreBenchFiles, RefusesFiles};
 ghost use Rattle.aig_script.specs.BenchFiles.{circuit_text, stimulus_rows_text};
@@ -11,8 +11,8 @@ ghost use Rattle.aig_script.specs.BenchFiles.{circuit_text, stimulus_rows_text};
 use crate::script::run_script;
 use aig_base::{Io, Read, Write};
 use aig_bench::Bench;
+use aig_command::{RunFault, ScriptFault, as_output, read_circuit, read_rows};
 use aig_format::{law_of_round_trip, write_ascii};
-use aig_run::{RunFault, ScriptFault, as_output, read_circuit, read_rows};
 use aig_sim::{Grid, write_stimulus};
 use std::alloc::Global;
 

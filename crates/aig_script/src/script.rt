@@ -12,7 +12,7 @@ use crate::reply::{answer, answer_command};
 use crate::script_line::ScriptLine;
 use aig_base::{Io, Read, Write, line_length, write_all};
 use aig_bench::Bench;
-use aig_run::ScriptFault;
+use aig_command::ScriptFault;
 use aig_sim::Grid;
 use std::alloc::Global;
 

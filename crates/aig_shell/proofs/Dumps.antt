@@ -10,7 +10,7 @@ use Rattle.aig_parts.specs.declared.latch.Latch.{Latch}
 use Rattle.aig_parts.specs.declared.raw.Raw.{Raw}
 use Rattle.aig_parts.specs.declared.ternary.Tern.{Tern}
 use Rattle.aig_base.specs.Value.{Value, start_of}
-use Rattle.aig_dump_header.specs.Header as dump
+use Rattle.aig_names.specs.Header as dump
 use Rattle.aig_base.specs.Resets.{IsSameLatch, HasOtherResets}
 use Rattle.aig_base.proofs.values.Resets.{value_with}
 use Rattle.aig_sim.specs.Dump.{closing, signals, IsFrameText, AreFrames, IsDump}

@@ -3,7 +3,7 @@ use Rattle.std.proofs.Common.{◌≡◌, ◌≢◌, ◌⊎◌, ◌↔◌, codes,
 use Rattle.std.proofs.Common.{false, IsTrue, Option, None, Some, Result, Ok, Err, IsErrAnd, OnErr, map, length, Bor}
 use Rattle.std.proofs.Common.{refl, sym, ap, subst, ◌∙◌, append-nil}
 use Rattle.aig_bytes.specs.declared.fault.Memory.{Memory}
-use Rattle.aig_dump_header.specs.Names.{words}
+use Rattle.aig_names.specs.Names.{words}
 use Rattle.aig_parts.specs.declared.ternary.Tern.{Tern}
 use Rattle.aig_base.specs.Value.{start_of}
 use Rattle.aig_bench.specs.BenchState.{CircuitAndRows}

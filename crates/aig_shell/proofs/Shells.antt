@@ -11,11 +11,11 @@ use Rattle.aig_parts.specs.declared.raw.Raw.{Raw}
 use Rattle.aig_parts.specs.declared.ternary.Tern.{Tern}
 use Rattle.aig_bench.specs.declared.bench.fault.BenchFault.{BenchFault}
 use Rattle.aig_bench.specs.declared.bench.fault.BenchFault.TheVariants as benches
-use Rattle.aig_run.specs.Command.{IsFileOf}
-use Rattle.aig_run.specs.Given.{IsGiven, ReadRun}
-use Rattle.aig_run.specs.declared.given.Given.{Given}
-use Rattle.aig_run.specs.declared.run_fault.RunFault.{RunFault}
-use Rattle.aig_run.specs.declared.run_fault.RunFault.TheVariants as run_faults
+use Rattle.aig_command.specs.Command.{IsFileOf}
+use Rattle.aig_command.specs.Given.{IsGiven, ReadRun}
+use Rattle.aig_command.specs.declared.given.Given.{Given}
+use Rattle.aig_command.specs.declared.run_fault.RunFault.{RunFault}
+use Rattle.aig_command.specs.declared.run_fault.RunFault.TheVariants as run_faults
 use Rattle.aig_shell.specs.declared.conversation.Conversation.{Conversation}
 use Rattle.aig_shell.specs.declared.session.Session.{Session}
 use Rattle.aig_shell.specs.declared.talk.Line.{Line}

@@ -7,7 +7,7 @@ use Rattle.aig_parts.specs.declared.raw.Raw.{Raw}
 use Rattle.aig_parts.specs.declared.symbols.Kind.TheVariants.{Bad}
 use Rattle.aig_base.specs.Value.{start_of}
 use Rattle.aig_bench.specs.BenchState.{CircuitAndRows}
-use Rattle.aig_dump_header.specs.Names.{words}
+use Rattle.aig_names.specs.Names.{words}
 use Rattle.aig_signals.specs.Lookup.{Means, alone}
 use Rattle.aig_signals.specs.Names.{first_name, position_name}
 use Rattle.aig_why.specs.Why.{run_of}

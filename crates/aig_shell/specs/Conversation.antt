@@ -11,11 +11,11 @@ use Rattle.aig_parts.specs.declared.raw.Raw.{Raw}
 use Rattle.aig_parts.specs.declared.ternary.Tern.{Tern}
 use Rattle.aig_bench.specs.BenchState.{CircuitAndRows}
 use Rattle.aig_bench.specs.declared.bench.fault.BenchFault.TheVariants as benches
-use Rattle.aig_run.specs.Command.{IsFileOf, RefusesCircuit, Got}
-use Rattle.aig_run.specs.Given.{IsGiven, ReadRun, RefusesGiven}
-use Rattle.aig_run.specs.declared.given.Given.{Given}
-use Rattle.aig_run.specs.declared.run_fault.RunFault.{RunFault}
-use Rattle.aig_run.specs.declared.run_fault.RunFault.TheVariants as run_faults
+use Rattle.aig_command.specs.Command.{IsFileOf, RefusesCircuit, Got}
+use Rattle.aig_command.specs.Given.{IsGiven, ReadRun, RefusesGiven}
+use Rattle.aig_command.specs.declared.given.Given.{Given}
+use Rattle.aig_command.specs.declared.run_fault.RunFault.{RunFault}
+use Rattle.aig_command.specs.declared.run_fault.RunFault.TheVariants as run_faults
 use Rattle.aig_shell.specs.declared.conversation.Conversation.{Conversation}
 use Rattle.aig_shell.specs.declared.conversation.Next.{Next}
 use Rattle.aig_shell.specs.declared.conversation.Next.TheVariants as next

@@ -19,7 +19,7 @@ use crate::refusal::{Refusal, Wanted};
 use crate::session::Session;
 use crate::written::push_number;
 use aig_base::{Circuit, Kind, Lit, Memory, Tern};
-use aig_dump_header::push_position;
+use aig_names::push_position;
 use aig_signals::{entry_named, push_first_name};
 use aig_sim::{Reached, first_reached, first_states};
 use std::alloc::Global;

@@ -1,7 +1,7 @@
 //! What a line does, and its answer.
 ghost use Rattle.std.specs.Prelude.{◌≡◌, ◌++◌, ◌∷◌, ◌↔◌, [], IfNone, IfOk, IfSome, IsTrue, List, codes, OnErr, false};
 ghost use Rattle.std.specs.Prelude.{map, ℕ};
-ghost use Rattle.aig_dump_header.specs.Names.{words};
+ghost use Rattle.aig_names.specs.Names.{words};
 ghost use Rattle.aig_shell.specs.Commands.{request_of};
 ghost use Rattle.aig_shell.specs.Conversation.{AnswersLine, EndsQuit, EndsRequest, EndsWords, ends_after, no_memory};
 ghost use Rattle.aig_shell.specs.Session.{HasUnsaved, IsSession, IsIn};

@@ -16,9 +16,8 @@ use crate::refusal::{Refusal, Wanted};
 use crate::session::Session;
 use aig_base::{Circuit, Kind, Lit, Tern};
 use aig_bench::{Bench, EditFault};
-use aig_names::decimal_of;
 use aig_prompt::{ValueFault, value_of};
-use aig_signals::entry_named;
+use aig_signals::{decimal_of, entry_named};
 use aig_sim::{FRAMES, PlaneGrid};
 use std::alloc::Global;
 

@@ -17,8 +17,8 @@ use crate::run_kept::KeptRun;
 use crate::session::Session;
 use crate::written::{Text, push_number};
 use aig_base::{Kind, MemReader, Memory};
-use aig_dump_header::push_position;
 use aig_format::write_ascii_with;
+use aig_names::push_position;
 use aig_sim::{Reached, dump, first_states, write_stimulus, write_witness};
 use std::alloc::Global;
 

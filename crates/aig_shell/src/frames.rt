@@ -5,7 +5,7 @@ ghost use Rattle.aig_shell.specs.Edits.{AreFrames, IsFrame};
 
 use crate::refusal::Refusal;
 use crate::session::Session;
-use aig_names::decimal_of;
+use aig_signals::decimal_of;
 
 /// The most frames that are shown where none are named.
 pub(crate) const SHOWN: u32 = 64;

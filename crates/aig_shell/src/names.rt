@@ -6,7 +6,7 @@ ghost use Rattle.aig_shell.specs.Request as request;
 use crate::refusal::Refusal;
 use crate::session::Session;
 use aig_base::{Circuit, Kind, Memory};
-use aig_dump_header::{first_word, symbol_at};
+use aig_names::{first_word, symbol_at};
 use aig_prompt::{Folding, Near};
 use aig_signals::{SECTIONS, Signal, count_of, push_first_name, push_readable};
 use memchr::memmem;

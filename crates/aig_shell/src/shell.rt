@@ -1,7 +1,7 @@
 //! The command `shell`.
 ghost use Rattle.std.specs.Prelude.{◌≡◌, IfErr, IfOk};
 ghost use Rattle.aig_bytes.specs.Flow.{flow};
-ghost use Rattle.aig_run.specs.Given.{given_text};
+ghost use Rattle.aig_command.specs.Given.{given_text};
 ghost use Rattle.aig_shell.specs.Conversation.{EndsShell, OpensSession, RefusesFiles};
 
 use crate::conversation::Conversation;
@@ -9,7 +9,7 @@ use crate::keeper::Keep;
 use crate::session::Session;
 use crate::talk::Talker;
 use aig_base::{Io, Read, Write};
-use aig_run::{Given, GivenRun, RunFault, read_circuit, read_given};
+use aig_command::{Given, GivenRun, RunFault, read_circuit, read_given};
 use std::alloc::Global;
 
 /// The session of the files.

@@ -28,7 +28,7 @@ use Rattle.aig_signals.specs.Bits.{word_bit, word_bits}
 use Rattle.aig_signals.specs.Lookup.{alone, entry_by, entry_literal, literals_called, literals_by, or_else}
 use Rattle.aig_signals.specs.Lookup.{signal_literals, signal_named, IsPlain, MeansPlainly, Means}
 use Rattle.aig_signals.specs.Names.{entry_words, literal_of, literals_of, readable, sections}
-use Rattle.aig_dump_header.specs.Vectors.{bit_of}
+use Rattle.aig_names.specs.Vectors.{bit_of}
 
 even_or_odd : (l : ℕ) → (l % 2 ≡ 0) ⊎ (l % 2 ≡ 1)
 even_or_odd l = grind arith

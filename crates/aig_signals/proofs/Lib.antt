@@ -1,10 +1,14 @@
 pub mod BitLemmas
 pub mod Defined
 pub mod EntryLemmas
+pub mod Lines
 pub mod Lookups
 pub mod Meaning
 pub mod NameLemmas
+pub mod NamedEntries
+pub mod NamedParts
 pub mod NamingLemmas
+pub mod PropertyLookups
 pub mod RunLemmas
 pub mod SeenLemmas
 pub mod SignalLemmas

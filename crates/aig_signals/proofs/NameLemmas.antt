@@ -6,7 +6,7 @@ use Rattle.std.specs.Str.{bytes_eq}
 use Rattle.std.proofs.lemmas.List.{map-append, take_more}
 use Rattle.aig_parts.specs.declared.raw.Raw.{Raw}
 use Rattle.aig_parts.specs.declared.symbols.Kind.{Kind}
-use Rattle.aig_dump_header.specs.Names.{symbol_of, words}
+use Rattle.aig_names.specs.Names.{symbol_of, words}
 use Rattle.aig_signals.specs.Names.{readable, readable_byte, position_name, first_name, further_names}
 
 -- one byte more

@@ -7,7 +7,7 @@ use Rattle.std.specs.List.{range_with_len}
 use Rattle.std.specs.Str.{bytes_eq}
 use Rattle.aig_parts.specs.declared.raw.Raw.{Raw}
 use Rattle.aig_parts.specs.declared.symbols.Kind.{Kind}
-use Rattle.aig_dump_header.specs.Vectors.{bit_of}
+use Rattle.aig_names.specs.Vectors.{bit_of}
 use Rattle.aig_signals.specs.declared.bits.WordBit.{WordBit}
 use Rattle.aig_signals.specs.Names.{readable, entry_words, literal_of, literals_of, sections}
 

@@ -1,7 +1,9 @@
 pub mod Bits
 pub mod Lookup
+pub mod Named
 pub mod Names
 pub mod Naming
+pub mod Property
 pub mod Signals
 pub mod Text
 pub mod Value

@@ -5,7 +5,7 @@ use Rattle.aig_parts.specs.declared.raw.Raw.{Raw}
 use Rattle.aig_parts.specs.declared.symbols.Kind.{Kind}
 use Rattle.aig_parts.specs.declared.symbols.Kind.TheVariants.{Input, Latch, Output, Bad, Constraint, Justice, Fairness}
 use Rattle.aig_parts.specs.Letters.{letter}
-use Rattle.aig_dump_header.specs.Names.{symbol_of, words}
+use Rattle.aig_names.specs.Names.{symbol_of, words}
 
 -- control bytes, blanks and all that is no ASCII become `_`
 abbrev pub readable_byte : ℕ → ℕ

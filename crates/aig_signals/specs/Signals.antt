@@ -7,7 +7,7 @@ use Rattle.std.specs.List.{flat_map}
 use Rattle.std.specs.Str.{bytes_eq}
 use Rattle.aig_parts.specs.declared.raw.Raw.{Raw}
 use Rattle.aig_parts.specs.declared.symbols.Kind.{Kind}
-use Rattle.aig_dump_header.specs.Vectors.{next_name, bit_of}
+use Rattle.aig_names.specs.Vectors.{next_name, bit_of}
 use Rattle.aig_signals.specs.declared.run.Run.{Run}
 use Rattle.aig_signals.specs.declared.signal.Signal.{Signal}
 use Rattle.aig_signals.specs.Names.{first_name, literals_of, sections}

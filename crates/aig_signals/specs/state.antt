@@ -1,3 +1,5 @@
+pub mod Found
 pub mod NameHash
 pub mod Naming
+pub mod PropertyNaming
 pub mod Seen

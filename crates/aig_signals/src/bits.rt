@@ -2,8 +2,8 @@
 ghost use Rattle.std.specs.Prelude.{◌≡◌, ◌++◌, ◌+◌, ◌<◌, ◌≤◌, [], ◌∷◌, All, IfOk, OnOk, filter_map, flat_map, length};
 ghost use Rattle.std.specs.Prelude.{map};
 ghost use Rattle.std.specs.List.{range_with_len};
-ghost use Rattle.aig_dump_header.specs.Names.{words};
-ghost use Rattle.aig_dump_header.specs.Vectors as vectors;
+ghost use Rattle.aig_names.specs.Names.{words};
+ghost use Rattle.aig_names.specs.Vectors as vectors;
 ghost use Rattle.aig_signals.specs.Bits as spec;
 ghost use Rattle.aig_signals.specs.Bits.{bit_literal, bits_named, entry_bits, word_bit};
 ghost use Rattle.aig_signals.specs.Names.{literals_of, readable};
@@ -11,7 +11,7 @@ ghost use Rattle.aig_signals.specs.Names.{literals_of, readable};
 use crate::names::push_readable;
 use crate::section::{SECTIONS, count_of, literal_at};
 use aig_base::{Circuit, Kind, List, Lit, Memory};
-use aig_dump_header::{bit_of, first_word, symbol_at};
+use aig_names::{bit_of, first_word, symbol_at};
 use std::alloc::Global;
 
 /// A word X[n] of an entry: n, and the literal of the entry.

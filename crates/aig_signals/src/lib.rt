@@ -1,4 +1,5 @@
-//! Signals of a circuit: what people call them, which of them a name means, and their values as text. It knows no run.
+//! Signals and properties of a circuit: what people call them, which of them a name means, and values as text. It knows
+//! no run.
 #![tactic(auto)]
 
 mod bits;
@@ -6,6 +7,7 @@ mod hash;
 mod lookup;
 mod names;
 mod naming;
+mod property;
 mod run;
 mod section;
 mod signal;
@@ -15,6 +17,10 @@ mod value;
 pub use lookup::{entry_named, look_up};
 pub use names::{push_first_name, push_readable};
 pub use naming::SectionNaming;
+pub use property::fault::{NamesFault, PropertyFault};
+pub use property::lookup::position_of;
+pub use property::naming::named;
+pub use property::number::{decimal_of, number_of};
 pub use run::{Run, runs_of};
 pub use section::{SECTIONS, count_of, literal_at};
 pub use signal::{Signal, signals_of};

@@ -16,7 +16,7 @@ use crate::section::{SECTIONS, count_of, literal_at};
 use crate::signal::Signal;
 use aig_base::{Circuit, Kind, List, Lit, Memory};
 use aig_certificate::literal_of;
-use aig_dump_header::push_position;
+use aig_names::push_position;
 use std::alloc::Global;
 
 /// What gives an entry a name.

@@ -2,12 +2,12 @@
 ghost use Rattle.std.specs.Prelude.{◌≡◌, ◌++◌, map, IfOk, OnOk};
 ghost use Rattle.std.specs.List.{list_any};
 ghost use Rattle.std.specs.Str.{bytes_eq};
-ghost use Rattle.aig_dump_header.specs.Names.{words};
+ghost use Rattle.aig_names.specs.Names.{words};
 ghost use Rattle.aig_signals.specs.Names as spec;
 ghost use Rattle.aig_signals.specs.Names.{readable, first_name, further_names};
 
 use aig_base::{Circuit, Kind, Memory};
-use aig_dump_header::{first_word, push_position, symbol_at};
+use aig_names::{first_word, push_position, symbol_at};
 
 /// A byte of a symbol as a terminal shows it.
 fn readable_byte(byte: u8) -> u8

@@ -5,7 +5,7 @@ ghost use Rattle.aig_signals.specs.Signals as spec;
 use crate::names::push_first_name;
 use crate::section::count_of;
 use aig_base::{Circuit, Kind, Memory};
-use aig_dump_header::show_next;
+use aig_names::show_next;
 use std::alloc::Global;
 
 /// Neighbours of a section that are one signal: the bits of a vector, or an entry alone. They are the entries from the

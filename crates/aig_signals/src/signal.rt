@@ -16,7 +16,7 @@ use crate::names::push_first_name;
 use crate::run::{Run, runs_of};
 use crate::section::SECTIONS;
 use aig_base::{Bytes, Circuit, Kind, List, Memory};
-use aig_dump_header::{Bit, bit_of};
+use aig_names::{Bit, bit_of};
 use indexmap::IndexMap;
 use itoa::Buffer;
 use std::alloc::Global;

@@ -9,8 +9,8 @@ use Rattle.std.proofs.lemmas.List.Elements.{All-nil, All-cons, All-head, All-tai
 use Rattle.aig_parts.specs.declared.raw.Raw.{Raw}
 use Rattle.aig_sim.specs.DumpHeader.{signal_counts, header}
 use Rattle.aig_sim.specs.DumpRead.{lines_after, lines}
-use Rattle.aig_dump_header.proofs.Codes.{IsVisible}
-use Rattle.aig_dump_header.proofs.HeaderLines.{lines_of_header}
+use Rattle.aig_names.proofs.Codes.{IsVisible}
+use Rattle.aig_names.proofs.HeaderLines.{lines_of_header}
 
 -- ---- one line
 abbrev pub HasNoEnd : List ℕ → Type 0

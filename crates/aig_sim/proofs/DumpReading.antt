@@ -11,12 +11,12 @@ use Rattle.std.proofs.lemmas.List.Elements.{All-cons, All-head, All-tail}
 use Rattle.std.proofs.lemmas.Slice.Eq.{bytes_eq-Decides}
 use Rattle.aig_sim.specs.StimulusText.{IsCharacter}
 use Rattle.aig_sim.specs.Dump.{time_line, value_line, all_lines, changed_lines, first_text, next_text}
-use Rattle.aig_dump_header.specs.Names.{identifier_code}
+use Rattle.aig_names.specs.Names.{identifier_code}
 use Rattle.aig_sim.specs.DumpRead.{lines, time_after, is_value, value_after, seen}
-use Rattle.aig_dump_header.proofs.Codes.{one_signal, visible_code}
+use Rattle.aig_names.proofs.Codes.{one_signal, visible_code}
 use Rattle.aig_sim.proofs.DumpLines.{HasNoEnd, no_end_by_test, no_end_visible, first_line, IsDirective, AreDirectives}
 use Rattle.aig_sim.proofs.DumpLines.{no_directive, directive_then}
-use Rattle.aig_dump_header.proofs.NamePieces.{visible_decimal}
+use Rattle.aig_names.proofs.NamePieces.{visible_decimal}
 
 -- a look at signal m at time t, where a time and a value were seen, sees these after the text
 pub record Leads (m t now : ℕ) (value : Option ℕ) (text : List ℕ) (now' : ℕ) (value' : Option ℕ) : Type 0 where

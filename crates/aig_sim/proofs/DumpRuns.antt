@@ -16,7 +16,7 @@ use Rattle.aig_sim.specs.StimulusText.{IsCharacter}
 use Rattle.aig_values.specs.Trace.{AreValues}
 use Rattle.aig_sim.specs.Dump.{signals, first_text, next_text, AreFrames, closing, IsDump}
 use Rattle.aig_sim.specs.DumpHeader.{header}
-use Rattle.aig_dump_header.specs.Names.{identifier_code}
+use Rattle.aig_names.specs.Names.{identifier_code}
 use Rattle.aig_sim.specs.DumpRead.{lines_after, seen, read_value, ShowsFrames}
 use Rattle.aig_sim.proofs.LineLemmas.{IsCharacter-of_value}
 use Rattle.aig_sim.proofs.DumpLines.{header_directives}

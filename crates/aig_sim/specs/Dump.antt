@@ -6,7 +6,7 @@ use Rattle.std.specs.Prelude.{codes, decimal}
 use Rattle.aig_parts.specs.declared.ternary.Tern.{Tern}
 use Rattle.aig_parts.specs.declared.raw.Raw.{Raw}
 use Rattle.aig_sim.specs.DumpHeader.{header}
-use Rattle.aig_dump_header.specs.Names.{identifier_code}
+use Rattle.aig_names.specs.Names.{identifier_code}
 use Rattle.aig_values.specs.Trace.{AreValues}
 
 -- the literals of the signals in order: inputs, latches, outputs, bad, constraints; signal n is the one at position n

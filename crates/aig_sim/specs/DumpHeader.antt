@@ -1,8 +1,8 @@
 -- The header of a circuit's value change dump.
 use Rattle.std.specs.Prelude.{ℕ, List, length}
 use Rattle.aig_parts.specs.declared.raw.Raw.{Raw}
-use Rattle.aig_dump_header.specs.declared.header.SignalCounts.{SignalCounts}
-use Rattle.aig_dump_header.specs.Header as dump
+use Rattle.aig_names.specs.declared.header.SignalCounts.{SignalCounts}
+use Rattle.aig_names.specs.Header as dump
 
 -- how many signals a dump shows of each section
 abbrev pub signal_counts : Raw → SignalCounts

@@ -10,7 +10,7 @@ use Rattle.aig_parts.specs.declared.raw.Raw.{Raw}
 use Rattle.aig_base.specs.Value.{Value}
 use Rattle.aig_values.specs.Characters.{character}
 use Rattle.aig_sim.specs.Dump.{signals}
-use Rattle.aig_dump_header.specs.Names.{identifier_code}
+use Rattle.aig_names.specs.Names.{identifier_code}
 
 -- the lines of a text, of which the first one has begun; LF ends a line, and what no LF ends is none
 unfoldable pub lines_after : List ℕ → List ℕ → List (List ℕ)

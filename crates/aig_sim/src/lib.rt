@@ -7,7 +7,7 @@ mod stimulus;
 mod text_laws;
 mod witness;
 
-pub use aig_dump_header::law_of_dump_header;
+pub use aig_names::law_of_dump_header;
 pub use aig_values::{
     ByteGrid, FRAMES, Grid, PlaneGrid, Stimulus, first_value, stand_in_order, write_trace,
 };

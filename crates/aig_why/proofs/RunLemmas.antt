@@ -17,11 +17,11 @@ use Rattle.aig_parts.specs.declared.symbols.Kind.TheVariants as kinds
 use Rattle.aig_parts.specs.declared.ternary.Tern.{Tern}
 use Rattle.aig_base.proofs.values.Resets.{latches_length}
 use Rattle.aig_base.specs.Resets.{HasOtherResets}
-use Rattle.aig_run.proofs.Files.{MeansNoFault}
-use Rattle.aig_run.proofs.GivenRuns.{given_no_circuit}
-use Rattle.aig_run.specs.declared.given.Given.{Given}
-use Rattle.aig_run.specs.declared.run_fault.RunFault.{RunFault}
-use Rattle.aig_run.specs.declared.run_fault.RunFault.TheVariants as run_faults
+use Rattle.aig_command.proofs.Files.{MeansNoFault}
+use Rattle.aig_command.proofs.GivenRuns.{given_no_circuit}
+use Rattle.aig_command.specs.declared.given.Given.{Given}
+use Rattle.aig_command.specs.declared.run_fault.RunFault.{RunFault}
+use Rattle.aig_command.specs.declared.run_fault.RunFault.TheVariants as run_faults
 use Rattle.aig_signals.specs.Names.{literals_of}
 use Rattle.aig_signals.specs.declared.text.Naming.{Naming}
 use Rattle.aig_why.proofs.TextLemmas.{latch_literals}

@@ -12,11 +12,11 @@ use Rattle.aig_bench.specs.declared.bench.fault.BenchFault.TheVariants as benche
 use Rattle.aig_bench.specs.BenchState.{CircuitAndRows}
 use Rattle.aig_causes.specs.Causes.{Moment, Sources}
 use Rattle.aig_causes.specs.Explanation.{ComesDown, LineState, named_at}
-use Rattle.aig_run.specs.Given.{IsGiven, ReadRun, RefusesGiven}
-use Rattle.aig_run.specs.declared.given.Given.{Given}
-use Rattle.aig_run.specs.declared.run_fault.RunFault.{RunFault}
-use Rattle.aig_run.specs.declared.run_fault.RunFault.TheVariants as run_faults
-use Rattle.aig_run.specs.declared.why_fault.WhyFault.TheVariants as why_faults
+use Rattle.aig_command.specs.Given.{IsGiven, ReadRun, RefusesGiven}
+use Rattle.aig_command.specs.declared.given.Given.{Given}
+use Rattle.aig_command.specs.declared.run_fault.RunFault.{RunFault}
+use Rattle.aig_command.specs.declared.run_fault.RunFault.TheVariants as run_faults
+use Rattle.aig_command.specs.declared.why_fault.WhyFault.TheVariants as why_faults
 use Rattle.aig_signals.specs.Lookup.{Means, Unknown}
 use Rattle.aig_signals.specs.Names.{first_name}
 use Rattle.aig_why.specs.Lines.{AreFrameTexts, AreLastTexts, IsAskedText}

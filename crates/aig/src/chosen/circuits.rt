@@ -9,8 +9,7 @@ use crate::command::{
     Command, Info, InfoNames, Select, SelectNamed, Selection, Toaig, Unroll, UnrollAndMap,
 };
 use aig_cli::{has_flag, text_of};
-use aig_files::{Exit, Part, Source, open};
-use aig_terminal::{Terminal, Tracked};
+use aig_files::{Exit, Part, Source, Terminal, Tracked, open};
 use clap::ArgMatches;
 use std::fs::Files;
 use std::time::Clock;

@@ -3,8 +3,7 @@ ghost use Rattle.std.specs.Prelude.{◌≡◌, IfOk, codes, true};
 ghost use Rattle.aig.specs.Chosen.{is_given};
 
 use aig_cli::text_of;
-use aig_files::{Exit, Part, Source, open};
-use aig_terminal::{Terminal, Tracked};
+use aig_files::{Exit, Part, Source, Terminal, Tracked, open};
 use clap::ArgMatches;
 use std::fs::Files;
 use std::time::Clock;

@@ -10,8 +10,7 @@ use crate::chosen::properties::{
 use crate::command::{Cnf, Command, ModelWitness, Refute, Strengthen};
 use aig_cli::{has_flag, text_of};
 use aig_commands::question::Question;
-use aig_files::{Exit, Part, Source, open};
-use aig_terminal::{Terminal, Tracked};
+use aig_files::{Exit, Part, Source, Terminal, Tracked, open};
 use clap::ArgMatches;
 use std::alloc::Global;
 use std::fs::Files;

@@ -9,9 +9,9 @@ use Rattle.aig_cnf.specs.Query.{from_any_state, induction, subject}
 use Rattle.aig_cnf.specs.declared.fault.CnfFault.{CnfFault}
 use Rattle.aig_cnf.specs.declared.heading.Heading.{Heading}
 use Rattle.aig_cnf.specs.declared.heading.Heading.TheVariants.{Runs, Alive, Certified}
-use Rattle.aig_run.specs.Command.{IsFileOf, RefusesCircuit}
-use Rattle.aig_run.specs.declared.run_fault.RunFault.{RunFault}
-use Rattle.aig_run.specs.declared.run_fault.RunFault.TheVariants as run_faults
+use Rattle.aig_command.specs.Command.{IsFileOf, RefusesCircuit}
+use Rattle.aig_command.specs.declared.run_fault.RunFault.{RunFault}
+use Rattle.aig_command.specs.declared.run_fault.RunFault.TheVariants as run_faults
 use Rattle.aig_sat.specs.checker.Consequence.{IsUnsatisfiable}
 use Rattle.aig_sat.specs.declared.proof.fault.ProofFault.{ProofFault}
 use Rattle.aig_commands.specs.Certified.{IsCertified, RefusesCertified}

@@ -2,7 +2,7 @@
 use Rattle.std.specs.Prelude.{◌≡◌, ℕ, List, Some, slice_get}
 use Rattle.aig_parts.specs.declared.raw.Raw.{Raw}
 use Rattle.aig_certificate.specs.Extension.{IsExtension}
-use Rattle.aig_run.specs.Command.{IsFileOf}
+use Rattle.aig_command.specs.Command.{IsFileOf}
 
 -- x extends the circuit of the file, for its bad literal at position p
 abbrev pub IsExtensionOf : List ℕ → ℕ → Raw → Type 0

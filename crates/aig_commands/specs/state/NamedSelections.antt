@@ -3,10 +3,10 @@ use Rattle.std.specs.Prelude.{◌≡◌, ◌⊎◌}
 use Rattle.aig_parts.specs.declared.raw.Raw.{Raw}
 use Rattle.aig_base.specs.Selected.{selected, CanSelect, RefusesSelection}
 use Rattle.aig_base.specs.declared.select.SelectFault.{SelectFault}
-use Rattle.aig_names.specs.Named.{IsNamed, RefusesNames}
-use Rattle.aig_names.specs.declared.fault.NamesFault.{NamesFault}
-use Rattle.aig_run.specs.declared.run_fault.RunFault.{RunFault}
-use Rattle.aig_run.specs.declared.run_fault.RunFault.TheVariants as run_faults
+use Rattle.aig_signals.specs.Named.{IsNamed, RefusesNames}
+use Rattle.aig_signals.specs.declared.property.fault.NamesFault.{NamesFault}
+use Rattle.aig_command.specs.declared.run_fault.RunFault.{RunFault}
+use Rattle.aig_command.specs.declared.run_fault.RunFault.TheVariants as run_faults
 use Rattle.aig_commands.specs.declared.select.NamedSelection.{NamedSelection}
 
 -- x is the circuit that keeps these properties, under these names

@@ -5,8 +5,8 @@ use crate::line::Word;
 use crate::notes::look::Look;
 use aig_base::{Circuit, Kind, Memory};
 use aig_certificate::StrengthenFault;
+use aig_command::read_circuit;
 use aig_files::RunFiles;
-use aig_run::read_circuit;
 use std::fs::Files;
 
 /// What is wanted of the entries that a certificate shares.

@@ -12,8 +12,8 @@ use crate::unrolling::push_unroll;
 use crate::witness::{frames_of, push_witness};
 use aig_base::Memory;
 use aig_cnf::{Goal, Query};
+use aig_command::RunFault;
 use aig_files::RunFiles;
-use aig_run::RunFault;
 
 /// Adds what a file says of a fault. A stimulus or a witness depends on a circuit, which has no bytes if it is not
 /// known.

@@ -6,7 +6,7 @@ use crate::line::Word;
 use crate::text_lines::count_ended;
 use aig_base::{Memory, SelectFault};
 use aig_files::RunFiles;
-use aig_names::PropertyFault;
+use aig_signals::PropertyFault;
 
 /// Adds how many names a file has.
 pub fn push_count(lines: &mut Explanation, file: &[u8]) -> Result<(), Memory> {

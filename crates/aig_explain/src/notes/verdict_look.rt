@@ -5,9 +5,9 @@ use crate::line::Word;
 use crate::notes::look::Look;
 use crate::text_lines::line_of;
 use aig_base::{Circuit, Kind, Memory, PropertySection};
+use aig_command::read_circuit;
 use aig_files::Judged;
-use aig_names::position_of;
-use aig_run::read_circuit;
+use aig_signals::position_of;
 use std::fs::Files;
 
 /// Says which property a verdict is about, by its position and its name. A file that a second look does not show, such

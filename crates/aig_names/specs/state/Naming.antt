@@ -1,27 +1,49 @@
--- Names that are added line by line.
-use Rattle.std.specs.Prelude.{◌≡◌, ℕ, List, ◌++◌, length, filter, Contains, ⊤}
-use Rattle.std.specs.Map.{keys_of}
-use Rattle.aig_parts.specs.declared.symbols.Kind.{Kind}
-use Rattle.aig_parts.specs.SymbolPlaces.{Key}
-use Rattle.aig_base.specs.declared.select.PropertySection.{PropertySection}
-use Rattle.aig_names.specs.Named.{AreLines, is_other, symbols_from}
-use Rattle.aig_names.specs.declared.fault.NamesFault.{NamesFault}
-use Rattle.aig_names.specs.declared.fault.NamesFault.TheVariants as faults
+-- Names as the program holds them.
+-- Example: the names left of `a b` after its first are `b`.
+use Rattle.std.specs.Prelude.{◌≡◌, ℕ, ◌+◌, List, [], ◌∷◌, length, map, sum, decimal}
+use Rattle.aig_names.specs.declared.names.Name.{Name}
+use Rattle.aig_names.specs.declared.names.Name.TheVariants as name
+use Rattle.aig_names.specs.declared.names.Names.{Names}
+use Rattle.aig_names.specs.declared.names.Names.TheVariants as names
+use Rattle.aig_names.specs.declared.signals.Signal.{Signal}
+use Rattle.aig_names.specs.declared.signals.Entry.{Entry}
+use Rattle.aig_parts.specs.Letters.{letter}
+use Rattle.aig_names.specs.Names.{words, shown}
+use Rattle.aig_names.specs.Vectors.{next_name}
 
--- the symbols of the other sections
-abbrev pub other_symbols : PropertySection → List (Key × List ℕ) → List (Key × List ℕ)
-other_symbols section symbols = filter (λ s. is_other section s.0.0) symbols
+-- a name's bytes
+abbrev pub name_text : Name → List ℕ
+name_text (name.Word word) = shown word.now
+name_text (name.Position kind p) = letter kind ∷ decimal p
 
--- no entry of the section has a name
-abbrev pub IsFreeFor : Kind → List (Key × List ℕ) → Type 0
-IsFreeFor kind symbols = (p : ℕ) → Contains (keys_of symbols) (kind, p) → ⊥
+-- names that are not declared yet
+abbrev pub names_left : Names → List (List ℕ)
+names_left (names.Words text) = map shown (words text.now)
+names_left (names.Position kind p) = (letter kind ∷ decimal p) ∷ []
 
--- the lines of the text, n of them, are the names that were added
-abbrev pub AddsNames : Kind → ℕ → List ℕ → List (Key × List ℕ) → List (Key × List ℕ) → Type 0
-AddsNames kind n text old new =
-    (names : List (List ℕ)) × AreLines text names × (length names ≡ n) × (new ≡ old ++ symbols_from kind 0 names)
+-- how many bytes the text has; a position stands for one
+abbrev pub names_size : Names → ℕ
+names_size (names.Words text) = length text.now
+names_size (names.Position kind p) = 1
 
--- why they are not added: the text is no n lines, or else no memory was found
-abbrev pub RefusesLines : ℕ → List ℕ → NamesFault → Type 0
-RefusesLines n text faults.Lines = (names : List (List ℕ)) → AreLines text names → length names ≡ n → ⊥
-RefusesLines n text faults.Memory = ⊤
+-- a signal's number and its name
+abbrev pub named : Signal → ℕ × List ℕ
+named signal = (signal.number, name_text signal.name)
+
+-- a signal's number and the names that are not declared yet
+abbrev pub entry_names : Entry → ℕ × List (List ℕ)
+entry_names entry = (entry.number, names_left entry.names)
+
+-- how much is left of entries
+abbrev pub size_left : List Entry → ℕ
+size_left entries = sum (map (λ entry. names_size entry.names + 1) entries)
+
+-- a column and the columns after it; without a name there is none
+abbrev pub column_then : List (ℕ × List ℕ) → List (List (ℕ × List ℕ)) → List (List (ℕ × List ℕ))
+column_then [] columns = []
+column_then (x ∷ column) columns = (x ∷ column) ∷ columns
+
+-- the name after a run's last one, where there is a run; the last one stands first
+abbrev pub next_of : List (ℕ × List ℕ) → List ℕ → Type 0
+next_of [] next = Unit {0}
+next_of (last ∷ run) next = next ≡ next_name last.1

@@ -3,7 +3,7 @@ ghost use Rattle.std.specs.Prelude.{◌≡◌, IfOk};
 ghost use Rattle.aig_sim.specs.DumpHeader.{header};
 
 use aig_base::{Circuit, Memory};
-use aig_dump_header::{SignalCounts, dump_header};
+use aig_names::{SignalCounts, dump_header};
 use std::alloc::Global;
 
 /// All that stands before the first frame of a dump.

@@ -4,7 +4,7 @@ ghost use Rattle.std.specs.Prelude.{false, IsTrue};
 ghost use Rattle.aig_bytes.specs.Bytes.{Writes};
 ghost use Rattle.aig_bytes.specs.Gathered.{Gathers};
 ghost use Rattle.aig_sim.specs.Dump.{value_line, changed_lines};
-ghost use Rattle.aig_dump_header.specs.Names.{identifier_code};
+ghost use Rattle.aig_names.specs.Names.{identifier_code};
 ghost use Rattle.aig_sim.specs.state.Dumping.{time_line, dumped_text};
 
 use aig_base::{Io, Write};

@@ -2,7 +2,7 @@ use Rattle.std.specs.Prelude.{IfSome}
 use Rattle.aig_commands.specs.Certified.{OfCertified}
 use Rattle.aig_commands.specs.declared.certified.Purpose.TheVariants as purposes
 use Rattle.aig_commands.specs.Toaig.{Converts}
-use Rattle.aig_terminal.specs.declared.part.Part.TheVariants as parts
+use Rattle.aig_files.specs.declared.part.Part.TheVariants as parts
 use Rattle.aig.specs.Ends.{Ends, end_of}
 use Rattle.aig.proofs.Endings.{command_ends, ends_unread, of_any, of_any_two, of_both, of_whole, slice_whole}
 use Rattle.aig.proofs.certificates.strengthen.Goals as goal

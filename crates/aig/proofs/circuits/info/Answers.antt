@@ -1,7 +1,7 @@
 use Rattle.std.proofs.Common.{◌∙◌, ℕ, List, Option, Some, ap, subst}
 use Rattle.aig_commands.specs.Info.{ListsFacts}
 use Rattle.aig_files.specs.Known.{still_known}
-use Rattle.aig_run.specs.Command.{OfFile}
+use Rattle.aig_command.specs.Command.{OfFile}
 use Rattle.aig.specs.Ends.{Ends, end_of}
 use Rattle.aig.proofs.Endings.{known_at_first, of_left, streamed_ends}
 use Rattle.aig.proofs.circuits.info.Goals as goal

@@ -1,5 +1,5 @@
 use Rattle.std.proofs.Common.{ℕ, List, subst}
-use Rattle.aig_run.specs.Command.{OfCircuit}
+use Rattle.aig_command.specs.Command.{OfCircuit}
 use Rattle.aig_commands.specs.Select.{Selects}
 use Rattle.aig.proofs.Endings.{answers_changed, circuit_answers, ends_flushed}
 use Rattle.aig.proofs.circuits.select.Goals as goal

@@ -1,6 +1,6 @@
 use Rattle.std.proofs.Common.{◌≡◌, ℕ, List, refl}
-use Rattle.aig_run.specs.Command.{OfCircuit}
-use Rattle.aig_terminal.specs.declared.part.Part.TheVariants as parts
+use Rattle.aig_command.specs.Command.{OfCircuit}
+use Rattle.aig_files.specs.declared.part.Part.TheVariants as parts
 use Rattle.aig_commands.specs.Select.{SelectsNamed}
 use Rattle.aig_commands.specs.declared.select.NamedSelection.{NamedSelection}
 use Rattle.aig.specs.Ends.{EndsSelectingNamed}

@@ -1,6 +1,6 @@
 use Rattle.aig_commands.specs.GoesWell.{GoesWell}
 use Rattle.aig_commands.specs.Unroll.{UnrollsKept}
-use Rattle.aig_run.specs.Command.{OfFile}
+use Rattle.aig_command.specs.Command.{OfFile}
 use Rattle.aig.proofs.Endings.{ok_whole, slice_whole}
 use Rattle.aig.proofs.circuits.unroll_and_map.Goals as goal
 

@@ -1,7 +1,7 @@
 use Rattle.std.proofs.Common.{Ok}
 use Rattle.aig_commands.specs.Unroll.{UnrollsKept}
-use Rattle.aig_run.specs.Command.{OfFile}
-use Rattle.aig_run.specs.declared.run_fault.RunFault.TheVariants as run_faults
+use Rattle.aig_command.specs.Command.{OfFile}
+use Rattle.aig_command.specs.declared.run_fault.RunFault.TheVariants as run_faults
 use Rattle.aig.specs.Ends.{Answers}
 use Rattle.aig.proofs.Endings.{answers, flushed_answers, goes_well}
 use Rattle.aig.proofs.circuits.write_unrolled_and_map.Goals as goal

@@ -1,4 +1,4 @@
-use Rattle.aig_run.specs.Given.{given_text}
+use Rattle.aig_command.specs.Given.{given_text}
 use Rattle.aig.proofs.SessionEndings.{session_ends}
 use Rattle.aig.proofs.sessions.answer.Goals as goal
 

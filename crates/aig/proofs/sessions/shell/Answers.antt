@@ -1,5 +1,5 @@
-use Rattle.aig_run.specs.Given.{given_text}
-use Rattle.aig_terminal.specs.declared.part.Part.TheVariants as parts
+use Rattle.aig_command.specs.Given.{given_text}
+use Rattle.aig_files.specs.declared.part.Part.TheVariants as parts
 use Rattle.aig.specs.Ends.{Ends, end_of}
 use Rattle.aig.specs.GivenFiles.{given_left, given_part}
 use Rattle.aig.specs.Sessions.{HoldsSession}

@@ -1,8 +1,8 @@
 use Rattle.std.specs.Prelude.{IfSome}
-use Rattle.aig_run.specs.declared.run_fault.RunFault.TheVariants as run_faults
-use Rattle.aig_run.specs.declared.script_fault.ScriptFault.TheVariants as scripts
+use Rattle.aig_command.specs.declared.run_fault.RunFault.TheVariants as run_faults
+use Rattle.aig_command.specs.declared.script_fault.ScriptFault.TheVariants as scripts
 use Rattle.aig_script.specs.Bench.{LeavesBench}
-use Rattle.aig_terminal.specs.declared.part.Part.TheVariants as parts
+use Rattle.aig_files.specs.declared.part.Part.TheVariants as parts
 use Rattle.aig.specs.Ends.{Ends, ForSomeText, end_of}
 use Rattle.aig.proofs.Endings.{ends_unread, ends_unwritten, of_any, of_whole, slice_whole}
 use Rattle.aig.proofs.simulations.bench.Goals as goal

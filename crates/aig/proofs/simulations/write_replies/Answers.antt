@@ -1,6 +1,6 @@
 use Rattle.std.proofs.Common.{Ok, Err, refl}
-use Rattle.aig_run.specs.declared.run_fault.RunFault.TheVariants as run_faults
-use Rattle.aig_run.specs.declared.script_fault.ScriptFault.TheVariants as scripts
+use Rattle.aig_command.specs.declared.run_fault.RunFault.TheVariants as run_faults
+use Rattle.aig_command.specs.declared.script_fault.ScriptFault.TheVariants as scripts
 use Rattle.aig_script.specs.Bench.{LeavesBench}
 use Rattle.aig.specs.Ends.{ForSomeText, as_meant}
 use Rattle.aig.proofs.Endings.{ends_written, flushed_answers, text_answers, text_fails}

@@ -1,6 +1,6 @@
 use Rattle.std.proofs.Common.{List, ℕ, OnOk, subst}
 use Rattle.aig_commands.specs.Questions.{Asked, RefutesQuestion, Says}
-use Rattle.aig_terminal.specs.declared.part.Part.TheVariants as parts
+use Rattle.aig_files.specs.declared.part.Part.TheVariants as parts
 use Rattle.aig_commands.proofs.Questions.{asked_with}
 use Rattle.aig.specs.Ends.{Ends, end_of}
 use Rattle.aig.specs.Questions.{asked_by, claims_left}

@@ -1,9 +1,9 @@
 use Rattle.std.proofs.Common.{ℕ, List, Option, subst}
 use Rattle.std.specs.Prelude.{option_copied}
 use Rattle.aig_why.specs.Why.{WritesWhy}
-use Rattle.aig_run.specs.Command.{OfFile}
-use Rattle.aig_run.specs.Given.{given_text}
-use Rattle.aig_terminal.specs.declared.part.Part.TheVariants as parts
+use Rattle.aig_command.specs.Command.{OfFile}
+use Rattle.aig_command.specs.Given.{given_text}
+use Rattle.aig_files.specs.declared.part.Part.TheVariants as parts
 use Rattle.aig.specs.Ends.{Answers, Ends, end_of}
 use Rattle.aig.specs.GivenFiles.{given_left, given_part}
 use Rattle.aig.proofs.Endings.{answers, ends_flushed, ends_unread, of_any_two, of_both, slice_whole}

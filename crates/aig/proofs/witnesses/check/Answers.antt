@@ -1,6 +1,6 @@
 use Rattle.std.specs.Prelude.{IfSome}
-use Rattle.aig_run.specs.Command.{OfFile}
-use Rattle.aig_terminal.specs.declared.part.Part.TheVariants as parts
+use Rattle.aig_command.specs.Command.{OfFile}
+use Rattle.aig_files.specs.declared.part.Part.TheVariants as parts
 use Rattle.aig.specs.Ends.{AreConfirmed, ChecksWitness, Ends, end_of_verdict}
 use Rattle.aig.proofs.Endings.{confirmed_end, no_end, of_any, of_whole, ok_whole, slice_whole, ends_unread}
 use Rattle.aig.proofs.witnesses.check.Goals as goal

@@ -1,7 +1,7 @@
 use Rattle.std.specs.Prelude.{IfSome}
 use Rattle.aig_commands.specs.Witness.{WritesWitness}
-use Rattle.aig_run.specs.Command.{OfFile}
-use Rattle.aig_terminal.specs.declared.part.Part.TheVariants as parts
+use Rattle.aig_command.specs.Command.{OfFile}
+use Rattle.aig_files.specs.declared.part.Part.TheVariants as parts
 use Rattle.aig.specs.Ends.{Ends, end_of}
 use Rattle.aig.proofs.Endings.{command_ends, ends_unread, of_any, of_whole, slice_whole}
 use Rattle.aig.proofs.witnesses.witness.Goals as goal

@@ -1,5 +1,5 @@
 use Rattle.aig_commands.specs.Check.{Checks, ChecksAndTraces, OfProperty}
-use Rattle.aig_run.specs.Command.{OfFile}
+use Rattle.aig_command.specs.Command.{OfFile}
 use Rattle.aig.proofs.Endings.{command_ends}
 use Rattle.aig.proofs.witnesses.write_verdict.Goals as goal
 

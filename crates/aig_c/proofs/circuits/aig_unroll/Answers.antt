@@ -1,6 +1,6 @@
 use Rattle.std.proofs.Common.{refl, ap, ◌∙◌, subst}
 use Rattle.std.specs.Prelude.{Ok, Some, take}
-use Rattle.aig_run.specs.Command.{OfFile}
+use Rattle.aig_command.specs.Command.{OfFile}
 use Rattle.aig_commands.specs.Unroll.{Unrolls}
 use Rattle.aig_c.specs.Answers.{Refuses}
 use Rattle.aig_c.proofs.Endings.{done, refused}

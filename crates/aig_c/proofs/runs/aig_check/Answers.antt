@@ -1,6 +1,6 @@
 use Rattle.std.proofs.Common.{refl, ap, ◌∙◌}
 use Rattle.std.specs.Prelude.{Some, take}
-use Rattle.aig_run.specs.Command.{OfFile}
+use Rattle.aig_command.specs.Command.{OfFile}
 use Rattle.aig_commands.specs.Check.{Checks}
 use Rattle.aig_c.proofs.Endings.{done, refused}
 use Rattle.aig_c.proofs.runs.aig_check.Goals.{then-status-eq-DONE, else-status-eq-DONE}

@@ -2,9 +2,9 @@ use Rattle.aig_bytes.specs.Flow.{flow}
 use Rattle.aig_commands.specs.Check.{Checks, OfProperty}
 use Rattle.aig_commands.proofs.Asked.{asked_ends, checks_witness, refused_ends}
 use Rattle.aig_commands.proofs.check.check.Goals as goal
-use Rattle.aig_run.proofs.Files.{answered, file_refused}
-use Rattle.aig_run.specs.Command.{CommandEnds, OfFile}
-use Rattle.aig_run.specs.declared.run_fault.RunFault.TheVariants as run_faults
+use Rattle.aig_command.proofs.Files.{answered, file_refused}
+use Rattle.aig_command.specs.Command.{CommandEnds, OfFile}
+use Rattle.aig_command.specs.declared.run_fault.RunFault.TheVariants as run_faults
 
 pub returns-clause-ends : goal.returns-clause-ends
 returns-clause-ends g c =

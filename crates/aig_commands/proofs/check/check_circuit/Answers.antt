@@ -1,12 +1,12 @@
 use Rattle.std.proofs.Common.{[], Ok, refl}
-use Rattle.aig_run.specs.declared.run_fault.RunFault.TheVariants as run_faults
-use Rattle.aig_run.proofs.Files.{answered}
+use Rattle.aig_command.specs.declared.run_fault.RunFault.TheVariants as run_faults
+use Rattle.aig_command.proofs.Files.{answered}
 use Rattle.aig_bytes.specs.Flow.{flow}
 use Rattle.aig_commands.specs.Check.{Checks, verdict_text}
 use Rattle.aig_commands.proofs.Replays.{shows_so}
 use Rattle.aig_commands.proofs.check.check_circuit.Goals as goal
-use Rattle.aig_run.proofs.Written.{got_all, got_none, got_part}
-use Rattle.aig_run.specs.Command.{CommandEnds}
+use Rattle.aig_command.proofs.Written.{got_all, got_none, got_part}
+use Rattle.aig_command.specs.Command.{CommandEnds}
 
 pub returns-in-Ok-clause-ends : goal.returns-in-Ok-clause-ends
 returns-in-Ok-clause-ends g c =

@@ -1,12 +1,12 @@
 use Rattle.std.proofs.Common.{[], ◌++◌, Ok, ap, sym, refl, ◌∙◌}
-use Rattle.aig_run.specs.declared.run_fault.RunFault.TheVariants as run_faults
-use Rattle.aig_run.proofs.Files.{answered}
+use Rattle.aig_command.specs.declared.run_fault.RunFault.TheVariants as run_faults
+use Rattle.aig_command.proofs.Files.{answered}
 use Rattle.aig_bytes.specs.Flow.{flow}
 use Rattle.aig_commands.specs.Check.{ChecksAndTraces, verdict_text}
 use Rattle.aig_commands.proofs.Replays.{shows_so, trace_stopped, both_written, line_stopped}
 use Rattle.aig_commands.proofs.check.write_run.Goals as goal
-use Rattle.aig_run.proofs.Written.{got_all, got_none, got_part}
-use Rattle.aig_run.specs.Command.{CommandEnds}
+use Rattle.aig_command.proofs.Written.{got_all, got_none, got_part}
+use Rattle.aig_command.specs.Command.{CommandEnds}
 use Rattle.aig_bytes.proofs.WriteLemmas.{after-nil}
 
 pub returns-in-Err-Io : goal.returns-in-Err-Io

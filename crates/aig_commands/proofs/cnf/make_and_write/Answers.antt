@@ -1,10 +1,10 @@
 use Rattle.std.proofs.Common.{[]}
 use Rattle.aig_bytes.specs.Flow.{flow}
 use Rattle.aig_cnf.specs.CnfText.{cnf_text}
-use Rattle.aig_run.proofs.Files.{answered}
-use Rattle.aig_run.proofs.Written.{got_none, output_ends}
-use Rattle.aig_run.specs.Command.{CommandEnds}
-use Rattle.aig_run.specs.declared.run_fault.RunFault.TheVariants as run_faults
+use Rattle.aig_command.proofs.Files.{answered}
+use Rattle.aig_command.proofs.Written.{got_none, output_ends}
+use Rattle.aig_command.specs.Command.{CommandEnds}
+use Rattle.aig_command.specs.declared.run_fault.RunFault.TheVariants as run_faults
 use Rattle.aig_commands.specs.Questions.{WritesFor, asked_of, heading_of}
 use Rattle.aig_commands.proofs.Questions.{writes_formula, writes_none}
 use Rattle.aig_commands.proofs.cnf.make_and_write.Goals as goal

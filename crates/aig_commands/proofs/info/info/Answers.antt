@@ -2,8 +2,8 @@ use Rattle.aig_bytes.specs.Flow.{flow}
 use Rattle.aig_commands.specs.Info.{ListsFacts}
 use Rattle.aig_commands.proofs.InfoLemmas.{by_known, no_read}
 use Rattle.aig_commands.proofs.info.info.Goals as goal
-use Rattle.aig_run.proofs.Files.{ends_of_reader, reader_refused}
-use Rattle.aig_run.specs.declared.run_fault.RunFault.TheVariants as run_faults
+use Rattle.aig_command.proofs.Files.{ends_of_reader, reader_refused}
+use Rattle.aig_command.specs.declared.run_fault.RunFault.TheVariants as run_faults
 
 pub returns-in-Ok : goal.returns-in-Ok
 returns-in-Ok g c =

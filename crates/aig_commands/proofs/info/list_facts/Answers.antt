@@ -1,11 +1,11 @@
 use Rattle.std.proofs.Common.{[], Ok, refl}
-use Rattle.aig_run.specs.declared.run_fault.RunFault.TheVariants as run_faults
-use Rattle.aig_run.proofs.Files.{answered}
+use Rattle.aig_command.specs.declared.run_fault.RunFault.TheVariants as run_faults
+use Rattle.aig_command.proofs.Files.{answered}
 use Rattle.aig_bytes.specs.Flow.{flow}
 use Rattle.aig_commands.specs.Info.{ListsFacts, info_text}
 use Rattle.aig_commands.proofs.info.list_facts.Goals as goal
-use Rattle.aig_run.proofs.Written.{got_all, got_none, got_part}
-use Rattle.aig_run.specs.Command.{CommandEnds}
+use Rattle.aig_command.proofs.Written.{got_all, got_none, got_part}
+use Rattle.aig_command.specs.Command.{CommandEnds}
 
 pub returns-in-Ok : goal.returns-in-Ok
 returns-in-Ok g c = λ file format.

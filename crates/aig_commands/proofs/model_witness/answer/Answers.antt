@@ -2,9 +2,9 @@ use Rattle.std.proofs.Common.{[], Err, refl, subst, sym, ◌∙◌}
 use Rattle.aig_bytes.specs.Flow.{flow}
 use Rattle.aig_cnf.specs.declared.fault.CnfFault.TheVariants as formulas
 use Rattle.aig_cnf.specs.declared.heading.Heading.{Heading}
-use Rattle.aig_run.specs.Command.{CommandEnds}
-use Rattle.aig_run.specs.declared.run_fault.RunFault.TheVariants as run_faults
-use Rattle.aig_run.proofs.Written.{got_none}
+use Rattle.aig_command.specs.Command.{CommandEnds}
+use Rattle.aig_command.specs.declared.run_fault.RunFault.TheVariants as run_faults
+use Rattle.aig_command.proofs.Written.{got_none}
 use Rattle.aig_commands.specs.Questions.{NamesFor}
 use Rattle.aig_commands.proofs.model_witness.answer.Goals as goal
 

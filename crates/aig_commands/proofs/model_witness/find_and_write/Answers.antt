@@ -4,10 +4,10 @@ use Rattle.aig_parts.specs.declared.ternary.Tern.{Tern}
 use Rattle.aig_values.specs.InputRows.{HaveWidth}
 use Rattle.aig_bytes.specs.Flow.{flow}
 use Rattle.aig_refute.specs.PartialModels.{named_rows}
-use Rattle.aig_run.proofs.Files.{answered}
-use Rattle.aig_run.proofs.Written.{got_none, output_ends}
-use Rattle.aig_run.specs.Command.{CommandEnds}
-use Rattle.aig_run.specs.declared.run_fault.RunFault.TheVariants as run_faults
+use Rattle.aig_command.proofs.Files.{answered}
+use Rattle.aig_command.proofs.Written.{got_none, output_ends}
+use Rattle.aig_command.specs.Command.{CommandEnds}
+use Rattle.aig_command.specs.declared.run_fault.RunFault.TheVariants as run_faults
 use Rattle.aig_sim.specs.WitnessText.{witness_text}
 use Rattle.aig_commands.specs.ModelWitness.{WritesNamed}
 use Rattle.aig_commands.specs.Witness.{SpellsFirst}

@@ -3,10 +3,10 @@ use Rattle.aig_parts.specs.declared.raw.Raw.{Raw}
 use Rattle.aig_parts.specs.declared.ternary.Tern.{Tern}
 use Rattle.aig_bytes.specs.Flow.{flow}
 use Rattle.aig_cnf.specs.Query.{depth, subject}
-use Rattle.aig_run.proofs.Files.{answered}
-use Rattle.aig_run.proofs.Written.{ends_map, got_none}
-use Rattle.aig_run.specs.Command.{CommandEnds}
-use Rattle.aig_run.specs.declared.run_fault.RunFault.TheVariants as run_faults
+use Rattle.aig_command.proofs.Files.{answered}
+use Rattle.aig_command.proofs.Written.{ends_map, got_none}
+use Rattle.aig_command.specs.Command.{CommandEnds}
+use Rattle.aig_command.specs.declared.run_fault.RunFault.TheVariants as run_faults
 use Rattle.aig_sat.specs.model.ModelText.{IsModelOf}
 use Rattle.aig_commands.specs.ModelWitness.{RefusesModel, WritesModel, WritesNamed, no_formula, no_model, names}
 use Rattle.aig_commands.specs.ModelWitness.{variable_count}

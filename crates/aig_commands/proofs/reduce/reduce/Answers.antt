@@ -1,9 +1,9 @@
 use Rattle.aig_bytes.specs.Flow.{flow}
 use Rattle.aig_commands.specs.Reduce.{Reduces}
 use Rattle.aig_commands.proofs.reduce.reduce.Goals as goal
-use Rattle.aig_run.proofs.Files.{answered, ends_of_file, file_refused}
-use Rattle.aig_run.specs.Command.{CommandEnds, OfFile}
-use Rattle.aig_run.specs.declared.run_fault.RunFault.TheVariants as run_faults
+use Rattle.aig_command.proofs.Files.{answered, ends_of_file, file_refused}
+use Rattle.aig_command.specs.Command.{CommandEnds, OfFile}
+use Rattle.aig_command.specs.declared.run_fault.RunFault.TheVariants as run_faults
 
 pub returns : goal.returns
 returns g c =

@@ -1,7 +1,7 @@
 use Rattle.std.proofs.Common.{◌+◌, ap, ◌∙◌, sym}
 use Rattle.aig_bytes.specs.Flow.{flow}
 use Rattle.aig_sat.specs.declared.proof.fault.ProofFault.TheVariants as faults
-use Rattle.aig_run.specs.declared.run_fault.RunFault.TheVariants as run_faults
+use Rattle.aig_command.specs.declared.run_fault.RunFault.TheVariants as run_faults
 use Rattle.aig_commands.specs.Questions.{Says, asked_of}
 use Rattle.aig_commands.specs.Refute.{proof_reads_failed, step_reads_failed}
 use Rattle.aig_commands.proofs.Certificates.{good_answer}

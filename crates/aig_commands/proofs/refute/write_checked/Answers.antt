@@ -2,8 +2,8 @@ use Rattle.std.proofs.Common.{[], sym, ap}
 use Rattle.aig_commands.specs.Refute.{answer_line, answer_text}
 use Rattle.aig_commands.specs.state.About.{Answers}
 use Rattle.aig_commands.proofs.refute.write_checked.Goals as goal
-use Rattle.aig_run.proofs.Written.{got_none, output_ends}
-use Rattle.aig_run.specs.Command.{CommandEnds}
+use Rattle.aig_command.proofs.Written.{got_none, output_ends}
+use Rattle.aig_command.specs.Command.{CommandEnds}
 
 pub returns-in-Ok : goal.returns-in-Ok
 returns-in-Ok g c =

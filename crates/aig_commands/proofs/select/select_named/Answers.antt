@@ -1,6 +1,6 @@
 use Rattle.aig_bytes.specs.Flow.{flow}
-use Rattle.aig_run.proofs.Files.{ends_of_reader, reader_refused}
-use Rattle.aig_run.specs.declared.run_fault.RunFault.TheVariants as run_faults
+use Rattle.aig_command.proofs.Files.{ends_of_reader, reader_refused}
+use Rattle.aig_command.specs.declared.run_fault.RunFault.TheVariants as run_faults
 use Rattle.aig_commands.specs.Select.{SelectsNamed}
 use Rattle.aig_commands.proofs.select.select_named.Goals as goal
 

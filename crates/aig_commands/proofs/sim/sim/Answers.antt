@@ -2,8 +2,8 @@ use Rattle.aig_bytes.specs.Flow.{flow}
 use Rattle.aig_commands.specs.Sim.{WritesSimulation}
 use Rattle.aig_commands.proofs.Runs.{simulates_no_fault}
 use Rattle.aig_commands.proofs.sim.sim.Goals as goal
-use Rattle.aig_run.proofs.Files.{reading_of_reader, reading_refused}
-use Rattle.aig_run.specs.declared.run_fault.RunFault.TheVariants as run_faults
+use Rattle.aig_command.proofs.Files.{reading_of_reader, reading_refused}
+use Rattle.aig_command.specs.declared.run_fault.RunFault.TheVariants as run_faults
 use Rattle.aig_sim.specs.declared.stimulus.fault.StimFault.TheVariants as stimuli
 
 pub returns-in-Ok-clause-ends : goal.returns-in-Ok-clause-ends

@@ -2,8 +2,8 @@ use Rattle.aig_bytes.specs.Flow.{flow}
 use Rattle.aig_commands.specs.Toaig.{Converts}
 use Rattle.aig_commands.proofs.GoodRuns.{reader_goes_well}
 use Rattle.aig_commands.proofs.toaig.convert_from.Goals as goal
-use Rattle.aig_run.proofs.Files.{ends_of_reader, reader_refused}
-use Rattle.aig_run.specs.declared.run_fault.RunFault.TheVariants as run_faults
+use Rattle.aig_command.proofs.Files.{ends_of_reader, reader_refused}
+use Rattle.aig_command.specs.declared.run_fault.RunFault.TheVariants as run_faults
 
 pub returns-in-Ok-clause-ends : goal.returns-in-Ok-clause-ends
 returns-in-Ok-clause-ends g c =

@@ -3,7 +3,7 @@ use Rattle.aig_format.specs.declared.reader.header.Format.TheVariants.{Ascii}
 use Rattle.aig_format.specs.Spelling.{short_ascii}
 use Rattle.aig_commands.specs.Toaig.{Converts}
 use Rattle.aig_commands.proofs.toaig.write_converted.Goals as goal
-use Rattle.aig_run.proofs.Written.{written_ends}
+use Rattle.aig_command.proofs.Written.{written_ends}
 
 pub returns-in-Ascii-clause-ends : goal.returns-in-Ascii-clause-ends
 returns-in-Ascii-clause-ends g c =

@@ -1,11 +1,11 @@
 use Rattle.std.proofs.Common.{[], refl, sym, ap, ◌∙◌, inl, inr}
-use Rattle.aig_run.specs.Command.{CommandEnds}
+use Rattle.aig_command.specs.Command.{CommandEnds}
 use Rattle.std.proofs.lemmas.Bool.{false≢true}
 use Rattle.aig_format.specs.declared.reader.header.Format.TheVariants.{Binary}
 use Rattle.aig_format.specs.Spelling.{short_binary}
 use Rattle.aig_commands.specs.Toaig.{Converts}
 use Rattle.aig_commands.proofs.toaig.write_ready.Goals as goal
-use Rattle.aig_run.proofs.Written.{got_none, written_ends, output_alone}
+use Rattle.aig_command.proofs.Written.{got_none, written_ends, output_alone}
 
 pub returns-then-is_binary_ready-clause-ends : goal.returns-then-is_binary_ready-clause-ends
 returns-then-is_binary_ready-clause-ends g c =

@@ -2,10 +2,10 @@ use Rattle.aig_bytes.specs.Flow.{flow}
 use Rattle.aig_commands.specs.Unroll.{Unrolls}
 use Rattle.aig_commands.proofs.GoodRuns.{file_goes_well}
 use Rattle.aig_commands.proofs.unroll.unroll_bytes.Goals as goal
-use Rattle.aig_run.proofs.Files.{answered, ends_of_file, file_refused}
-use Rattle.aig_run.specs.Command.{OfFile}
-use Rattle.aig_run.specs.Command.{CommandEnds}
-use Rattle.aig_run.specs.declared.run_fault.RunFault.TheVariants as run_faults
+use Rattle.aig_command.proofs.Files.{answered, ends_of_file, file_refused}
+use Rattle.aig_command.specs.Command.{OfFile}
+use Rattle.aig_command.specs.Command.{CommandEnds}
+use Rattle.aig_command.specs.declared.run_fault.RunFault.TheVariants as run_faults
 
 pub returns-clause-ends : goal.returns-clause-ends
 returns-clause-ends g c =

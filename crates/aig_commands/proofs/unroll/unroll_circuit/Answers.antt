@@ -1,11 +1,11 @@
 use Rattle.std.proofs.Common.{[], refl}
-use Rattle.aig_run.specs.declared.run_fault.RunFault.TheVariants as run_faults
-use Rattle.aig_run.proofs.Files.{answered}
+use Rattle.aig_command.specs.declared.run_fault.RunFault.TheVariants as run_faults
+use Rattle.aig_command.proofs.Files.{answered}
 use Rattle.aig_bytes.specs.Flow.{flow}
-use Rattle.aig_run.specs.Command.{CommandEnds}
+use Rattle.aig_command.specs.Command.{CommandEnds}
 use Rattle.aig_commands.specs.Unroll.{Unrolls, short_spelling}
 use Rattle.aig_commands.proofs.unroll.unroll_circuit.Goals as goal
-use Rattle.aig_run.proofs.Written.{got_none, output_ends, output_refused, one_at_most}
+use Rattle.aig_command.proofs.Written.{got_none, output_ends, output_refused, one_at_most}
 
 pub returns-clause-ends : goal.returns-clause-ends
 returns-clause-ends g c =

@@ -1,8 +1,8 @@
 use Rattle.std.proofs.Common.{Ok, refl}
 use Rattle.aig_unroll.specs.InputMap.{map_text}
 use Rattle.aig_commands.proofs.unroll.unroll_map.Goals as goal
-use Rattle.aig_run.proofs.Written.{got_all, got_part}
-use Rattle.aig_run.specs.Command.{CommandEnds}
+use Rattle.aig_command.proofs.Written.{got_all, got_part}
+use Rattle.aig_command.specs.Command.{CommandEnds}
 
 pub returns-in-Ok : goal.returns-in-Ok
 returns-in-Ok g c =

@@ -1,5 +1,5 @@
 use Rattle.std.proofs.Common.{[], Ok, ap, sym, refl, ◌∙◌, arith}
-use Rattle.aig_run.specs.Command.{CommandEnds}
+use Rattle.aig_command.specs.Command.{CommandEnds}
 use Rattle.aig_bytes.proofs.WriteLemmas.{after-nil}
 use Rattle.aig_commands.proofs.wave.replay.Goals as goal
 

@@ -4,8 +4,8 @@ use Rattle.aig_commands.specs.Wave.{WritesWave}
 use Rattle.aig_commands.proofs.Headers.{header_of_file}
 use Rattle.aig_commands.proofs.Runs.{dumps_no_fault}
 use Rattle.aig_commands.proofs.wave.wave.Goals as goal
-use Rattle.aig_run.proofs.Files.{reading_of_reader, reading_refused}
-use Rattle.aig_run.specs.declared.run_fault.RunFault.TheVariants as run_faults
+use Rattle.aig_command.proofs.Files.{reading_of_reader, reading_refused}
+use Rattle.aig_command.specs.declared.run_fault.RunFault.TheVariants as run_faults
 use Rattle.aig_sim.specs.declared.stimulus.fault.StimFault.TheVariants as stimuli
 
 pub returns-in-Ok-clause-ends : goal.returns-in-Ok-clause-ends

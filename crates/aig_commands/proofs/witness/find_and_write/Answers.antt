@@ -2,10 +2,10 @@ use Rattle.std.proofs.Common.{◌+◌, List, [], ◌∙◌, ap, length, subst, t
 use Rattle.std.specs.Fmt.{decimal}
 use Rattle.aig_parts.specs.declared.ternary.Tern.{Tern}
 use Rattle.aig_bytes.specs.Flow.{flow}
-use Rattle.aig_run.proofs.Files.{answered}
-use Rattle.aig_run.proofs.Written.{got_none, output_ends}
-use Rattle.aig_run.specs.Command.{CommandEnds}
-use Rattle.aig_run.specs.declared.run_fault.RunFault.TheVariants as run_faults
+use Rattle.aig_command.proofs.Files.{answered}
+use Rattle.aig_command.proofs.Written.{got_none, output_ends}
+use Rattle.aig_command.specs.Command.{CommandEnds}
+use Rattle.aig_command.specs.declared.run_fault.RunFault.TheVariants as run_faults
 use Rattle.aig_sim.specs.WitnessText.{witness_text}
 use Rattle.aig_commands.specs.Witness.{SpellsFirst, WritesWitness}
 use Rattle.aig_commands.proofs.WitnessTexts.{spells_first, start_length}

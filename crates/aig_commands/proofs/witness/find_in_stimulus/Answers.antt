@@ -1,10 +1,10 @@
 use Rattle.std.proofs.Common.{[], Err, length, refl, sym, ◌∙◌, ap, subst}
 use Rattle.aig_sim.specs.Reached.{ReachesNone}
 use Rattle.aig_sim.specs.declared.witness.reach_fault.ReachFault.{ReachFault}
-use Rattle.aig_run.specs.declared.run_fault.RunFault.{RunFault}
-use Rattle.aig_run.specs.declared.run_fault.RunFault.TheVariants as run_faults
+use Rattle.aig_command.specs.declared.run_fault.RunFault.{RunFault}
+use Rattle.aig_command.specs.declared.run_fault.RunFault.TheVariants as run_faults
 use Rattle.aig_commands.specs.Witness.{WritesWitness}
-use Rattle.aig_run.proofs.Files.{reported_as}
+use Rattle.aig_command.proofs.Files.{reported_as}
 use Rattle.aig_commands.proofs.WitnessTexts.{reach_refused, start_length}
 use Rattle.aig_commands.proofs.witness.find_in_stimulus.Goals as goal
 

@@ -1,5 +1,5 @@
 use Rattle.std.proofs.Common.{◌≡◌, ◌++◌, length, map}
-use Rattle.aig_dump_header.specs.Names.{words}
+use Rattle.aig_names.specs.Names.{words}
 use Rattle.aig_prompt.proofs.words.words_of.Given as goal
 
 abbrev pub invariant-loop-first : goal.invariant-loop-first

@@ -1,8 +1,8 @@
 use Rattle.std.proofs.Common.{refl}
 use Rattle.aig_bytes.specs.Flow.{flow}
-use Rattle.aig_run.proofs.Files.{answered}
-use Rattle.aig_run.specs.declared.run_fault.RunFault.TheVariants as run_faults
-use Rattle.aig_run.specs.Command.{EndsReading}
+use Rattle.aig_command.proofs.Files.{answered}
+use Rattle.aig_command.specs.declared.run_fault.RunFault.TheVariants as run_faults
+use Rattle.aig_command.specs.Command.{EndsReading}
 use Rattle.aig_script.specs.Bench.{LeavesBench}
 use Rattle.aig_script.proofs.BenchEnds.{script_io, ran_ends, refused_ends, fault_ends, unchanged}
 use Rattle.aig_script.proofs.bench.bench.Goals as goal

@@ -1,8 +1,8 @@
 use Rattle.std.proofs.Common.{ap, Err}
 use Rattle.aig_bench.specs.BenchState.{CircuitAndRows}
-use Rattle.aig_run.specs.declared.run_fault.RunFault.TheVariants as run_faults
+use Rattle.aig_command.specs.declared.run_fault.RunFault.TheVariants as run_faults
 use Rattle.aig_script.specs.BenchFiles.{RefusesFiles}
-use Rattle.aig_run.proofs.Files.{reported_as}
+use Rattle.aig_command.proofs.Files.{reported_as}
 use Rattle.aig_script.proofs.Benches.{refuses_bench}
 use Rattle.aig_script.proofs.bench.open_bench.Goals as goal
 

@@ -1,7 +1,7 @@
 use Rattle.std.proofs.Common.{Err, Ok}
 use Rattle.aig_bytes.specs.Flow.{flow}
-use Rattle.aig_run.proofs.Files.{answered}
-use Rattle.aig_run.specs.Command.{EndsReading}
+use Rattle.aig_command.proofs.Files.{answered}
+use Rattle.aig_command.specs.Command.{EndsReading}
 use Rattle.aig_script.specs.Bench.{RunsScript}
 use Rattle.aig_script.proofs.BenchEnds.{script_io, ends_without}
 use Rattle.aig_script.proofs.bench.run_bench.Goals as goal

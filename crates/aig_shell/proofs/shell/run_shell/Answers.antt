@@ -1,7 +1,7 @@
 use Rattle.std.proofs.Common.{inl, inr, refl, sym, subst}
 use Rattle.aig_bytes.specs.Flow.{flow}
-use Rattle.aig_run.proofs.Files.{answered}
-use Rattle.aig_run.specs.Given.{given_text}
+use Rattle.aig_command.proofs.Files.{answered}
+use Rattle.aig_command.specs.Given.{given_text}
 use Rattle.aig_shell.specs.Conversation.{Ended, BreaksDown, EndsShell}
 use Rattle.aig_shell.proofs.Shells.{passes_of, holds_session, shell_refused}
 use Rattle.aig_shell.specs.declared.conversation.Conversation.{Conversation}

@@ -1,5 +1,5 @@
 use Rattle.std.proofs.Common.{ℕ, List, ◌++◌, ◌-◌, length, map, filter_map, ap, ◌∙◌, refl, arith}
-use Rattle.aig_dump_header.specs.Names.{words, symbol_of}
+use Rattle.aig_names.specs.Names.{words, symbol_of}
 use Rattle.aig_signals.specs.Bits.{entry_bits, word_bit}
 use Rattle.aig_signals.specs.Names.{literals_of, readable}
 use Rattle.aig_signals.proofs.BitLemmas.{entries_start, entries_more, entries_end}

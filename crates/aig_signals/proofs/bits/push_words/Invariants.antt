@@ -1,6 +1,6 @@
 use Rattle.std.proofs.Common.{◌≡◌, ◌++◌, length, map}
 use Rattle.std.specs.Prelude.{filter_map}
-use Rattle.aig_dump_header.specs.Names.{words}
+use Rattle.aig_names.specs.Names.{words}
 use Rattle.aig_signals.specs.Bits.{word_bit}
 use Rattle.aig_signals.specs.Names.{readable}
 use Rattle.aig_signals.proofs.bits.push_words.Given as goal

@@ -3,7 +3,7 @@ use Rattle.std.specs.List.{list_any}
 use Rattle.std.specs.Str.{bytes_eq}
 use Rattle.std.proofs.lemmas.Result.{IfOk-weaker}
 use Rattle.aig_parts.specs.SymbolPlaces.{Key}
-use Rattle.aig_dump_header.specs.Names.{symbol_of}
+use Rattle.aig_names.specs.Names.{symbol_of}
 use Rattle.aig_signals.proofs.NameLemmas.{further_some, further_none}
 use Rattle.aig_signals.proofs.names.has_further_name.Goals as goal
 

@@ -1,5 +1,5 @@
 use Rattle.std.proofs.Common.{◌≡◌, length}
-use Rattle.aig_dump_header.specs.Names.{words}
+use Rattle.aig_names.specs.Names.{words}
 use Rattle.aig_signals.proofs.NameLemmas.{any_is}
 use Rattle.aig_signals.proofs.names.has_word.Given as goal
 

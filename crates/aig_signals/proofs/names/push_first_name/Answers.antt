@@ -1,7 +1,7 @@
 use Rattle.std.proofs.Common.{List, ℕ, ◌++◌, ap, ◌∙◌}
 use Rattle.std.proofs.lemmas.Result.{on_ok_weaker}
 use Rattle.aig_parts.specs.SymbolPlaces.{Key}
-use Rattle.aig_dump_header.specs.Names.{symbol_of}
+use Rattle.aig_names.specs.Names.{symbol_of}
 use Rattle.aig_signals.proofs.NameLemmas.{first_some, first_none}
 use Rattle.aig_signals.proofs.names.push_first_name.Goals as goal
 

@@ -1,5 +1,5 @@
-use Rattle.aig_dump_header.proofs.Codes.{one_signal, visible_code}
-use Rattle.aig_dump_header.proofs.HeaderNames.{header_names}
+use Rattle.aig_names.proofs.Codes.{one_signal, visible_code}
+use Rattle.aig_names.proofs.HeaderNames.{header_names}
 use Rattle.aig_sim.specs.DumpHeader.{signal_counts, header}
 use Rattle.aig_sim.proofs.DumpLines.{header_lines}
 use Rattle.aig_sim.proofs.DumpRuns.{dump_shown, frames_shown}

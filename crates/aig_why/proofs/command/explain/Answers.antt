@@ -1,9 +1,9 @@
 use Rattle.std.proofs.Common.{Err, sym, ap, subst}
 use Rattle.std.specs.Prelude.{option_copied}
 use Rattle.std.proofs.lemmas.Result.{IfErr-weaker, IfOk-weaker}
-use Rattle.aig_run.proofs.Files.{reported_as}
-use Rattle.aig_run.specs.declared.run_fault.RunFault.{RunFault}
-use Rattle.aig_run.specs.declared.run_fault.RunFault.TheVariants as run_faults
+use Rattle.aig_command.proofs.Files.{reported_as}
+use Rattle.aig_command.specs.declared.run_fault.RunFault.{RunFault}
+use Rattle.aig_command.specs.declared.run_fault.RunFault.TheVariants as run_faults
 use Rattle.aig_why.specs.Why.{ExplainsRun, RefusesRun, Run}
 use Rattle.aig_why.specs.Named.{IsNamingOf}
 use Rattle.aig_why.proofs.RunLemmas.{asked_with, bench_refused, run_is}

@@ -2,11 +2,11 @@ use Rattle.std.proofs.Common.{[], Err, List, inl, inr, refl, sym, ◌∙◌, ap,
 use Rattle.std.specs.Prelude.{option_copied}
 use Rattle.std.proofs.lemmas.Result.{IfErr-weaker, IfOk-weaker}
 use Rattle.aig_parts.specs.declared.ternary.Tern.{Tern}
-use Rattle.aig_run.proofs.Files.{reported_as}
-use Rattle.aig_run.proofs.GivenRuns.{given_property, given_start}
-use Rattle.aig_run.specs.Given.{given_text, read_run}
-use Rattle.aig_run.specs.declared.run_fault.RunFault.{RunFault}
-use Rattle.aig_run.specs.declared.run_fault.RunFault.TheVariants as run_faults
+use Rattle.aig_command.proofs.Files.{reported_as}
+use Rattle.aig_command.proofs.GivenRuns.{given_property, given_start}
+use Rattle.aig_command.specs.Given.{given_text, read_run}
+use Rattle.aig_command.specs.declared.run_fault.RunFault.{RunFault}
+use Rattle.aig_command.specs.declared.run_fault.RunFault.TheVariants as run_faults
 use Rattle.aig_why.specs.Why.{ExplainsRun, RefusesRun, WritesWhy}
 use Rattle.aig_why.specs.state.Asked.{IsAskedAs}
 use Rattle.aig_why.proofs.command.explain_given.Goals as goal

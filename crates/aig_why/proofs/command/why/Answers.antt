@@ -2,11 +2,11 @@ use Rattle.std.proofs.Common.{[], List, ℕ, Err, subst}
 use Rattle.std.specs.Prelude.{option_copied}
 use Rattle.aig_bytes.specs.Bytes.{Writes}
 use Rattle.aig_bytes.specs.Flow.{flow}
-use Rattle.aig_run.proofs.Files.{answered, ends_of_file, file_refused}
-use Rattle.aig_run.proofs.Written.{got_none, output_ends}
-use Rattle.aig_run.specs.Command.{CommandEnds, OfFile}
-use Rattle.aig_run.specs.Given.{given_text}
-use Rattle.aig_run.specs.declared.run_fault.RunFault.TheVariants as run_faults
+use Rattle.aig_command.proofs.Files.{answered, ends_of_file, file_refused}
+use Rattle.aig_command.proofs.Written.{got_none, output_ends}
+use Rattle.aig_command.specs.Command.{CommandEnds, OfFile}
+use Rattle.aig_command.specs.Given.{given_text}
+use Rattle.aig_command.specs.declared.run_fault.RunFault.TheVariants as run_faults
 use Rattle.aig_why.specs.Why.{WritesWhy}
 use Rattle.aig_why.proofs.RunLemmas.{why_no_circuit}
 use Rattle.aig_why.proofs.command.why.Goals as goal

@@ -1,6 +1,6 @@
 use Rattle.std.proofs.Common.{◌≡◌, ℕ, List, Option, Some, inr, drop, sym, ap, ap₂, subst, ◌∙◌}
 use Rattle.aig_base.specs.declared.select.PropertySection.TheVariants.{Bad}
-use Rattle.aig_run.specs.Position.{IsPositionIn}
+use Rattle.aig_command.specs.Position.{IsPositionIn}
 use Rattle.aig.proofs.chosen.properties.open_circuit_for.Goals as goal
 
 pub returns : goal.returns

@@ -1,9 +1,9 @@
 use Rattle.std.proofs.Common.{inl, inr, refl, sym, subst}
 use Rattle.aig_parts.specs.declared.raw.Raw.{Raw}
 use Rattle.aig_base.specs.Selected.{selected}
-use Rattle.aig_names.specs.Named.{IsNamed, RefusesNames}
-use Rattle.aig_run.proofs.Files.{reported_as}
-use Rattle.aig_run.specs.declared.run_fault.RunFault.TheVariants as run_faults
+use Rattle.aig_signals.specs.Named.{IsNamed, RefusesNames}
+use Rattle.aig_command.proofs.Files.{reported_as}
+use Rattle.aig_command.specs.declared.run_fault.RunFault.TheVariants as run_faults
 use Rattle.aig_commands.specs.state.NamedSelections.{RefusesNamedSelection}
 use Rattle.aig_commands.proofs.select.NamedSelection.of.Goals as goal
 

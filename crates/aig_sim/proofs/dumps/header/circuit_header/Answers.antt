@@ -1,7 +1,7 @@
 use Rattle.std.proofs.Common.{◌≡◌, length, ◌∙◌}
 use Rattle.std.proofs.lemmas.Result.{IfOk-weaker}
-use Rattle.aig_dump_header.specs.declared.header.SignalCounts.{SignalCounts}
-use Rattle.aig_dump_header.specs.Header as dump
+use Rattle.aig_names.specs.declared.header.SignalCounts.{SignalCounts}
+use Rattle.aig_names.specs.Header as dump
 use Rattle.aig_sim.specs.DumpHeader.{signal_counts, header}
 use Rattle.aig_sim.proofs.dumps.header.circuit_header.Goals as goal
 

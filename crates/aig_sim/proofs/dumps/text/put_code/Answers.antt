@@ -1,5 +1,5 @@
-use Rattle.aig_dump_header.specs.Names.{identifier_code}
-use Rattle.aig_dump_header.proofs.Codes.{code_last, code_more}
+use Rattle.aig_names.specs.Names.{identifier_code}
+use Rattle.aig_names.proofs.Codes.{code_last, code_more}
 use Rattle.aig_values.proofs.GatherLemmas.{partly_none, partly_same, partly_more, partly_stops, partly_ends}
 use Rattle.aig_sim.proofs.dumps.text.put_code.Goals as goal
 

@@ -1,4 +1,4 @@
-use Rattle.aig_dump_header.specs.Names.{identifier_code}
+use Rattle.aig_names.specs.Names.{identifier_code}
 use Rattle.aig_values.proofs.GatherLemmas.{Partly}
 use Rattle.aig_sim.proofs.dumps.text.put_code.Given as goal
 

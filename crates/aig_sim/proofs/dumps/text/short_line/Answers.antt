@@ -1,5 +1,5 @@
 use Rattle.std.proofs.Common.{◌≡◌, ◌/◌, ◌%◌, ◌<◌, refl, arith}
-use Rattle.aig_dump_header.proofs.Codes.{code_last, code_more}
+use Rattle.aig_names.proofs.Codes.{code_last, code_more}
 use Rattle.aig_sim.proofs.dumps.text.short_line.Goals as goal
 
 pub returns-then-signal-lt-BASE-clause-line : goal.returns-then-signal-lt-BASE-clause-line

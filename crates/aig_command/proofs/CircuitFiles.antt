@@ -1,0 +1,19 @@
+-- What a circuit's file is.
+use Rattle.std.proofs.Common.{◌≡◌, ℕ, List, Result, Ok, Err, ap}
+use Rattle.std.specs.Prelude.{IfOk, IfErr}
+use Rattle.aig_parts.specs.declared.raw.Raw.{Raw}
+use Rattle.aig_parts.specs.declared.fault.Fault.{Fault}
+use Rattle.aig_parts.specs.declared.fault.Fault.TheVariants as circuits
+use Rattle.aig_base.specs.Circuit.{IsCircuit}
+use Rattle.aig_format.specs.FileReading.{IsReading}
+use Rattle.aig_command.specs.Command.{IsFileOf, RefusesCircuit}
+
+-- what is read of a file is its circuit
+pub is_file : (bytes : List ℕ) (r : Result Raw Fault) → IsReading bytes r → IfOk r IsCircuit → IfOk r (IsFileOf bytes)
+is_file bytes (Ok raw) reading circuit = record { spelled = reading.found; circuit = circuit }
+is_file bytes (Err fault) reading circuit = tt
+
+pub refuses_circuit : (bytes : List ℕ) (r : Result Raw Fault) → IsReading bytes r → (r ≡ Err circuits.Io → ⊥)
+    → IfErr r (RefusesCircuit bytes)
+refuses_circuit bytes (Ok raw) reading io = tt
+refuses_circuit bytes (Err fault) reading io = (reading, λ e. io (ap Err e))

@@ -1,6 +1,0 @@
-use Rattle.std.proofs.Common.{◌≡◌, ◌++◌}
-use Rattle.aig_dump_header.specs.Header.{closings}
-use Rattle.aig_dump_header.proofs.paths.push_closings.Given as goal
-
-abbrev pub invariant-loop-closed : goal.invariant-loop-closed
-invariant-loop-closed l = l.text.items ≡ l.fn.text.items ++ closings l._closed

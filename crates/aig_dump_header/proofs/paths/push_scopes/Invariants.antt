@@ -1,9 +1,0 @@
-use Rattle.std.proofs.Common.{◌≡◌, ◌++◌, drop, map}
-use Rattle.std.specs.List.{flat_map}
-use Rattle.aig_dump_header.specs.Header.{scope_line}
-use Rattle.aig_dump_header.proofs.paths.push_scopes.Given as goal
-
-abbrev pub invariant-loop-scope : goal.invariant-loop-scope
-invariant-loop-scope l =
-    l.text.items ++ flat_map scope_line (map (λ s. s.now) (drop l.scope-index l.scopes))
-    ≡ l.fn.text.items ++ flat_map scope_line (map (λ s. s.now) l.scopes)

@@ -1,6 +1,0 @@
-use Rattle.aig_base.specs.Selected.{kind_of}
-use Rattle.aig_names.proofs.Lookups.{Looking}
-use Rattle.aig_names.proofs.lookup.position_named.Given as goal
-
-abbrev pub invariant-loop-entry : goal.invariant-loop-entry
-invariant-loop-entry l = Looking (kind_of l.fn.section) l.name l.circuit.symbols l.found l.entry-iterator
