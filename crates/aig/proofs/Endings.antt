@@ -156,10 +156,16 @@ streamed_ends out flushed circuit Means file is answer r ends (told, flush, e) =
     (flushed_answers flushed (OfReader circuit Means) run_faults.Output answer told Answers.fails
     (answers out (OfReader circuit Means) answer ends) flush) e
 
--- a reader that knew its bytes at first knows them now
-pub known_at_first : (first now : Option (List ℕ)) (file : List ℕ) → first ≡ Some file → now ≡ Some file
-    → still_known first now ≡ Some file
-known_at_first first now file e is = subst (λ (o : Option (List ℕ)). still_known o now ≡ Some file) (sym e) is
+-- a reader that is at its first byte knows the bytes that its file has left
+same_known : (left : Option (List ℕ)) → still_known left left ≡ left
+same_known None = refl
+same_known (Some all) = refl
+
+pub known_at_first : {F : Type 0} (left : F → Option (List ℕ)) (file first now : F) → first ≡ file → now ≡ file
+    → still_known (left first) (left now) ≡ left file
+known_at_first {F = F} left file first now at_first is_now =
+    subst (λ (f : F). still_known (left f) (left now) ≡ left file) (sym at_first)
+    (subst (λ (f : F). still_known (left file) (left f) ≡ left file) (sym is_now) (same_known (left file)))
 
 -- what holds of the bytes that the file had left, where it is known which
 pub of_left : (left : Option (List ℕ)) (Q : List ℕ → Type 0) → ((xs : List ℕ) → left ≡ Some xs → Q xs) → IfSome left Q

@@ -31,7 +31,8 @@ use Rattle.aig.specs.declared.command.Command.TheVariants as commands
 -- A command ends as its contract means for the bytes of its files, where the type of an open file says which it has
 -- left. Where it reads a circuit, a stimulus or a script piece by piece, it ends so for some circuit or some text.
 abbrev pub EndsAsMeant : {F : Type 0} → (F → Option (List ℕ)) → Command F → Result (Unit {0}) Exit → Type 0
-EndsAsMeant left (commands.Toaig it) result = Ends end_of (OfCircuit (Converts it.to)) result
+EndsAsMeant left (commands.Toaig it) result =
+    IfSome (left it.circuit) (λ file. Ends end_of (OfFile file (Converts it.to)) result)
 EndsAsMeant left (commands.Sim it) result =
     Ends end_of (ForSomeText (run_faults.Stimulus stimuli.Io) (λ text. OfCircuit (WritesSimulation text))) result
 EndsAsMeant left (commands.Wave it) result =
@@ -55,7 +56,8 @@ EndsAsMeant left (commands.Cnf it) result =
     Ends end_of (WritesQuestion (asked_by it.question (λ certificate. claims)) file) result))
 EndsAsMeant left (commands.Info it) result =
     IfSome (left it.circuit) (λ file. Ends end_of (OfFile file (ListsFacts (Some file))) result)
-EndsAsMeant left (commands.InfoNames it) result = Ends end_of (OfCircuit ListsNames) result
+EndsAsMeant left (commands.InfoNames it) result =
+    IfSome (left it.circuit) (λ file. Ends end_of (OfFile file ListsNames) result)
 EndsAsMeant left (commands.Select it) result =
     Ends end_of (OfCircuit (Selects it.selection.from it.selection.into it.selection.positions.items it.to)) result
 EndsAsMeant left (commands.SelectNamed it) result =

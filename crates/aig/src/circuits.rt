@@ -29,12 +29,12 @@ pub fn toaig<R: AllocGlobal + Print, F: Read + Drop>(
     to: Format,
     circuit: F,
 ) -> Result<(), Exit>
-    ensures ends { Ends end_of (OfCircuit (Converts to)) result }
+    ensures ends { IfSome (F.remaining circuit) (λ file. Ends end_of (OfFile file (Converts to)) result) }
 {
-    let mut circuit = Std::new(circuit);
+    let mut circuit = Known::new(circuit);
     let mut out = output(rt);
     let done = convert_from(rt.alloc(), &mut circuit, to, &mut out);
-    ended(done, &mut out, RunFault::Output)
+    streamed(done, &mut out)
 }
 
 /// Writes a circuit unrolled for `frames` frames.
@@ -105,12 +105,12 @@ pub fn info<R: AllocGlobal + Print, F: Read + Drop>(rt: &R, circuit: F) -> Resul
 
 /// Writes the entries of a circuit with their names.
 pub fn info_names<R: AllocGlobal + Print, F: Read + Drop>(rt: &R, circuit: F) -> Result<(), Exit>
-    ensures ends { Ends end_of (OfCircuit ListsNames) result }
+    ensures ends { IfSome (F.remaining circuit) (λ file. Ends end_of (OfFile file ListsNames) result) }
 {
-    let mut circuit = Std::new(circuit);
+    let mut circuit = Known::new(circuit);
     let mut out = output(rt);
     let done = info::info_names(rt.alloc(), &mut circuit, &mut out);
-    ended(done, &mut out, RunFault::Output)
+    streamed(done, &mut out)
 }
 
 /// Writes a circuit with some of its properties.

@@ -1,10 +1,17 @@
+use Rattle.std.proofs.Common.{◌∙◌}
 use Rattle.aig_commands.specs.Names.{ListsNames}
-use Rattle.aig.proofs.Endings.{circuit_answers, ends_flushed}
+use Rattle.aig_command.specs.Command.{OfFile}
+use Rattle.aig.specs.Ends.{Ends, end_of}
+use Rattle.aig.proofs.Endings.{known_at_first, of_left, streamed_ends}
 use Rattle.aig.proofs.circuits.info_names.Goals as goal
 
 pub returns : goal.returns
 returns g c =
+    let left = g.F.Read.remaining in
+    let k = c.new-circuit in
     record {
-      ends =
-          ends_flushed _ _ c.info_names-done.result c.ended.result (circuit_answers _ _ ListsNames c.info_names-done.result c.info_names-done.ensures.ends) c.ended.ensures.ends;
+      ends = of_left (left c.args.circuit) (λ file. Ends end_of (OfFile file ListsNames) c.streamed.result) (λ file is.
+          streamed_ends _ _ _ ListsNames file
+          (known_at_first left c.args.circuit k.result.first k.result.inner k.ensures.first k.ensures.inner ∙ is)
+          c.info_names-done.result c.streamed.result c.info_names-done.ensures.ends c.streamed.ensures.ends);
     }
