@@ -1,13 +1,15 @@
 -- How a command's function ends, from how the command does.
-use Rattle.std.proofs.Common.{◌≡◌, ◌≢◌, ◌⊎◌, inl, inr, ℕ, List, [], Result, Ok, Err, refl, sym, ◌∙◌, ap, subst}
-use Rattle.std.specs.Prelude.{Bool, true, false, Option, None, Some, IfErr, IfSome, OnOk}
+use Rattle.std.proofs.Common.{◌≡◌, ◌≢◌, ◌⊎◌, inl, inr, ℕ, List, [], ◌++◌, Result, Ok, Err, refl, sym, ◌∙◌, ap, subst}
+use Rattle.std.proofs.lemmas.List.{append-nil}
+use Rattle.std.specs.Prelude.{Bool, true, false, IsTrue, Option, None, Some, IfErr, IfSome, OnOk}
 use Rattle.std.specs.Result.{IsErrAnd}
+use Rattle.aig_bytes.specs.Bytes.{IsAtEnd, before}
 use Rattle.aig_bytes.specs.Flow.{Flow}
 use Rattle.aig_parts.specs.declared.fault.Fault.TheVariants as circuits
 use Rattle.aig_parts.specs.declared.raw.Raw.{Raw}
 use Rattle.aig_sim.specs.declared.witness.verdict.Verdict.{Verdict}
 use Rattle.aig_sim.specs.declared.witness.verdict.Verdict.TheVariants.{Initial, Constraint, NotBad, Confirmed}
-use Rattle.aig_command.specs.Command.{CommandEnds, EndsReading, OfCircuit, OfFile, OfReader, Text}
+use Rattle.aig_command.specs.Command.{CommandEnds, EndsReading, Gave, OfFile, OfReader, Text}
 use Rattle.aig_command.specs.Flushed.{IsFlushed, flushes, fails}
 use Rattle.aig_command.specs.declared.run_fault.RunFault.{RunFault}
 use Rattle.aig_command.specs.declared.run_fault.RunFault.TheVariants as run_faults
@@ -17,7 +19,7 @@ use Rattle.aig_files.specs.declared.exit.Exit.TheVariants as exits
 use Rattle.aig_files.specs.Known.{still_known}
 use Rattle.aig_files.specs.declared.part.Part.{Part}
 use Rattle.aig_files.specs.declared.part.Part.TheVariants as parts
-use Rattle.aig.specs.Ends.{Answers, AreConfirmed, ChecksWitness, Ends, EndsFlushed, ForSomeText, IsUnwritten, as_meant, end_of}
+use Rattle.aig.specs.Ends.{Answers, AreConfirmed, ChecksWitness, Ends, EndsFlushed, ForText, IsReadOf, IsUnwritten, as_meant, end_of}
 use Rattle.aig.specs.Ends.{end_of_streamed, end_of_verdict, unread, writes}
 
 -- what holds of the bytes that were read holds of those that the file had left
@@ -106,55 +108,48 @@ pub command_ends : {X Y T : Type 0} {end : Result T RunFault → Result (Unit {0
 command_ends out flushed Means answer r ends = ends_flushed flushed Means answer r (answers out Means answer ends)
 
 -- the same of one that reads a text meanwhile
-pub text_fails : {T : Type 0} (fault : RunFault) (Means : Text → Result T RunFault → List ℕ → Type 0)
-    → Answers (ForSomeText fault Means) (Err fault)
-text_fails fault Means = writes [] (inl refl)
+pub text_fails : {T : Type 0} (fault : RunFault) (all : List ℕ) (Means : Text → Result T RunFault → List ℕ → Type 0)
+    → Answers (ForText fault all Means) (Err fault)
+text_fails fault all Means = writes [] (inl refl)
 
-pub text_flushed : {X T : Type 0} {end : Result T RunFault → Result (Unit {0}) Exit} (out : Flow X) (fault : RunFault)
-    (Means : Text → Result T RunFault → List ℕ → Type 0) (answer : Result T RunFault) (r : Result (Unit {0}) Exit)
-    → Answers (ForSomeText fault Means) answer → EndsFlushed out fault end answer r → Ends end (ForSomeText fault Means) r
-text_flushed out fault Means answer r =
-    ends_flushed_with out (ForSomeText fault Means) fault answer r (text_fails fault Means)
+-- and with another meaning, of each answer but that the circuit was not read
+whole_answers : {T : Type 0} (Said Means : Result T RunFault → List ℕ → Type 0)
+    → ((answer : Result T RunFault) (bytes : List ℕ) → answer ≢ Err (run_faults.Circuit circuits.Io) → Said answer bytes
+    → Means answer bytes)
+    → (answer : Result T RunFault) → answer ≢ Err (run_faults.Circuit circuits.Io) → Answers Said answer → Answers Means answer
+whole_answers Said Means means answer whole (writes bytes said) = writes bytes (means answer bytes whole said)
+whole_answers Said Means means answer whole Answers.fails = Answers.fails
 
--- and with another meaning
-pub answers_changed : {T : Type 0} (Said Means : Result T RunFault → List ℕ → Type 0)
-    → ((answer : Result T RunFault) (bytes : List ℕ) → Said answer bytes → Means answer bytes) → (answer : Result T RunFault)
-    → Answers Said answer → Answers Means answer
-answers_changed Said Means means answer (writes bytes said) = writes bytes (means answer bytes said)
-answers_changed Said Means means answer Answers.fails = Answers.fails
-
--- on a circuit that a reader holds it answers what it means for some circuit
-pub circuit_answers : {X Y T : Type 0} (out : Flow X) (circuit : Flow Y) (Means : Raw → Result T RunFault → List ℕ → Type 0)
-    (answer : Result T RunFault) → CommandEnds out run_faults.Output (OfReader circuit Means) answer → Answers (OfCircuit Means) answer
-circuit_answers out circuit Means answer ends =
-    answers_changed (OfReader circuit Means) (OfCircuit Means) (λ answer bytes said. said.of_circuit) answer
-    (answers out (OfReader circuit Means) answer ends)
-
--- on a circuit that a reader holds whose bytes are known it answers what it means for these, unless a read failed
-file_answers : {Y T : Type 0} (circuit : Flow Y) (Means : Raw → Result T RunFault → List ℕ → Type 0) (file : List ℕ)
-    → circuit.bytes circuit.old ≡ Some file → (answer : Result T RunFault) → answer ≢ Err (run_faults.Circuit circuits.Io)
-    → Answers (OfReader circuit Means) answer → Answers (OfFile file Means) answer
-file_answers circuit Means file is answer whole (writes bytes said) = writes bytes (said.of_file file is whole)
-file_answers circuit Means file is answer whole Answers.fails = Answers.fails
-
--- so it ends as it means for these bytes, or the file was not read
-streamed_told : {Y : Type 0} (circuit : Flow Y) (Means : Raw → Result (Unit {0}) RunFault → List ℕ → Type 0) (file : List ℕ)
-    → circuit.bytes circuit.old ≡ Some file → (told : Result (Unit {0}) RunFault) (r : Result (Unit {0}) Exit)
-    → Answers (OfReader circuit Means) told → r ≡ end_of_streamed told → Ends end_of (OfFile file Means) r
-streamed_told circuit Means file is (Err (run_faults.Circuit circuits.Io)) r said ends =
+-- so it ends as it means, or the circuit's file was not read
+streamed_told : {T : Type 0} (Said Means : Result T RunFault → List ℕ → Type 0)
+    → ((answer : Result T RunFault) (bytes : List ℕ) → answer ≢ Err (run_faults.Circuit circuits.Io) → Said answer bytes
+    → Means answer bytes)
+    → (told : Result T RunFault) (r : Result (Unit {0}) Exit) → Answers Said told → r ≡ end_of_streamed told → Ends end_of Means r
+streamed_told Said Means means (Err (run_faults.Circuit circuits.Io)) r said ends =
     unread (exits.Unread parts.Circuit) ends (inl (parts.Circuit, refl))
-streamed_told circuit Means file is told r said ends =
-    as_meant told (file_answers circuit Means file is told (λ e. cc) said) ends
+streamed_told Said Means means told r said ends =
+    as_meant told (whole_answers Said Means means told (λ e. cc) said) ends
 
-pub streamed_ends : {X Y Z : Type 0} (out : Flow X) (flushed : Flow Z) (circuit : Flow Y)
-    (Means : Raw → Result (Unit {0}) RunFault → List ℕ → Type 0) (file : List ℕ) → circuit.bytes circuit.old ≡ Some file
-    → (answer : Result (Unit {0}) RunFault) (r : Result (Unit {0}) Exit)
+-- on a circuit that a reader holds whose bytes are known it ends as it means for these
+pub streamed_ends_as : {X Y Z T : Type 0} (out : Flow X) (flushed : Flow Z) (circuit : Flow Y)
+    (Said : Raw → Result T RunFault → List ℕ → Type 0) (Means : Result T RunFault → List ℕ → Type 0) (file : List ℕ)
+    → circuit.bytes circuit.old ≡ Some file
+    → ((answer : Result T RunFault) (bytes : List ℕ) → OfFile file Said answer bytes → Means answer bytes)
+    → (answer : Result T RunFault) (r : Result (Unit {0}) Exit)
+    → CommandEnds out run_faults.Output (OfReader circuit Said) answer
+    → EndsFlushed flushed run_faults.Output end_of_streamed answer r → Ends end_of Means r
+streamed_ends_as out flushed circuit Said Means file is means answer r ends (told, flush, e) =
+    streamed_told (OfReader circuit Said) Means (λ answer bytes whole said. means answer bytes (said.of_file file is whole)) told r
+    (flushed_answers flushed (OfReader circuit Said) run_faults.Output answer told Answers.fails
+    (answers out (OfReader circuit Said) answer ends) flush) e
+
+pub streamed_ends : {X Y Z T : Type 0} (out : Flow X) (flushed : Flow Z) (circuit : Flow Y)
+    (Means : Raw → Result T RunFault → List ℕ → Type 0) (file : List ℕ) → circuit.bytes circuit.old ≡ Some file
+    → (answer : Result T RunFault) (r : Result (Unit {0}) Exit)
     → CommandEnds out run_faults.Output (OfReader circuit Means) answer
     → EndsFlushed flushed run_faults.Output end_of_streamed answer r → Ends end_of (OfFile file Means) r
-streamed_ends out flushed circuit Means file is answer r ends (told, flush, e) =
-    streamed_told circuit Means file is told r
-    (flushed_answers flushed (OfReader circuit Means) run_faults.Output answer told Answers.fails
-    (answers out (OfReader circuit Means) answer ends) flush) e
+streamed_ends out flushed circuit Means file is =
+    streamed_ends_as out flushed circuit Means (OfFile file Means) file is (λ answer bytes said. said)
 
 -- a reader that is at its first byte knows the bytes that its file has left
 same_known : (left : Option (List ℕ)) → still_known left left ≡ left
@@ -172,25 +167,53 @@ pub of_left : (left : Option (List ℕ)) (Q : List ℕ → Type 0) → ((xs : Li
 of_left None Q q = tt
 of_left (Some xs) Q q = q xs refl
 
--- where it reads a text meanwhile, what it means for some text
-pub text_answers : {X Y T : Type 0} (reader : Flow Y) (out : Flow X) (fault : RunFault)
-    (Said Means : Text → Result T RunFault → List ℕ → Type 0)
-    → ((text : Text) (answer : Result T RunFault) (bytes : List ℕ) → Said text answer bytes → Means text answer bytes)
-    → (answer : Result T RunFault) → EndsReading reader out fault Said answer → Answers (ForSomeText fault Means) answer
-text_answers reader out fault Said Means means answer (EndsReading.writes_all other all) =
-    writes all.bytes (inr (all.text, means all.text answer all.bytes all.means))
-text_answers reader out fault Said Means means answer (EndsReading.stops_reading all) =
-    writes all.bytes (inr (all.text, means all.text answer all.bytes all.means))
-text_answers reader out fault Said Means means answer (EndsReading.breaks_off part) = writes [] (inl refl)
+-- what a reader gave is what was read of its bytes, where these are known
+read_so_far : (all : List ℕ) (text : Text) (now : Option (List ℕ)) → Some all ≡ before text.bytes now
+    → (IsTrue text.is_whole → IsAtEnd now) → IsReadOf all text
+read_so_far all text None gave end = let no : ⊥ = cc in absurd no
+read_so_far all text (Some rest) gave end =
+    let is : all ≡ text.bytes ++ rest = cc in
+    record {
+      beginning = (rest, is);
+      whole = λ whole. sym (is ∙ ap (λ (xs : List ℕ). text.bytes ++ xs) (end whole) ∙ append-nil text.bytes);
+    }
 
--- where it does both, what it means for some text and some circuit
-pub stream_answers : {X Y Z T : Type 0} (circuit : Flow Z) (reader : Flow Y) (out : Flow X) (fault : RunFault)
-    (Means : Text → Raw → Result T RunFault → List ℕ → Type 0) (answer : Result T RunFault)
+pub read_of : {Y : Type 0} (reader : Flow Y) (text : Text) (failed : ℕ) (all : List ℕ) → reader.bytes reader.old ≡ Some all
+    → Gave reader text failed → IsReadOf all text
+read_of reader text failed all is g =
+    read_so_far all text (reader.bytes reader.new) (sym is ∙ g.gave) g.whole
+
+-- where it reads bytes meanwhile that are known, what it means for those that it has read
+pub text_answers : {X Y T : Type 0} (reader : Flow Y) (out : Flow X) (fault : RunFault) (all : List ℕ)
+    → reader.bytes reader.old ≡ Some all → (Means : Text → Result T RunFault → List ℕ → Type 0) (answer : Result T RunFault)
+    → EndsReading reader out fault Means answer → Answers (ForText fault all Means) answer
+text_answers reader out fault all is Means answer (EndsReading.writes_all other w) =
+    writes w.bytes (inr (w.text, read_of reader w.text 0 all is w.gave, w.means))
+text_answers reader out fault all is Means answer (EndsReading.stops_reading w) =
+    writes w.bytes (inr (w.text, read_of reader w.text 1 all is w.gave, w.means))
+text_answers reader out fault all is Means answer (EndsReading.breaks_off part) = writes [] (inl refl)
+
+-- where the circuit is held by a reader too, what it means for the bytes of both
+text_of_file : {Y T : Type 0} (circuit : Flow Y) (fault : RunFault) (Means : Text → Raw → Result T RunFault → List ℕ → Type 0)
+    (file all : List ℕ)
+    → circuit.bytes circuit.old ≡ Some file → (answer : Result T RunFault) (bytes : List ℕ)
+    → answer ≢ Err (run_faults.Circuit circuits.Io) → ForText fault all (λ text. OfReader circuit (Means text)) answer bytes
+    → ForText fault all (λ text. OfFile file (Means text)) answer bytes
+text_of_file circuit fault Means file all is answer bytes whole (inl failed) = inl failed
+text_of_file circuit fault Means file all is answer bytes whole (inr (text, read, said)) =
+    inr (text, read, said.of_file file is whole)
+
+pub streamed_text_ends : {X Y Z W T : Type 0} (out : Flow X) (flushed : Flow W) (circuit : Flow Z) (reader : Flow Y)
+    (fault : RunFault) (Means : Text → Raw → Result T RunFault → List ℕ → Type 0) (file all : List ℕ)
+    → circuit.bytes circuit.old ≡ Some file → reader.bytes reader.old ≡ Some all
+    → (answer : Result T RunFault) (r : Result (Unit {0}) Exit)
     → EndsReading reader out fault (λ text. OfReader circuit (Means text)) answer
-    → Answers (ForSomeText fault (λ text. OfCircuit (Means text))) answer
-stream_answers circuit reader out fault Means answer ends =
-    text_answers reader out fault (λ text. OfReader circuit (Means text)) (λ text. OfCircuit (Means text))
-    (λ text answer bytes said. said.of_circuit) answer ends
+    → EndsFlushed flushed fault end_of_streamed answer r → Ends end_of (ForText fault all (λ text. OfFile file (Means text))) r
+streamed_text_ends out flushed circuit reader fault Means file all is is_text answer r ends (told, flush, e) =
+    let Said = ForText fault all (λ text. OfReader circuit (Means text)) in
+    streamed_told Said (ForText fault all (λ text. OfFile file (Means text))) (text_of_file circuit fault Means file all is) told r
+    (flushed_answers flushed Said fault answer told (text_fails fault all (λ text. OfReader circuit (Means text)))
+    (text_answers reader out fault all is_text (λ text. OfReader circuit (Means text)) answer ends) flush) e
 
 -- a good answer is one that it means
 pub goes_well : {T : Type 0} (Means : Result T RunFault → List ℕ → Type 0) (value : T) → Answers Means (Ok value) → GoesWell Means

@@ -2,7 +2,7 @@
 -- Example: `refute` by `RefutesQuestion`, with its own K and P.
 use Rattle.std.specs.Prelude.{ℕ, List, Option, Some, Result, IfSome, OnOk, option_copied}
 use Rattle.aig_sim.specs.declared.stimulus.fault.StimFault.TheVariants as stimuli
-use Rattle.aig_command.specs.Command.{OfCircuit, OfFile}
+use Rattle.aig_command.specs.Command.{OfFile}
 use Rattle.aig_command.specs.declared.run_fault.RunFault.TheVariants as run_faults
 use Rattle.aig_command.specs.declared.script_fault.ScriptFault.TheVariants as scripts
 use Rattle.aig_script.specs.Bench.{LeavesBench}
@@ -21,7 +21,7 @@ use Rattle.aig_commands.specs.Wave.{DumpsRun, WritesWave}
 use Rattle.aig_commands.specs.Witness.{WritesWitness}
 use Rattle.aig_why.specs.Why.{WritesWhy}
 use Rattle.aig_files.specs.declared.exit.Exit.{Exit}
-use Rattle.aig.specs.Ends.{ChecksWitness, Ends, EndsSelectingNamed, ForSomeText, end_of, end_of_verdict}
+use Rattle.aig.specs.Ends.{ChecksWitness, Ends, EndsSelectingNamed, ForText, end_of, end_of_verdict}
 use Rattle.aig.specs.GivenFiles.{given_left}
 use Rattle.aig.specs.Questions.{asked_by, claims_left}
 use Rattle.aig.specs.Sessions.{EndsSession}
@@ -29,20 +29,22 @@ use Rattle.aig.specs.declared.command.Command.{Command}
 use Rattle.aig.specs.declared.command.Command.TheVariants as commands
 
 -- A command ends as its contract means for the bytes of its files, where the type of an open file says which it has
--- left. Where it reads a circuit, a stimulus or a script piece by piece, it ends so for some circuit or some text.
+-- left. Where it reads a stimulus or a script piece by piece, it ends so for the bytes that it has read.
 abbrev pub EndsAsMeant : {F : Type 0} → (F → Option (List ℕ)) → Command F → Result (Unit {0}) Exit → Type 0
 EndsAsMeant left (commands.Toaig it) result =
     IfSome (left it.circuit) (λ file. Ends end_of (OfFile file (Converts it.to)) result)
 EndsAsMeant left (commands.Sim it) result =
-    Ends end_of (ForSomeText (run_faults.Stimulus stimuli.Io) (λ text. OfCircuit (WritesSimulation text))) result
+    IfSome (left it.circuit) (λ file. IfSome (left it.stimulus) (λ rows. Ends end_of
+    (ForText (run_faults.Stimulus stimuli.Io) rows (λ text. OfFile file (WritesSimulation text))) result))
 EndsAsMeant left (commands.Wave it) result =
-    Ends end_of (ForSomeText (run_faults.Stimulus stimuli.Io) (λ text. OfCircuit (WritesWave text))) result
+    IfSome (left it.circuit) (λ file. IfSome (left it.stimulus) (λ rows. Ends end_of
+    (ForText (run_faults.Stimulus stimuli.Io) rows (λ text. OfFile file (WritesWave text))) result))
 EndsAsMeant left (commands.WaveWitness it) result =
     IfSome (left it.circuit) (λ file. IfSome (left it.witness) (λ text.
     Ends end_of (OfFile file (DumpsRun text)) result))
 EndsAsMeant left (commands.Bench it) result =
-    IfSome (left it.circuit) (λ file. IfSome (left it.stimulus) (λ rows.
-    Ends end_of (ForSomeText (run_faults.Script scripts.Io) (LeavesBench file rows)) result))
+    IfSome (left it.circuit) (λ file. IfSome (left it.stimulus) (λ rows. IfSome (left it.script) (λ lines.
+    Ends end_of (ForText (run_faults.Script scripts.Io) lines (LeavesBench file rows)) result)))
 EndsAsMeant left (commands.Shell it) result = EndsSession left it.circuit it.given result
 EndsAsMeant left (commands.Unroll it) result =
     IfSome (left it.circuit) (λ file. Ends end_of (OfFile file (UnrollsKept it.frames it.to)) result)
@@ -59,10 +61,11 @@ EndsAsMeant left (commands.Info it) result =
 EndsAsMeant left (commands.InfoNames it) result =
     IfSome (left it.circuit) (λ file. Ends end_of (OfFile file ListsNames) result)
 EndsAsMeant left (commands.Select it) result =
-    Ends end_of (OfCircuit (Selects it.selection.from it.selection.into it.selection.positions.items it.to)) result
+    IfSome (left it.circuit) (λ file. Ends end_of
+    (OfFile file (Selects it.selection.from it.selection.into it.selection.positions.items it.to)) result)
 EndsAsMeant left (commands.SelectNamed it) result =
-    IfSome (left it.names) (λ text.
-    EndsSelectingNamed it.selection.from it.selection.into it.selection.positions.items text it.to result)
+    IfSome (left it.circuit) (λ file. IfSome (left it.names) (λ text.
+    EndsSelectingNamed it.selection.from it.selection.into it.selection.positions.items text it.to file result))
 EndsAsMeant left (commands.Witness it) result =
     IfSome (left it.circuit) (λ file. IfSome (left it.stimulus) (λ text.
     Ends end_of (OfFile file (WritesWitness it.property text)) result))

@@ -1,6 +1,7 @@
 -- How the program takes a command's answer. Standard output is the system's: no clause says which bytes reach it.
 -- Examples: `bench` with a faulty stimulus ends with the stimulus's fault; `not bad` ends as `NotConfirmed`.
-use Rattle.std.specs.Prelude.{◌≡◌, ◌⊎◌, ℕ, List, Bool, true, false, Option, Result, Ok, Err, IfSome}
+use Rattle.std.specs.Prelude.{◌≡◌, ◌⊎◌, ℕ, List, Bool, true, false, IsTrue, Option, Result, Ok, Err, IfSome}
+use Rattle.aig_bytes.specs.Bytes.{IsBeginning}
 use Rattle.aig_bytes.specs.Flow.{Flow}
 use Rattle.aig_parts.specs.declared.fault.Fault.TheVariants as circuits
 use Rattle.aig_parts.specs.declared.raw.Raw.{Raw}
@@ -9,7 +10,7 @@ use Rattle.aig_sim.specs.declared.witness.verdict.Verdict.TheVariants.{Initial, 
 use Rattle.aig_sim.specs.WitnessText.{IsWitnessOf}
 use Rattle.aig_base.specs.declared.select.PropertySection.{PropertySection}
 use Rattle.aig_format.specs.declared.reader.header.Format.{Format}
-use Rattle.aig_command.specs.Command.{IsFileOf, OfCircuit, Text}
+use Rattle.aig_command.specs.Command.{IsFileOf, OfFile, Text}
 use Rattle.aig_command.specs.Flushed.{IsFlushed}
 use Rattle.aig_command.specs.declared.run_fault.RunFault.{RunFault}
 use Rattle.aig_command.specs.declared.run_fault.RunFault.TheVariants as run_faults
@@ -26,12 +27,19 @@ pub data Answers {T : Type 0} (Means : Result T RunFault → List ℕ → Type 0
   writes : {answer : Result T RunFault} (bytes : List ℕ) → Means answer bytes → Answers Means answer
   fails : Answers Means (Err run_faults.Output)
 
--- What a command answers that reads a text meanwhile: what it means for some text; or this fault, as a read of the text
--- or a write failed.
-abbrev pub ForSomeText : {T : Type 0} → RunFault → (Text → Result T RunFault → List ℕ → Type 0) → Result T RunFault
+-- these bytes were read up to here: a beginning of them, and all where that is the whole text
+pub record IsReadOf (all : List ℕ) (text : Text) : Type 0 where
+  pub beginning : IsBeginning text.bytes all
+  pub whole : IsTrue text.is_whole → text.bytes ≡ all
+
+-- What a command answers that reads these bytes meanwhile: what it means for those that it has read; or this fault, as
+-- a read of them or a write failed.
+abbrev pub ForText : {T : Type 0} → RunFault → List ℕ → (Text → Result T RunFault → List ℕ → Type 0)
+    → Result T RunFault
     → List ℕ
     → Type 0
-ForSomeText fault Means answer bytes = (answer ≡ Err fault) ⊎ ((text : Text) × Means text answer bytes)
+ForText fault all Means answer bytes =
+    (answer ≡ Err fault) ⊎ ((text : Text) × IsReadOf all text × Means text answer bytes)
 
 -- how the program ends for an answer
 abbrev pub end_of : {T : Type 0} → Result T RunFault → Result (Unit {0}) Exit
@@ -39,7 +47,7 @@ end_of (Ok value) = Ok tt
 end_of (Err fault) = Err (exits.Run fault)
 
 -- the same where the circuit is streamed: one that was not read to its end is reported as a file is
-abbrev pub end_of_streamed : Result (Unit {0}) RunFault → Result (Unit {0}) Exit
+abbrev pub end_of_streamed : {T : Type 0} → Result T RunFault → Result (Unit {0}) Exit
 end_of_streamed (Err (run_faults.Circuit circuits.Io)) = Err (exits.Unread parts.Circuit)
 end_of_streamed answer = end_of answer
 
@@ -79,13 +87,14 @@ AreConfirmed asked file text =
     (raw : Raw) × IsFileOf file raw × ShowsVerdict raw text Confirmed
     × IfSome asked (λ property. IsWitnessOf property raw text)
 
--- `select --names` ends as it means for these positions and the text of names
-abbrev pub EndsSelectingNamed : PropertySection → PropertySection → List ℕ → List ℕ → Format → Result (Unit {0}) Exit
+-- `select --names` ends as it means for these positions and the text of names, and the bytes of the circuit's file
+abbrev pub EndsSelectingNamed : PropertySection → PropertySection → List ℕ → List ℕ → Format → List ℕ
+    → Result (Unit {0}) Exit
     → Type 0
-EndsSelectingNamed from into positions text to result =
+EndsSelectingNamed from into positions text to file result =
     Ends end_of (λ answer bytes. (s : NamedSelection) × (s.from ≡ from) × (s.into ≡ into)
     × (s.positions.now ≡ positions)
-    × (s.names.now ≡ text) × OfCircuit (SelectsNamed s to) answer bytes) result
+    × (s.names.now ≡ text) × OfFile file (SelectsNamed s to) answer bytes) result
 
 -- what `check` means, with `--trace` or without, for the property that is asked for, if one is
 abbrev pub ChecksWitness : Bool → Option ℕ → List ℕ → Raw → Result Verdict RunFault → List ℕ → Type 0

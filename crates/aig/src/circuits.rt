@@ -1,6 +1,6 @@
 //! The commands on a circuit alone: conversion, unrolling, selection, and facts about it.
 ghost use Rattle.std.specs.Prelude.{Some, IfSome, OnOk};
-ghost use Rattle.aig_command.specs.Command.{OfCircuit, OfFile};
+ghost use Rattle.aig_command.specs.Command.{OfFile};
 ghost use Rattle.aig_commands.specs.GoesWell.{GoesWell};
 ghost use Rattle.aig_commands.specs.Info.{ListsFacts};
 ghost use Rattle.aig_commands.specs.Names.{ListsNames};
@@ -12,7 +12,6 @@ ghost use Rattle.aig.specs.Ends.{Ends, EndsSelectingNamed, end_of};
 use crate::command::Selection;
 use crate::ended::{ended, streamed};
 use crate::kept::{begin_map, write_map};
-use aig_base::Std;
 use aig_command::{RunFault, flushed};
 use aig_commands::select::NamedSelection;
 use aig_commands::{convert_from, info, select, unroll};
@@ -34,7 +33,7 @@ pub fn toaig<R: AllocGlobal + Print, F: Read + Drop>(
     let mut circuit = Known::new(circuit);
     let mut out = output(rt);
     let done = convert_from(rt.alloc(), &mut circuit, to, &mut out);
-    streamed(done, &mut out)
+    streamed(done, &mut out, RunFault::Output)
 }
 
 /// Writes a circuit unrolled for `frames` frames.
@@ -100,7 +99,7 @@ pub fn info<R: AllocGlobal + Print, F: Read + Drop>(rt: &R, circuit: F) -> Resul
     let mut circuit = Known::new(circuit);
     let mut out = output(rt);
     let done = info::info(rt.alloc(), &mut circuit, &mut out);
-    streamed(done, &mut out)
+    streamed(done, &mut out, RunFault::Output)
 }
 
 /// Writes the entries of a circuit with their names.
@@ -110,7 +109,7 @@ pub fn info_names<R: AllocGlobal + Print, F: Read + Drop>(rt: &R, circuit: F) ->
     let mut circuit = Known::new(circuit);
     let mut out = output(rt);
     let done = info::info_names(rt.alloc(), &mut circuit, &mut out);
-    streamed(done, &mut out)
+    streamed(done, &mut out, RunFault::Output)
 }
 
 /// Writes a circuit with some of its properties.
@@ -120,9 +119,10 @@ pub fn select<R: AllocGlobal + Print, F: Read + Drop>(
     to: Format,
     circuit: F,
 ) -> Result<(), Exit>
-    ensures ends { Ends end_of (OfCircuit (Selects selection.from selection.into selection.positions.items to)) result }
+    ensures ends { IfSome (F.remaining circuit) (λ file.
+        Ends end_of (OfFile file (Selects selection.from selection.into selection.positions.items to)) result) }
 {
-    let mut circuit = Std::new(circuit);
+    let mut circuit = Known::new(circuit);
     let mut out = output(rt);
     let done = select::select(
         rt.alloc(),
@@ -133,7 +133,7 @@ pub fn select<R: AllocGlobal + Print, F: Read + Drop>(
         to,
         &mut out,
     );
-    ended(done, &mut out, RunFault::Output)
+    streamed(done, &mut out, RunFault::Output)
 }
 
 /// Writes a circuit with some of its properties, under the names of a text.
@@ -144,11 +144,11 @@ pub fn select_named<R: AllocGlobal + Print, F: Read + Drop>(
     circuit: F,
     names: F,
 ) -> Result<(), Exit>
-    ensures ends { IfSome (F.remaining names) (λ text.
-        EndsSelectingNamed selection.from selection.into selection.positions.items text to result) }
+    ensures ends { IfSome (F.remaining circuit) (λ file. IfSome (F.remaining names) (λ text.
+        EndsSelectingNamed selection.from selection.into selection.positions.items text to file result)) }
 {
-    let mut circuit = Std::new(circuit);
     let names = read_whole(rt.alloc(), names, Part::Names)?;
+    let mut circuit = Known::new(circuit);
     let positions = selection.positions.as_slice();
     let text = names.as_slice();
     let selection = NamedSelection {
@@ -159,5 +159,5 @@ pub fn select_named<R: AllocGlobal + Print, F: Read + Drop>(
     };
     let mut out = output(rt);
     let done = select::select_named(rt.alloc(), &mut circuit, selection, to, &mut out);
-    ended(done, &mut out, RunFault::Output)
+    streamed(done, &mut out, RunFault::Output)
 }

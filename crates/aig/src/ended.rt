@@ -23,16 +23,21 @@ pub fn ended<T: Drop, W: Write>(
     }
 }
 
-/// Where a read of a circuit that is streamed failed, it ends as for a file that is read whole.
-pub fn streamed<W: Write>(answer: Result<(), RunFault>, out: &mut W) -> Result<(), Exit>
-    ensures ends { EndsFlushed (flow W.written W.failures out.old out.new) RunFault.Output end_of_streamed answer
-        result }
+/// Where a read of a circuit that is streamed failed, it ends as for a file that is read whole. If the flush fails, it
+/// ends with `part`.
+pub fn streamed<T: Drop, W: Write>(
+    answer: Result<T, RunFault>,
+    out: &mut W,
+    part: RunFault,
+) -> Result<(), Exit>
+    ensures ends { EndsFlushed (flow W.written W.failures out.old out.new) part end_of_streamed answer result }
     ensures flushed { W.failures out.new ≡ W.failures out.old → W.is_flushed out.new }
 {
-    match flushed(answer, out, RunFault::Output) {
+    let told = flushed(answer, out, part);
+    match told {
         Err(RunFault::Circuit(Fault::Io)) => Err(Exit::Unread(Part::Circuit)),
         Err(fault) => Err(Exit::Run(fault)),
-        Ok(()) => Ok(()),
+        Ok(_) => Ok(()),
     }
 }
 

@@ -1,18 +1,17 @@
 //! The commands on a circuit and a stimulus: traces, dumps and scripts.
 
 ghost use Rattle.std.specs.Prelude.{IfSome};
-ghost use Rattle.aig_command.specs.Command.{OfCircuit};
+ghost use Rattle.aig_command.specs.Command.{OfFile};
 ghost use Rattle.aig_script.specs.Bench.{LeavesBench};
 ghost use Rattle.aig_commands.specs.Sim.{WritesSimulation};
 ghost use Rattle.aig_commands.specs.Wave.{WritesWave};
-ghost use Rattle.aig.specs.Ends.{Ends, ForSomeText, end_of};
+ghost use Rattle.aig.specs.Ends.{Ends, ForText, end_of};
 
-use crate::ended::{ended, written};
+use crate::ended::{streamed, written};
 use crate::kept::BenchFiles;
-use aig_base::Std;
 use aig_command::{RunFault, ScriptFault, flushed};
 use aig_commands::{sim, wave};
-use aig_files::{Exit, Kept, Part, Terminal, output, read_whole};
+use aig_files::{Exit, Kept, Known, Part, Terminal, output, read_whole};
 use aig_script::bench;
 use aig_sim::StimFault;
 use std::fs::Files;
@@ -26,14 +25,14 @@ pub fn sim<R: AllocGlobal + Print, F: Read + Drop>(
     circuit: F,
     stimulus: F,
 ) -> Result<(), Exit>
-    ensures ends { Ends end_of
-        (ForSomeText (RunFault.Stimulus StimFault.Io) (λ text. OfCircuit (WritesSimulation text))) result }
+    ensures ends { IfSome (F.remaining circuit) (λ file. IfSome (F.remaining stimulus) (λ rows. Ends end_of
+        (ForText (RunFault.Stimulus StimFault.Io) rows (λ text. OfFile file (WritesSimulation text))) result)) }
 {
-    let mut circuit = Std::new(circuit);
-    let mut stimulus = Std::new(stimulus);
+    let mut circuit = Known::new(circuit);
+    let mut stimulus = Known::new(stimulus);
     let mut out = output(rt);
     let done = sim::sim(rt.alloc(), &mut circuit, &mut stimulus, &mut out);
-    ended(done, &mut out, RunFault::Stimulus(StimFault::Io))
+    streamed(done, &mut out, RunFault::Stimulus(StimFault::Io))
 }
 
 /// Writes the value change dump of a stimulus.
@@ -42,14 +41,14 @@ pub fn wave<R: AllocGlobal + Print, F: Read + Drop>(
     circuit: F,
     stimulus: F,
 ) -> Result<(), Exit>
-    ensures ends { Ends end_of
-        (ForSomeText (RunFault.Stimulus StimFault.Io) (λ text. OfCircuit (WritesWave text))) result }
+    ensures ends { IfSome (F.remaining circuit) (λ file. IfSome (F.remaining stimulus) (λ rows. Ends end_of
+        (ForText (RunFault.Stimulus StimFault.Io) rows (λ text. OfFile file (WritesWave text))) result)) }
 {
-    let mut circuit = Std::new(circuit);
-    let mut stimulus = Std::new(stimulus);
+    let mut circuit = Known::new(circuit);
+    let mut stimulus = Known::new(stimulus);
     let mut out = output(rt);
     let done = wave::wave(rt.alloc(), &mut circuit, &mut stimulus, &mut out);
-    ended(done, &mut out, RunFault::Stimulus(StimFault::Io))
+    streamed(done, &mut out, RunFault::Stimulus(StimFault::Io))
 }
 
 /// Writes the replies to a script, and the files of `--circuit-out` and `--stimulus-out`.
@@ -63,7 +62,8 @@ pub fn bench<R: Files + AllocGlobal + Print + Eprint + Clock, F: Read + Drop>(
 where
     R::File: AsFd,
     ensures ends { IfSome (F.remaining circuit) (λ file. IfSome (F.remaining stimulus) (λ rows.
-        Ends end_of (ForSomeText (RunFault.Script ScriptFault.Io) (LeavesBench file rows)) result)) }
+        IfSome (F.remaining script) (λ lines.
+        Ends end_of (ForText (RunFault.Script ScriptFault.Io) lines (LeavesBench file rows)) result))) }
 {
     let circuit = read_whole(terminal.alloc(), circuit, Part::Circuit)?;
     let stimulus = read_whole(terminal.alloc(), stimulus, Part::Stimulus)?;
@@ -82,9 +82,10 @@ fn write_replies<R: Files + AllocGlobal + Print + Eprint + Clock, F: Read + Drop
 ) -> Result<(), Exit>
 where
     R::File: AsFd,
-    ensures { Ends end_of (ForSomeText (RunFault.Script ScriptFault.Io) (LeavesBench circuit.now stimulus.now)) result }
+    ensures ends { IfSome (F.remaining script) (λ lines.
+        Ends end_of (ForText (RunFault.Script ScriptFault.Io) lines (LeavesBench circuit.now stimulus.now)) result) }
 {
-    let mut script = Std::new(script);
+    let mut script = Known::new(script);
     let mut out = output(terminal);
     let done = bench::bench(terminal.alloc(), circuit, stimulus, &mut script, &mut out);
     match flushed(done, &mut out, RunFault::Script(ScriptFault::Io)) {

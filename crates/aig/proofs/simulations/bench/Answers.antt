@@ -3,59 +3,59 @@ use Rattle.aig_command.specs.declared.run_fault.RunFault.TheVariants as run_faul
 use Rattle.aig_command.specs.declared.script_fault.ScriptFault.TheVariants as scripts
 use Rattle.aig_script.specs.Bench.{LeavesBench}
 use Rattle.aig_files.specs.declared.part.Part.TheVariants as parts
-use Rattle.aig.specs.Ends.{Ends, ForSomeText, end_of}
-use Rattle.aig.proofs.Endings.{ends_unread, ends_unwritten, of_any, of_whole, slice_whole}
+use Rattle.aig.specs.Ends.{Ends, ForText, end_of}
+use Rattle.aig.proofs.Endings.{ends_unread, ends_unwritten, of_any, of_any_two, of_both, slice_whole}
 use Rattle.aig.proofs.simulations.bench.Goals as goal
 
 pub returns : goal.returns
 returns g c =
-    let file = c.as_slice-file.result.now in
-    let rows = c.as_slice-rows.result.now in
-    let r = c.write_replies.result in
+    let left = g.F.Read.remaining in
+    let r = c.write_replies in
     let io = run_faults.Script scripts.Io in
     record {
       ends =
-          of_whole (g.F.Read.remaining c.args.circuit) file
-          (slice_whole (g.F.Read.remaining c.args.circuit) _ _ c.as_slice-file.ensures.value c.in_ok-circuit.ensures.whole)
-          (λ xs. IfSome (g.F.Read.remaining c.args.stimulus) (λ ys. Ends end_of (ForSomeText io (LeavesBench xs ys)) r))
-          (of_whole (g.F.Read.remaining c.args.stimulus) rows
-          (slice_whole (g.F.Read.remaining c.args.stimulus) _ _ c.as_slice-rows.ensures.value c.in_ok-stimulus.ensures.whole)
-          (λ ys. Ends end_of (ForSomeText io (LeavesBench file ys)) r) c.write_replies.ensures);
+          of_both (left c.args.circuit) (left c.args.stimulus) c.as_slice-file.result.now c.as_slice-rows.result.now
+          (slice_whole (left c.args.circuit) _ _ c.as_slice-file.ensures.value c.in_ok-circuit.ensures.whole)
+          (slice_whole (left c.args.stimulus) _ _ c.as_slice-rows.ensures.value c.in_ok-stimulus.ensures.whole)
+          (λ file rows. IfSome (left c.args.script) (λ lines. Ends end_of (ForText io lines (LeavesBench file rows)) r.result))
+          r.ensures.ends;
     }
 
 pub returns-in_err-circuit : goal.returns-in_err-circuit
 returns-in_err-circuit g c =
-    let r = c.from_residual.result in
+    let left = g.F.Read.remaining in
+    let r = c.from_residual in
     let io = run_faults.Script scripts.Io in
     record {
       ends =
-          of_any (g.F.Read.remaining c.args.circuit)
-          (λ xs. IfSome (g.F.Read.remaining c.args.stimulus) (λ ys. Ends end_of (ForSomeText io (LeavesBench xs ys)) r))
-          (λ xs. of_any (g.F.Read.remaining c.args.stimulus) (λ ys. Ends end_of (ForSomeText io (LeavesBench xs ys)) r)
-          (λ ys. ends_unread r c.in_err-circuit.field-0.0 parts.Circuit c.in_err-circuit.ensures.fails c.from_residual.ensures.1));
+          of_any_two (left c.args.circuit) (left c.args.stimulus)
+          (λ file rows. IfSome (left c.args.script) (λ lines. Ends end_of (ForText io lines (LeavesBench file rows)) r.result))
+          (λ file rows. of_any (left c.args.script) (λ lines. Ends end_of (ForText io lines (LeavesBench file rows)) r.result)
+          (λ lines. ends_unread r.result c.in_err-circuit.field-0.0 parts.Circuit c.in_err-circuit.ensures.fails r.ensures.1));
     }
 
 pub returns-in_err-stimulus : goal.returns-in_err-stimulus
 returns-in_err-stimulus g c =
-    let r = c.from_residual-in_err-stimulus.result in
+    let left = g.F.Read.remaining in
+    let r = c.from_residual-in_err-stimulus in
     let io = run_faults.Script scripts.Io in
     record {
       ends =
-          of_any (g.F.Read.remaining c.args.circuit)
-          (λ xs. IfSome (g.F.Read.remaining c.args.stimulus) (λ ys. Ends end_of (ForSomeText io (LeavesBench xs ys)) r))
-          (λ xs. of_any (g.F.Read.remaining c.args.stimulus) (λ ys. Ends end_of (ForSomeText io (LeavesBench xs ys)) r)
-          (λ ys. ends_unread r c.in_err-stimulus.field-0.0 parts.Stimulus c.in_err-stimulus.ensures.fails
-          c.from_residual-in_err-stimulus.ensures.1));
+          of_any_two (left c.args.circuit) (left c.args.stimulus)
+          (λ file rows. IfSome (left c.args.script) (λ lines. Ends end_of (ForText io lines (LeavesBench file rows)) r.result))
+          (λ file rows. of_any (left c.args.script) (λ lines. Ends end_of (ForText io lines (LeavesBench file rows)) r.result)
+          (λ lines. ends_unread r.result c.in_err-stimulus.field-0.0 parts.Stimulus c.in_err-stimulus.ensures.fails r.ensures.1));
     }
 
 pub returns-in_err-files : goal.returns-in_err-files
 returns-in_err-files g c =
-    let r = c.from_residual-in_err-files.result in
+    let left = g.F.Read.remaining in
+    let r = c.from_residual-in_err-files in
     let io = run_faults.Script scripts.Io in
     record {
       ends =
-          of_any (g.F.Read.remaining c.args.circuit)
-          (λ xs. IfSome (g.F.Read.remaining c.args.stimulus) (λ ys. Ends end_of (ForSomeText io (LeavesBench xs ys)) r))
-          (λ xs. of_any (g.F.Read.remaining c.args.stimulus) (λ ys. Ends end_of (ForSomeText io (LeavesBench xs ys)) r)
-          (λ ys. ends_unwritten r c.in_err-files.field-0.0 c.in_err-files.ensures.fails c.from_residual-in_err-files.ensures.1));
+          of_any_two (left c.args.circuit) (left c.args.stimulus)
+          (λ file rows. IfSome (left c.args.script) (λ lines. Ends end_of (ForText io lines (LeavesBench file rows)) r.result))
+          (λ file rows. of_any (left c.args.script) (λ lines. Ends end_of (ForText io lines (LeavesBench file rows)) r.result)
+          (λ lines. ends_unwritten r.result c.in_err-files.field-0.0 c.in_err-files.ensures.fails r.ensures.1));
     }

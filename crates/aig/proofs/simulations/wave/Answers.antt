@@ -1,9 +1,26 @@
+use Rattle.std.proofs.Common.{◌∙◌}
+use Rattle.std.specs.Prelude.{IfSome}
+use Rattle.aig_command.specs.Command.{OfFile}
+use Rattle.aig_command.specs.declared.run_fault.RunFault.TheVariants as run_faults
+use Rattle.aig_sim.specs.declared.stimulus.fault.StimFault.TheVariants as stimuli
 use Rattle.aig_commands.specs.Wave.{WritesWave}
-use Rattle.aig.proofs.Endings.{stream_answers, text_flushed}
+use Rattle.aig.specs.Ends.{Ends, ForText, end_of}
+use Rattle.aig.proofs.Endings.{known_at_first, of_left, streamed_text_ends}
 use Rattle.aig.proofs.simulations.wave.Goals as goal
 
 pub returns : goal.returns
 returns g c =
+    let left = g.F.Read.remaining in
+    let circuit = c.new-circuit in
+    let stimulus = c.new-stimulus in
+    let io = run_faults.Stimulus stimuli.Io in
+    let r = c.streamed.result in
     record {
-      ends = text_flushed _ _ _ c.wave-done.result c.ended.result (stream_answers _ _ _ _ WritesWave c.wave-done.result c.wave-done.ensures.ends) c.ended.ensures.ends;
+      ends = of_left (left c.args.circuit)
+          (λ file. IfSome (left c.args.stimulus) (λ rows. Ends end_of (ForText io rows (λ text. OfFile file (WritesWave text))) r))
+          (λ file is. of_left (left c.args.stimulus) (λ rows. Ends end_of (ForText io rows (λ text. OfFile file (WritesWave text))) r)
+          (λ rows is_rows. streamed_text_ends _ _ _ _ io WritesWave file rows
+          (known_at_first left c.args.circuit circuit.result.first circuit.result.inner circuit.ensures.first circuit.ensures.inner ∙ is)
+          (known_at_first left c.args.stimulus stimulus.result.first stimulus.result.inner stimulus.ensures.first stimulus.ensures.inner ∙ is_rows)
+          c.wave-done.result r c.wave-done.ensures.ends c.streamed.ensures.ends));
     }
