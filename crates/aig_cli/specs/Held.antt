@@ -1,6 +1,6 @@
 -- What the parsed arguments hold.
 -- Example: `--property 3` holds 3 for `P`, and without it `P` is 0.
-use Rattle.std.specs.Prelude.{◌≡◌, ℕ, ◌<◌, ◌^◌, ◌&&◌, ◌||◌, nat_le, List, slice_index, Bool, true, false, Option, None}
+use Rattle.std.specs.Prelude.{◌≡◌, ◌⊎◌, ℕ, ◌<◌, ◌^◌, ◌&&◌, ◌||◌, nat_le, List, slice_index, Bool, true, false, Option, None}
 use Rattle.std.specs.Prelude.{Some, codes}
 use Rattle.std.specs.Option.{unwrap_or}
 use Rattle.std.specs.Str.{bytes_eq}
@@ -38,6 +38,18 @@ HoldsFlag matches name flag =
     (one_text (found_of matches) name ≡ Some (codes "true") → flag ≡ true)
     × (one_text (found_of matches) name ≡ Some (codes "false") → flag ≡ false)
     × (one_text (found_of matches) name ≡ None → flag ≡ false)
+
+-- a flag is set among the arguments of the subcommand, if there is one
+abbrev pub HoldsAfter : ArgMatches → List ℕ → Bool → Type 0
+HoldsAfter matches name flag =
+    ((command : List ℕ) × (own : ArgMatches) × HoldsSubcommand matches command own × HoldsFlag own name flag)
+    ⊎ ((subcommand_rows_of matches ≡ None) × (flag ≡ false))
+
+-- a flag of every command is set where it was given before the command or after it
+abbrev pub HoldsGeneralFlag : ArgMatches → List ℕ → Bool → Type 0
+HoldsGeneralFlag matches name flag =
+    (before : Bool) × (after : Bool) × HoldsFlag matches name before × HoldsAfter matches name after
+    × (flag ≡ (before || after))
 
 -- a number without a sign and without a leading zero: it is 0, or begins with a digit from 1 to 9
 abbrev pub is_plain_number : List ℕ → Bool
