@@ -1,6 +1,6 @@
 -- The commands with their arguments, as the parser of the command line takes them, and which matches it gives to words.
 -- Example: `check` has the flag `--trace`, the option `--property P`, and two files by their places, which are needed.
-use Rattle.std.specs.Prelude.{◌≡◌, ◌&&◌, ◌++◌, ◌∷◌, ℕ, List, [], Bool, true, false, Option, Some, codes, fold, map, pos}
+use Rattle.std.specs.Prelude.{◌≡◌, ◌&&◌, ◌++◌, ◌∷◌, List, [], true, false, Option, Some, codes, fold, map, pos}
 use Rattle.clap.specs.Matches.{found_of}
 use Rattle.clap.specs.Simple.{App, Shape, matches_of, new_rule, new_shape, subcommand_of, subcommand_rows_of, with_rule}
 use Rattle.clap.specs.Simple.{with_subcommand}
