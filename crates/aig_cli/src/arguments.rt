@@ -47,10 +47,6 @@ pub enum Need {
     Without(&'static str, &'static [&'static str]),
 }
 
-/// The options that say which formula: a number of frames, or a certificate. `cnf`, `refute` and a model need one of
-/// them, which `formula_is_missing` looks at.
-pub const FORMULA: [&str; 2] = ["K", "certificate"];
-
 const FORMATS: &[&str] = &["aag", "aig"];
 
 const SECTIONS: &[&str] = &["bad", "outputs"];

@@ -1,11 +1,11 @@
 //! The command line: the parser of its words, and what it found.
-ghost use Rattle.std.specs.Prelude.{◌≡◌, [], IfOk, IfSome, None, false, true, map, option_map, slice_index};
+ghost use Rattle.std.specs.Prelude.{◌≡◌, [], IfOk, IfSome, None, false, is_some, true, map, option_map, slice_index};
 ghost use Rattle.clap.specs.Matches.{first_value, found_of};
 ghost use Rattle.clap.specs.Words.{app_of, is_simple, subcommand_rows_of, with_subcommand};
-ghost use Rattle.aig_cli.specs.Held.{HoldsFlag, HoldsGeneralFlag, HoldsNumber, HoldsNumberOr, HoldsSubcommand, is_plain_number};
+ghost use Rattle.aig_cli.specs.Held.{HoldsFlag, HoldsGeneralFlag, HoldsNumber, HoldsNumberOr, HoldsSubcommand, LacksFormula, is_plain_number, names_formula, needs_formula};
 ghost use Rattle.aig_cli.specs.Table.{HoldsWords, IsCommandLine, program_of, shape_of_row, with_rows};
 
-use crate::arguments::{FORMULA, NUMBERS};
+use crate::arguments::NUMBERS;
 use crate::help::{self, usages};
 use crate::subcommands::{
     Subcommand, built_subcommand, files, refutations, runs, with_general, witnesses,
@@ -138,19 +138,39 @@ impl fmt::Display for MissingFormula {
 }
 
 /// Returns what is missing, if the arguments name no formula and need one: `cnf`, `refute` and a model do.
-pub fn missing_formula(matches: &ArgMatches<'_>) -> Option<MissingFormula> {
+pub fn missing_formula(matches: &ArgMatches<'_>) -> Option<MissingFormula>
+    ensures lacks { LacksFormula matches.now (is_some result) }
+{
     let (name, own) = subcommand_of(matches)?;
-    let usage = match name {
+    if needs_formula(name, own) && !names_formula(own) {
+        Some(MissingFormula {
+            usage: usage_of(name),
+        })
+    } else {
+        None
+    }
+}
+
+/// Whether a command is about a formula.
+fn needs_formula(name: &str, own: &ArgMatches<'_>) -> bool
+    ensures { result ≡ needs_formula name.now own.now }
+{
+    name == "cnf" || name == "refute" || (name == "witness" && text_of(own, "model").is_some())
+}
+
+/// Whether the arguments of a command name a formula, by its number of frames or by a certificate.
+fn names_formula(own: &ArgMatches<'_>) -> bool
+    ensures { result ≡ names_formula own.now }
+{
+    text_of(own, "K").is_some() || text_of(own, "certificate").is_some()
+}
+
+/// Returns the usage of a command that needs a formula.
+fn usage_of(name: &str) -> &'static str {
+    match name {
         "cnf" => usages::CNF,
         "refute" => usages::REFUTE,
-        "witness" if text_of(own, "model").is_some() => usages::WITNESS,
-        _ => return None,
-    };
-    let is_named = FORMULA.iter().any(|option| text_of(own, option).is_some());
-    if is_named {
-        None
-    } else {
-        Some(MissingFormula { usage })
+        _ => usages::WITNESS,
     }
 }
 
