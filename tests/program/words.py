@@ -64,9 +64,12 @@ def words(program, tally, _):
         ended = program.run(*refused)
         is_refused = (ended.status, ended.out) == (2, b"") and ended.err != b""
         tally.check(f"words: {name}", is_refused, ended)
-    for asked in (["--frames", "-1"], ["--frames=-1"]):
-        ended = program.run("unroll", *asked, "--to", "aag", "two_gates")
-        tally.check(f"words: {asked}", ended.status == 2 and ended.err.startswith(NEGATIVE), ended)
+    ended = program.run("unroll", "--frames=-1", "--to", "aag", "two_gates")
+    tally.check("words: --frames=-1", ended.status == 2 and ended.err.startswith(NEGATIVE), ended)
+    tally.compare("words: --frames -1", program.run("unroll", "--frames", "-1", "--to", "aag", "two_gates"),
+                  Ended(2, b"", odd("-1", "--frames <K>")))
+    for refused, usage in UNNAMED:
+        tally.compare(f"words: {' '.join(refused)}", program.run(*refused), Ended(2, b"", unnamed(usage)))
     for number in ("03", "+3", "00", "-0", "+0", "0000000000000000000001"):
         for words, option in ODD:
             words = [word.replace("N", number) for word in words]
@@ -77,6 +80,19 @@ def words(program, tally, _):
 ODD = [(words.split(" "), "--frames <K>") for words in (
     "unroll --frames N --to aag two_gates", "cnf --frames N two_gates", "cnf --property 1 --frames=N two_gates",
     "refute --frames N two_gates proof", "witness --model model --frames N two_gates")]
+
+
+# Runs that need a number of frames or a certificate and have neither, and the usage that they are told.
+UNNAMED = (
+    (["cnf", "two_gates"], "cnf [OPTIONS] <--frames <K>|--certificate <AIG>> <CIRCUIT>"),
+    (["refute", "two_gates", "proof"], "refute [OPTIONS] <--frames <K>|--certificate <AIG>> <CIRCUIT> <PROOF>"),
+    (["witness", "--model", "model", "two_gates"], "witness [OPTIONS] <CIRCUIT> [STIM]"),
+)
+
+
+def unnamed(usage):
+    wanted = "the following required arguments were not provided:\n  <--frames <K>|--certificate <AIG>>"
+    return f"error: {wanted}\n\nUsage: aig {usage}\n\nFor more information, try '--help'.\n".encode()
 
 
 def odd(number, option):

@@ -3,13 +3,14 @@ ghost use Rattle.std.specs.Prelude.{IfErr};
 ghost use Rattle.aig.specs.Program.{IsUnparsed};
 
 use aig_base::Memory;
-use aig_cli::{matches_of, odd_number, subcommand_of};
+use aig_cli::{matches_of, missing_formula, negative_number, odd_number, subcommand_of};
 use aig_command::RunFault;
 use aig_files::{Exit, escaped};
 use clap::ArgMatches;
 use clap::error::ErrorKind;
 use std::alloc::Global;
 use std::env::{self, Env};
+use std::fmt;
 use std::io;
 
 /// Returns all arguments, the program's name first.
@@ -41,14 +42,23 @@ pub fn parsed<'a, R: AllocGlobal + Eprint>(
     }
 }
 
-/// Rejects a number with a sign or a leading zero, which the parser accepts. It says so in the words of clap's
-/// messages.
-pub fn with_odd_number(rt: &impl Eprint, matches: &ArgMatches<'_>) -> Option<Exit> {
+/// Rejects what the parser accepts: a number with a sign or a leading zero, and a command that needs a number of frames
+/// or a certificate and has neither.
+pub fn with_fault(rt: &impl Eprint, matches: &ArgMatches<'_>) -> Option<Exit> {
+    if let Some(missing) = missing_formula(matches) {
+        return Some(told(rt, &missing));
+    }
     let (_, matches) = subcommand_of(matches)?;
-    let number = odd_number(matches)?;
+    Some(told(rt, &odd_number(matches)?))
+}
+
+/// Says what is wrong with the arguments, in the words of clap's messages, and returns how the program ends.
+fn told(rt: &impl Eprint, fault: &impl fmt::Display) -> Exit
+    ensures { IsUnparsed result }
+{
     // There is no place left to report that standard error fails.
-    let _ = eprintln!(rt; "error: {number}\n\nFor more information, try '--help'.");
-    Some(Exit::Reported)
+    let _ = eprintln!(rt; "error: {fault}\n\nFor more information, try '--help'.");
+    Exit::Reported
 }
 
 /// Prints clap's text. It names arguments, which may have bytes that a terminal obeys. It is then the text for the
@@ -56,6 +66,11 @@ pub fn with_odd_number(rt: &impl Eprint, matches: &ArgMatches<'_>) -> Option<Exi
 fn refused<R: AllocGlobal + Eprint>(rt: &R, words: &[String], error: &clap::Error) -> Exit
     ensures { IsUnparsed result }
 {
+    if error.kind() == ErrorKind::UnknownArgument {
+        if let Some(number) = negative_number(words) {
+            return told(rt, &number);
+        }
+    }
     let is_memory = error.kind() == ErrorKind::OutOfMemory;
     if is_memory || words.iter().all(|word| is_shown(word.as_str())) {
         return print(rt, error);

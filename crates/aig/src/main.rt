@@ -20,10 +20,10 @@ mod solvers;
 mod why;
 mod witnesses;
 
-use aig_cli::has_flag;
+use aig_cli::has_general_flag;
 use aig_explain::{explain, is_asked_for};
 use aig_files::{Exit, Source, Terminal, Terminals, Tracked, reserve};
-use arguments::{parsed, with_odd_number};
+use arguments::{parsed, with_fault};
 use chosen::open_chosen;
 use clap::ArgMatches;
 use command::Command;
@@ -83,7 +83,7 @@ where
     if let Some(files) = files_of(&matches) {
         // A run that ends well has nothing to explain but a verdict's property.
         let has_more = done.is_err() || files.judged.is_some();
-        if has_more && (has_flag(&matches, "explain") || is_asked_for(rt)) {
+        if has_more && (has_general_flag(&matches, "explain") || is_asked_for(rt)) {
             explain(rt, &files, done);
         }
     }
@@ -100,7 +100,7 @@ where
     R::File: AsFd,
     ensures ends { RunsAsMeant R.File.remaining matches.now result }
 {
-    let terminal = Terminal::begin(rt, terminals, has_flag(matches, "progress"));
+    let terminal = Terminal::begin(rt, terminals, has_general_flag(matches, "progress"));
     let done = run_on(&terminal, matches);
     terminal.end();
     done
@@ -139,7 +139,7 @@ fn command_for<'t, R: Files + AllocGlobal + Eprint + Clock>(
 ) -> Result<Command<'t, Source<Tracked<'t, R, R::File>>>, Exit>
     ensures chosen { IfOk result (Chooses matches.now) }
 {
-    match with_odd_number(terminal.runtime(), matches) {
+    match with_fault(terminal.runtime(), matches) {
         Some(exit) => Err(exit),
         None => open_chosen(terminal, matches),
     }

@@ -1,11 +1,11 @@
 -- What the parsed arguments hold.
 -- Example: `--property 3` holds 3 for `P`, and without it `P` is 0.
-use Rattle.std.specs.Prelude.{◌≡◌, ℕ, ◌<◌, ◌^◌, ◌&&◌, ◌||◌, nat_le, List, slice_index, Bool, true, false, Option, None}
-use Rattle.std.specs.Prelude.{Some, codes}
+use Rattle.std.specs.Prelude.{◌≡◌, ◌⊎◌, ℕ, ◌<◌, ◌^◌, ◌&&◌, ◌||◌, nat_le, List, slice_index, Bool, true, false, Option, None}
+use Rattle.std.specs.Prelude.{Some, codes, is_some, not}
 use Rattle.std.specs.Option.{unwrap_or}
 use Rattle.std.specs.Str.{bytes_eq}
 use Rattle.std.specs.Str.Parse.{IsNumeral, digits_value, without_leading_plus}
-use Rattle.clap.specs.Matches.{found_of, one_text}
+use Rattle.clap.specs.Matches.{first_value, found_of, one_text}
 use Rattle.clap.specs.Simple.{subcommand_rows_of}
 use Rattle.clap.specs.Walk.{rows_of}
 use Rattle.clap.specs.declared.parser.matches.ArgMatches.{ArgMatches}
@@ -38,6 +38,36 @@ HoldsFlag matches name flag =
     (one_text (found_of matches) name ≡ Some (codes "true") → flag ≡ true)
     × (one_text (found_of matches) name ≡ Some (codes "false") → flag ≡ false)
     × (one_text (found_of matches) name ≡ None → flag ≡ false)
+
+-- a flag is set among the arguments of the subcommand, if there is one
+abbrev pub HoldsAfter : ArgMatches → List ℕ → Bool → Type 0
+HoldsAfter matches name flag =
+    ((command : List ℕ) × (own : ArgMatches) × HoldsSubcommand matches command own × HoldsFlag own name flag)
+    ⊎ ((subcommand_rows_of matches ≡ None) × (flag ≡ false))
+
+-- a flag of every command is set where it was given before the command or after it
+abbrev pub HoldsGeneralFlag : ArgMatches → List ℕ → Bool → Type 0
+HoldsGeneralFlag matches name flag =
+    (before : Bool) × (after : Bool) × HoldsFlag matches name before × HoldsAfter matches name after
+    × (flag ≡ (before || after))
+
+-- a command is about a formula
+abbrev pub needs_formula : List ℕ → ArgMatches → Bool
+needs_formula name own =
+    bytes_eq name (codes "cnf") || (bytes_eq name (codes "refute")
+    || bytes_eq name (codes "witness") && is_some (first_value (found_of own) (codes "model")))
+
+-- the arguments of a command name a formula, by a number of frames or by a certificate
+abbrev pub names_formula : ArgMatches → Bool
+names_formula own =
+    is_some (first_value (found_of own) (codes "K")) || is_some (first_value (found_of own) (codes "certificate"))
+
+-- whether a command needs a formula and names none
+abbrev pub LacksFormula : ArgMatches → Bool → Type 0
+LacksFormula matches flag =
+    ((name : List ℕ) × (own : ArgMatches) × HoldsSubcommand matches name own
+    × (flag ≡ (needs_formula name own && not (names_formula own))))
+    ⊎ ((subcommand_rows_of matches ≡ None) × (flag ≡ false))
 
 -- a number without a sign and without a leading zero: it is 0, or begins with a digit from 1 to 9
 abbrev pub is_plain_number : List ℕ → Bool

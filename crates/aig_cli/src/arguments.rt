@@ -1,4 +1,7 @@
 //! The arguments and options of the commands, a row each.
+ghost use Rattle.std.specs.Prelude.{◌≡◌, IfOk};
+ghost use Rattle.clap.specs.Walk.{rule_of};
+ghost use Rattle.aig_cli.specs.Table.{rule_of_argument, with_kind, with_need, with_number};
 
 use clap::builder::ValueParser;
 use clap::{Arg, ArgAction};
@@ -7,14 +10,15 @@ use std::alloc::{AllocError, Global};
 /// An argument or option of a command.
 pub struct Argument {
     /// The name by which its value is found. Help shows it, and a flag has it as its word.
-    name: &'static str,
-    help: &'static str,
-    kind: Kind,
-    need: Need,
+    pub name: &'static str,
+    /// What help says of it.
+    pub help: &'static str,
+    pub kind: Kind,
+    pub need: Need,
 }
 
 /// How an argument is given, and what it takes.
-enum Kind {
+pub enum Kind {
     /// Text, by its place.
     Text,
     /// A flag, which takes nothing.
@@ -32,23 +36,16 @@ enum Kind {
 }
 
 /// When an argument has to be given.
-enum Need {
+pub enum Need {
     Always,
     Never,
     /// Never, and with none of these.
     But(&'static [&'static str]),
-    /// Exactly if this option is, or one of the options with this name for all.
-    With(&'static str),
+    /// Only if this option is, and with none of these.
+    With(&'static str, &'static [&'static str]),
     /// Unless this option is, and with none of these.
     Without(&'static str, &'static [&'static str]),
-    /// One of the options with this name for all, and with none of these.
-    OneOf(&'static str, &'static [&'static str]),
-    /// One of the options with this name for all, exactly if that option is, and with none of these.
-    OneOfWith(&'static str, &'static str, &'static [&'static str]),
 }
-
-/// The name for the options that say which formula: a number of frames, or a certificate.
-pub const FORMULA: &str = "formula";
 
 const FORMATS: &[&str] = &["aag", "aig"];
 
@@ -158,21 +155,21 @@ pub const FRAMES_OR_CERTIFICATE: Argument = Argument {
     name: "K",
     help: "Number of frames, from 1 to 65536",
     kind: Kind::Number("frames"),
-    need: Need::OneOf(FORMULA, &[]),
+    need: Need::Never,
 };
 
 pub const CERTIFICATE: Argument = Argument {
     name: "certificate",
     help: "File of a certificate of the property, in the\nplace of --frames",
     kind: Kind::Named("AIG"),
-    need: Need::OneOf(FORMULA, &["step"]),
+    need: Need::But(&["K", "step"]),
 };
 
 pub const MODEL_CERTIFICATE: Argument = Argument {
     name: "certificate",
     help: "File of the certificate, if MODEL is of the\nformula of cnf --certificate",
     kind: Kind::Named("AIG"),
-    need: Need::OneOfWith(FORMULA, "model", &["step"]),
+    need: Need::With("model", &["K", "step"]),
 };
 
 pub const STRENGTHENING: Argument = Argument {
@@ -214,7 +211,7 @@ pub const MODEL: Argument = Argument {
     name: "model",
     help: "File of a SAT solver's model of the formula of\ncnf, in the place of STIM",
     kind: Kind::Named("MODEL"),
-    need: Need::With(FORMULA),
+    need: Need::Never,
 };
 
 pub const MODEL_STEP: Argument = Argument {
@@ -228,7 +225,7 @@ pub const MODEL_FRAMES: Argument = Argument {
     name: "K",
     help: "Number of frames of the formula",
     kind: Kind::Number("frames"),
-    need: Need::OneOfWith(FORMULA, "model", &[]),
+    need: Need::With("model", &[]),
 };
 
 pub const MAP: Argument = Argument {
@@ -293,7 +290,7 @@ pub const BEGINS_WITH_WITNESS: Argument = Argument {
     name: "witness",
     help: "Begin with the run of a witness instead of a stimulus",
     kind: Kind::Flag,
-    need: Need::With("STIM"),
+    need: Need::With("STIM", &[]),
 };
 
 pub const BEGINNING: Argument = Argument {
@@ -324,11 +321,34 @@ pub const NAMES_FILE: Argument = Argument {
     need: Need::Never,
 };
 
-/// The options with a number: the name by which the value is found, and how messages show the option.
-pub const NUMBERS: [(&str, &str); 3] = [
-    ("K", "--frames <K>"),
-    ("T", "--frame <T>"),
-    ("D", "--depth <D>"),
+/// An option with a number.
+#[derive(Clone, Copy)]
+pub struct NumberOption {
+    /// The name by which the value is found.
+    pub name: &'static str,
+    /// The option's word.
+    pub word: &'static str,
+    /// How messages show the option.
+    pub shown: &'static str,
+}
+
+/// The options with a number.
+pub static NUMBERS: [NumberOption; 3] = [
+    NumberOption {
+        name: "K",
+        word: "--frames",
+        shown: "--frames <K>",
+    },
+    NumberOption {
+        name: "T",
+        word: "--frame",
+        shown: "--frame <T>",
+    },
+    NumberOption {
+        name: "D",
+        word: "--depth",
+        shown: "--depth <D>",
+    },
 ];
 
 /// An option of every command, which may be before the command or after it: to explain a failure.
@@ -347,15 +367,17 @@ pub static PROGRESS: Argument = Argument {
     need: Need::Never,
 };
 
-// A negative number is a value, so that the message says what is wrong with it.
-fn number<'a>(argument: Arg<'a>, word: &'a str) -> Arg<'a> {
+fn number<'a>(argument: Arg<'a>, word: &'a str) -> Arg<'a>
+    ensures rule { rule_of result ≡ with_number word.entry.now (rule_of argument.entry) }
+{
     argument
         .long(word)
         .value_parser(ValueParser::Signed(0, 4_294_967_295))
-        .allow_negative_numbers(true)
 }
 
-fn of_kind<'a>(argument: Arg<'a>, kind: &'static Kind, name: &'static str) -> Arg<'a> {
+fn of_kind<'a>(argument: Arg<'a>, kind: &'static Kind, name: &'static str) -> Arg<'a>
+    ensures rule { rule_of result ≡ with_kind kind.now name.entry.now (rule_of argument.entry) }
+{
     match kind {
         Kind::Text => argument,
         Kind::Flag => argument.long(name).action(ArgAction::SetTrue),
@@ -371,25 +393,24 @@ fn of_kind<'a>(argument: Arg<'a>, kind: &'static Kind, name: &'static str) -> Ar
     }
 }
 
-fn of_need<'a>(argument: Arg<'a>, need: &'static Need) -> Result<Arg<'a>, AllocError> {
+fn of_need<'a>(argument: Arg<'a>, need: &'static Need) -> Result<Arg<'a>, AllocError>
+    ensures rule { IfOk result (λ built. rule_of built ≡ with_need need.now (rule_of argument.entry)) }
+{
     match need {
         Need::Always => Ok(argument.required(true)),
         Need::Never => Ok(argument),
         Need::But(options) => argument.conflicts_with_all(options),
-        Need::With(name) => argument.requires_arg(name),
+        Need::With(option, options) => argument.requires_arg(option)?.conflicts_with_all(options),
         Need::Without(option, options) => argument
             .required_unless_present(option)?
-            .conflicts_with_all(options),
-        Need::OneOf(group, options) => argument.group(group)?.conflicts_with_all(options),
-        Need::OneOfWith(group, option, options) => argument
-            .group(group)?
-            .requires_arg(option)?
             .conflicts_with_all(options),
     }
 }
 
 /// The argument as the parser takes it.
-pub fn built<'a>(alloc: Global, row: &'static Argument) -> Result<Arg<'a>, AllocError> {
+pub fn built<'a>(alloc: Global, row: &'static Argument) -> Result<Arg<'a>, AllocError>
+    ensures rule { IfOk result (λ built. rule_of built ≡ rule_of_argument row.now) }
+{
     let argument = Arg::new(alloc, row.name).help(row.help);
     of_need(of_kind(argument, &row.kind, row.name), &row.need)
 }

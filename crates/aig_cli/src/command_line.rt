@@ -1,12 +1,16 @@
 //! The command line: the parser of its words, and what it found.
-ghost use Rattle.std.specs.Prelude.{◌≡◌, false, option_map, slice_index, IfSome};
+ghost use Rattle.std.specs.Prelude.{◌≡◌, [], IfOk, IfSome, None, false, is_some, true, map, option_map, slice_index};
 ghost use Rattle.clap.specs.Matches.{first_value, found_of};
-ghost use Rattle.aig_cli.specs.Held.{HoldsFlag, HoldsNumber, HoldsNumberOr, HoldsSubcommand, is_plain_number};
+ghost use Rattle.clap.specs.Words.{app_of, is_simple, subcommand_rows_of, with_subcommand};
+ghost use Rattle.aig_cli.specs.Held.{HoldsFlag, HoldsGeneralFlag, HoldsNumber, HoldsNumberOr, HoldsSubcommand, LacksFormula, is_plain_number, names_formula, needs_formula};
+ghost use Rattle.aig_cli.specs.Table.{HoldsWords, IsCommandLine, program_of, shape_of_row, with_rows};
 
-use crate::arguments::{Argument, EXPLAIN, NUMBERS, PROGRESS, built};
-use crate::help;
-use crate::subcommands::{Subcommand, built_subcommand, files, refutations, runs, witnesses};
-use clap::{Arg, ArgMatches, Command};
+use crate::arguments::NUMBERS;
+use crate::help::{self, usages};
+use crate::subcommands::{
+    Subcommand, built_subcommand, files, refutations, runs, with_general, witnesses,
+};
+use clap::{ArgMatches, Command};
 use std::alloc::{AllocError, Global};
 use std::fmt;
 
@@ -14,31 +18,14 @@ use std::fmt;
 /// `tools/build_unproved.sh` replaces this text in a program that was not proved.
 static VERSION: &str = "0.2.0 (proved where rt ci built it)";
 
-/// The place in a help of the options that every command has: after its own options.
-const LAST: usize = 90;
-
-// Global: it may be before the command or after it.
-fn general_flag<'a>(alloc: Global, row: &'static Argument) -> Result<Arg<'a>, AllocError> {
-    let flag = built(alloc, row)?;
-    Ok(flag.global(true).display_order(LAST))
-}
-
-// Alone here, where a failure drops the program's command.
-fn with_general_flag<'a>(
-    program: Command<'a>,
-    alloc: Global,
-    row: &'static Argument,
-) -> Result<Command<'a>, AllocError> {
-    program.arg(general_flag(alloc, row)?)
-}
-
-fn program<'a>(alloc: Global) -> Result<Command<'a>, AllocError> {
+fn program<'a>(alloc: Global) -> Result<Command<'a>, AllocError>
+    ensures app { IfOk result (λ c. app_of c ≡ program_of []) }
+{
     let program = Command::new(alloc, "aig")
         .version(VERSION)
         .override_help(help::ALL)
         .subcommand_required(true);
-    let program = with_general_flag(program, alloc, &EXPLAIN)?;
-    with_general_flag(program, alloc, &PROGRESS)
+    with_general(program, alloc)
 }
 
 // Alone here, where a failure drops the program's command.
@@ -46,7 +33,9 @@ fn with_subcommand<'a>(
     program: Command<'a>,
     alloc: Global,
     row: &'static Subcommand,
-) -> Result<Command<'a>, AllocError> {
+) -> Result<Command<'a>, AllocError>
+    ensures app { IfOk result (λ c. app_of c ≡ with_subcommand (app_of program.entry) (shape_of_row row.now)) }
+{
     program.subcommand(built_subcommand(alloc, row)?)
 }
 
@@ -54,7 +43,9 @@ fn with_subcommands<'a>(
     program: Command<'a>,
     alloc: Global,
     rows: &'static [Subcommand],
-) -> Result<Command<'a>, AllocError> {
+) -> Result<Command<'a>, AllocError>
+    ensures app { IfOk result (λ c. app_of c ≡ with_rows (app_of program.entry) rows.now) }
+{
     let mut program = program;
     for row in rows {
         program = with_subcommand(program, alloc, row)?;
@@ -62,21 +53,26 @@ fn with_subcommands<'a>(
     Ok(program)
 }
 
-fn command_line<'a>(alloc: Global) -> Result<Command<'a>, AllocError> {
+fn command_line<'a>(alloc: Global) -> Result<Command<'a>, AllocError>
+    ensures commands { IfOk result (λ c. IsCommandLine (app_of c) × (is_simple (app_of c) ≡ true)) }
+{
     let program = with_subcommands(program(alloc)?, alloc, files())?;
     let program = with_subcommands(program, alloc, runs())?;
     let program = with_subcommands(program, alloc, witnesses())?;
     with_subcommands(program, alloc, refutations())
 }
 
-/// Parses the arguments; the first is the program's name.
-pub fn matches_of<'a>(alloc: Global, words: &'a [String]) -> Result<ArgMatches<'a>, clap::Error> {
+/// Parses the arguments; the first is the program's name. The matches are those that the commands give these words.
+pub fn matches_of<'a>(alloc: Global, words: &'a [String]) -> Result<ArgMatches<'a>, clap::Error>
+    ensures words { IfOk result (HoldsWords (map (λ word. word.bytes.items) words.now)) }
+{
     command_line(alloc)?.try_get_matches_from(words)
 }
 
 /// Returns the subcommand with its own matches.
 pub fn subcommand_of<'m, 'a>(matches: &'m ArgMatches<'a>) -> Option<(&'a str, &'m ArgMatches<'a>)>
     ensures held { IfSome result (λ sub. HoldsSubcommand matches.now sub.0.now sub.1.now) }
+    ensures none { result ≡ None → subcommand_rows_of matches.now ≡ None }
 {
     matches.subcommand()
 }
@@ -114,6 +110,70 @@ pub fn has_flag(matches: &ArgMatches<'_>, name: &str) -> bool
     matches.get_flag(name)
 }
 
+/// Returns whether a flag of every command was given, before the command or after it.
+pub fn has_general_flag(matches: &ArgMatches<'_>, name: &str) -> bool
+    ensures held { HoldsGeneralFlag matches.now name.now result }
+{
+    match subcommand_of(matches) {
+        Some((_, own)) => has_flag(matches, name) | has_flag(own, name),
+        None => has_flag(matches, name),
+    }
+}
+
+/// One of two options is missing: the number of frames, or a certificate.
+#[derive(Clone, Copy)]
+pub struct MissingFormula {
+    /// The usage of the command.
+    pub usage: &'static str,
+}
+
+impl fmt::Display for MissingFormula {
+    fn fmt<W: fmt::Write>(&self, f: &mut fmt::Formatter<W>) -> fmt::Result {
+        write!(
+            f,
+            "the following required arguments were not provided:\n  <--frames <K>|--certificate <AIG>>\n\nUsage: {}",
+            self.usage
+        )
+    }
+}
+
+/// Returns what is missing, if the arguments name no formula and need one: `cnf`, `refute` and a model do.
+pub fn missing_formula(matches: &ArgMatches<'_>) -> Option<MissingFormula>
+    ensures lacks { LacksFormula matches.now (is_some result) }
+{
+    let (name, own) = subcommand_of(matches)?;
+    if needs_formula(name, own) && !names_formula(own) {
+        Some(MissingFormula {
+            usage: usage_of(name),
+        })
+    } else {
+        None
+    }
+}
+
+/// Whether a command is about a formula.
+fn needs_formula(name: &str, own: &ArgMatches<'_>) -> bool
+    ensures { result ≡ needs_formula name.now own.now }
+{
+    name == "cnf" || name == "refute" || (name == "witness" && text_of(own, "model").is_some())
+}
+
+/// Whether the arguments of a command name a formula, by its number of frames or by a certificate.
+fn names_formula(own: &ArgMatches<'_>) -> bool
+    ensures { result ≡ names_formula own.now }
+{
+    text_of(own, "K").is_some() || text_of(own, "certificate").is_some()
+}
+
+/// Returns the usage of a command that needs a formula.
+fn usage_of(name: &str) -> &'static str {
+    match name {
+        "cnf" => usages::CNF,
+        "refute" => usages::REFUTE,
+        _ => usages::WITNESS,
+    }
+}
+
 /// A number that has a sign, or a zero before another digit. The parser takes it, but no file and no script may have
 /// it.
 #[derive(Clone, Copy)]
@@ -138,11 +198,50 @@ impl fmt::Display for OddNumber<'_> {
 pub fn odd_number<'a>(matches: &ArgMatches<'a>) -> Option<OddNumber<'a>>
     ensures odd { IfSome result (λ number. is_plain_number number.text.now ≡ false) }
 {
-    for (name, option) in NUMBERS {
-        for text in texts_of(matches, name).unwrap_or(&[]) {
+    for option in &NUMBERS {
+        for text in texts_of(matches, option.name).unwrap_or(&[]) {
             if !is_plain_number(text) {
+                return Some(OddNumber {
+                    option: option.shown,
+                    text,
+                });
+            }
+        }
+    }
+    None
+}
+
+/// Returns the first number that has a minus sign and stands in a word of its own, after its option. The parser takes
+/// that word for an option.
+pub fn negative_number<'a>(words: &'a [String]) -> Option<OddNumber<'a>>
+    ensures odd { IfSome result (λ number. is_plain_number number.text.now ≡ false) }
+{
+    for (word, text) in words.iter().zip(words.iter().skip(1)) {
+        let text = text.as_str();
+        if let Some(option) = numbered(word.as_str()) {
+            if is_negative(text) {
                 return Some(OddNumber { option, text });
             }
+        }
+    }
+    None
+}
+
+/// Whether a text is a minus sign and digits.
+fn is_negative(text: &str) -> bool
+    ensures odd { result ≡ true → is_plain_number text.now ≡ false }
+{
+    let bytes = text.as_bytes();
+    first_byte(text) == b'-'
+        && bytes.len() > 1
+        && bytes[1..].iter().all(|byte| byte.is_ascii_digit())
+}
+
+/// Returns the option with a number that a word is, as messages show it.
+fn numbered(word: &str) -> Option<&'static str> {
+    for option in &NUMBERS {
+        if option.word == word {
+            return Some(option.shown);
         }
     }
     None

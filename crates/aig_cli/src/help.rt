@@ -362,3 +362,13 @@ it, no run of CIRCUIT reaches property P.
 Example: aig strengthen --to aag --certificate examples/ring.cert.aag \\
              examples/ring.aag
 See also: man aig, man 5 aig-formats";
+
+/// The usage of the commands that need one of two options: the parser knows no such need, so it would leave it out.
+pub mod usages {
+    pub const CNF: &str = "aig cnf [OPTIONS] <--frames <K>|--certificate <AIG>> <CIRCUIT>";
+
+    pub const REFUTE: &str =
+        "aig refute [OPTIONS] <--frames <K>|--certificate <AIG>> <CIRCUIT> <PROOF>";
+
+    pub const WITNESS: &str = "aig witness [OPTIONS] <CIRCUIT> [STIM]";
+}

@@ -1,20 +1,28 @@
 //! The commands, a row each, with their arguments.
+ghost use Rattle.std.specs.Prelude.{◌≡◌, IfOk, codes, map};
+ghost use Rattle.clap.specs.Simple.{new_app, shape_of};
+ghost use Rattle.clap.specs.Words.{app_of, rule_of, with_rule};
+ghost use Rattle.aig_cli.specs.Table.{flag, on_files, on_proofs, on_runs, on_witnesses, plain};
+ghost use Rattle.aig_cli.specs.Table.{rule_of_argument, shape_of_row, with_rules};
 
-use crate::arguments::{self, Argument, built};
-use crate::help;
-use clap::{ArgGroup, Command};
+use crate::arguments::{self, Argument, EXPLAIN, PROGRESS, built};
+use crate::help::{self, usages};
+use clap::{Arg, Command};
 use std::alloc::{AllocError, Global};
 
 /// A command of the program.
 pub struct Subcommand {
-    name: &'static str,
-    about: &'static str,
+    pub name: &'static str,
+    pub about: &'static str,
     /// What follows the options in its help.
-    help: &'static str,
-    /// The name of options of which one has to be given.
-    choice: Option<&'static str>,
-    arguments: &'static [Argument],
+    pub help: &'static str,
+    /// Its usage, where one of two options is needed: the parser knows no such need, so it would leave it out.
+    pub usage: Option<&'static str>,
+    pub arguments: &'static [Argument],
 }
+
+/// The place in a help of the options that every command has: after its own options.
+const LAST: usize = 90;
 
 // The commands in the order of the help. A check takes a table as one term, and stops at a larger one, so those on
 // verdicts are in two.
@@ -23,21 +31,21 @@ static FILES: [Subcommand; 4] = [
         name: "toaig",
         about: "Convert a circuit between the text and the binary format",
         help: help::TOAIG,
-        choice: None,
+        usage: None,
         arguments: &[arguments::FORMAT, arguments::CIRCUIT],
     },
     Subcommand {
         name: "info",
         about: "Print facts about a circuit, one per line",
         help: help::INFO,
-        choice: None,
+        usage: None,
         arguments: &[arguments::NAMES, arguments::CIRCUIT],
     },
     Subcommand {
         name: "select",
         about: "Write a circuit with some of its properties",
         help: help::SELECT,
-        choice: None,
+        usage: None,
         arguments: &[
             arguments::FORMAT,
             arguments::FROM,
@@ -51,7 +59,7 @@ static FILES: [Subcommand; 4] = [
         name: "unroll",
         about: "Unroll a circuit for K frames into a circuit without latches",
         help: help::UNROLL,
-        choice: None,
+        usage: None,
         arguments: &[
             arguments::FRAMES,
             arguments::FORMAT,
@@ -66,21 +74,21 @@ static RUNS: [Subcommand; 4] = [
         name: "sim",
         about: "Simulate a circuit and print one line per frame",
         help: help::SIM,
-        choice: None,
+        usage: None,
         arguments: &[arguments::CIRCUIT, arguments::STIMULUS],
     },
     Subcommand {
         name: "wave",
         about: "Simulate a circuit and print a dump for waveform viewers",
         help: help::WAVE,
-        choice: None,
+        usage: None,
         arguments: &[arguments::IS_WITNESS, arguments::CIRCUIT, arguments::RUN],
     },
     Subcommand {
         name: "bench",
         about: "Run a script of edits and queries on a simulation",
         help: help::BENCH,
-        choice: None,
+        usage: None,
         arguments: &[
             arguments::CIRCUIT_OUT,
             arguments::STIMULUS_OUT,
@@ -93,7 +101,7 @@ static RUNS: [Subcommand; 4] = [
         name: "shell",
         about: "Edit and query a simulation at a prompt, with names",
         help: help::SHELL,
-        choice: None,
+        usage: None,
         arguments: &[
             arguments::BEGINS_WITH_WITNESS,
             arguments::CIRCUIT,
@@ -107,7 +115,7 @@ static WITNESSES: [Subcommand; 4] = [
         name: "check",
         about: "Check that a witness reaches a bad state, and print the verdict",
         help: help::CHECK,
-        choice: None,
+        usage: None,
         arguments: &[
             arguments::TRACE,
             arguments::CHECKED,
@@ -119,7 +127,7 @@ static WITNESSES: [Subcommand; 4] = [
         name: "witness",
         about: "Write the witness that a run reaches a bad state",
         help: help::WITNESS,
-        choice: None,
+        usage: None,
         arguments: &[
             arguments::MODEL,
             arguments::MODEL_FRAMES,
@@ -134,14 +142,14 @@ static WITNESSES: [Subcommand; 4] = [
         name: "reduce",
         about: "Write a witness with x at each value that it does not need",
         help: help::REDUCE,
-        choice: None,
+        usage: None,
         arguments: &[arguments::CIRCUIT, arguments::WITNESS],
     },
     Subcommand {
         name: "why",
         about: "Explain a value of a run by inputs and latches, frame by frame",
         help: help::WHY,
-        choice: None,
+        usage: None,
         arguments: &[
             arguments::OF,
             arguments::FRAME,
@@ -158,7 +166,7 @@ static REFUTATIONS: [Subcommand; 3] = [
         name: "cnf",
         about: "Print a formula for SAT solvers: a bad state within K frames",
         help: help::CNF,
-        choice: Some(arguments::FORMULA),
+        usage: Some(usages::CNF),
         arguments: &[
             arguments::FRAMES_OR_CERTIFICATE,
             arguments::PROPERTY,
@@ -172,7 +180,7 @@ static REFUTATIONS: [Subcommand; 3] = [
         name: "refute",
         about: "Check a SAT solver's proof that no run reaches a bad state",
         help: help::REFUTE,
-        choice: Some(arguments::FORMULA),
+        usage: Some(usages::REFUTE),
         arguments: &[
             arguments::FRAMES_OR_CERTIFICATE,
             arguments::PROPERTY,
@@ -187,7 +195,7 @@ static REFUTATIONS: [Subcommand; 3] = [
         name: "strengthen",
         about: "Write a circuit that is strengthened by a certificate",
         help: help::STRENGTHEN,
-        choice: None,
+        usage: None,
         arguments: &[
             arguments::FORMAT,
             arguments::STRENGTHENING,
@@ -198,22 +206,30 @@ static REFUTATIONS: [Subcommand; 3] = [
 ];
 
 /// The commands on files of circuits.
-pub fn files() -> &'static [Subcommand] {
+pub fn files() -> &'static [Subcommand]
+    ensures rows { map plain (map shape_of_row result.now) ≡ on_files }
+{
     FILES.as_slice()
 }
 
 /// Those on runs.
-pub fn runs() -> &'static [Subcommand] {
+pub fn runs() -> &'static [Subcommand]
+    ensures rows { map plain (map shape_of_row result.now) ≡ on_runs }
+{
     RUNS.as_slice()
 }
 
 /// Those on the verdict that a run reaches a bad state.
-pub fn witnesses() -> &'static [Subcommand] {
+pub fn witnesses() -> &'static [Subcommand]
+    ensures rows { map plain (map shape_of_row result.now) ≡ on_witnesses }
+{
     WITNESSES.as_slice()
 }
 
 /// Those on the verdict that none does.
-pub fn refutations() -> &'static [Subcommand] {
+pub fn refutations() -> &'static [Subcommand]
+    ensures rows { map plain (map shape_of_row result.now) ≡ on_proofs }
+{
     REFUTATIONS.as_slice()
 }
 
@@ -221,31 +237,73 @@ fn with_argument<'a>(
     command: Command<'a>,
     alloc: Global,
     row: &'static Argument,
-) -> Result<Command<'a>, AllocError> {
+) -> Result<Command<'a>, AllocError>
+    ensures app { IfOk result (λ c. app_of c ≡ with_rule (app_of command.entry) (rule_of_argument row.now)) }
+{
     command.arg(built(alloc, row)?)
 }
 
-fn with_choice<'a>(
+fn general<'a>(alloc: Global, row: &'static Argument) -> Result<Arg<'a>, AllocError>
+    ensures rule { IfOk result (λ built. rule_of built ≡ rule_of_argument row.now) }
+{
+    Ok(built(alloc, row)?.display_order(LAST))
+}
+
+// Alone here, where a failure drops the command.
+fn with_general_argument<'a>(
     command: Command<'a>,
     alloc: Global,
-    name: &'static str,
-) -> Result<Command<'a>, AllocError> {
-    command.group(ArgGroup::new(alloc, name).required(true))
+    row: &'static Argument,
+) -> Result<Command<'a>, AllocError>
+    ensures app { IfOk result (λ c. app_of c ≡ with_rule (app_of command.entry) (rule_of_argument row.now)) }
+{
+    command.arg(general(alloc, row)?)
+}
+
+/// The command with the options of every command.
+pub fn with_general<'a>(command: Command<'a>, alloc: Global) -> Result<Command<'a>, AllocError>
+    ensures app { IfOk result (λ c. app_of c
+        ≡ with_rule (with_rule (app_of command.entry) (flag (codes "explain"))) (flag (codes "progress"))) }
+{
+    let command = with_general_argument(command, alloc, &EXPLAIN)?;
+    with_general_argument(command, alloc, &PROGRESS)
+}
+
+fn bare<'a>(alloc: Global, row: &'static Subcommand) -> Command<'a>
+    ensures app { app_of result ≡ new_app row.now.name.now }
+{
+    let command = Command::new(alloc, row.name)
+        .about(row.about)
+        .after_help(row.help);
+    match row.usage {
+        Some(usage) => command.override_usage(usage),
+        None => command,
+    }
+}
+
+fn with_arguments<'a>(
+    command: Command<'a>,
+    alloc: Global,
+    rows: &'static [Argument],
+) -> Result<Command<'a>, AllocError>
+    ensures app { IfOk result (λ c. app_of c ≡ with_rules (app_of command.entry) (map rule_of_argument rows.now)) }
+{
+    let mut command = command;
+    for row in rows {
+        command = with_argument(command, alloc, row)?;
+    }
+    Ok(command)
 }
 
 /// The command as the parser takes it.
 pub fn built_subcommand<'a>(
     alloc: Global,
     row: &'static Subcommand,
-) -> Result<Command<'a>, AllocError> {
-    let mut command = Command::new(alloc, row.name)
-        .about(row.about)
-        .after_help(row.help);
-    if let Some(name) = row.choice {
-        command = with_choice(command, alloc, name)?;
-    }
-    for argument in row.arguments {
-        command = with_argument(command, alloc, argument)?;
-    }
-    Ok(command)
+) -> Result<Command<'a>, AllocError>
+    ensures shape { IfOk result (λ c. shape_of c ≡ shape_of_row row.now) }
+{
+    with_general(
+        with_arguments(bare(alloc, row), alloc, row.arguments)?,
+        alloc,
+    )
 }
