@@ -1,6 +1,6 @@
 -- How a run ends, from how its parts do.
 use Rattle.std.proofs.Common.{◌≡◌, ℕ, List, Result, Ok, Err, refl, sym, subst}
-use Rattle.std.specs.Prelude.{Option, IfErr}
+use Rattle.std.specs.Prelude.{Option, IfErr, IfOk}
 use Rattle.std.specs.Result.{IsErrAnd}
 use Rattle.aig_files.specs.declared.exit.Exit.{Exit}
 use Rattle.aig.specs.Program.{IsUnparsed, Runs, unparsed}
@@ -9,8 +9,12 @@ use Rattle.aig.specs.Program.{IsUnparsed, Runs, unparsed}
 pub exit_of : {T : Type 0} (found : Result T Exit) (exit : Exit) (P : Exit → Type 0) → Err exit ≡ found → IfErr found P → P exit
 exit_of found exit P is fails = subst (λ r. IfErr r P) (sym is) fails
 
+-- what was found has what all that is found has
+pub value_of : {T : Type 0} (found : Result T Exit) (value : T) (P : T → Type 0) → Ok value ≡ found → IfOk found P → P value
+value_of found value P is holds = subst (λ r. IfOk r P) (sym is) holds
+
 -- a run whose arguments are not parsed ends with the exit that says so
-pub ends_unparsed : {F : Type 0} (left : F → Option (List ℕ)) (r : Result (Unit {0}) Exit) (exit : Exit) → IsUnparsed exit
-    → IsErrAnd r (λ e. e ≡ exit) → Runs left r
-ends_unparsed left (Ok done) exit why is = absurd is
-ends_unparsed left (Err e) exit why is = unparsed e refl (subst IsUnparsed (sym is) why)
+pub ends_unparsed : {F : Type 0} (left : F → Option (List ℕ)) (words : List (List ℕ)) (r : Result (Unit {0}) Exit)
+    (exit : Exit) → IsUnparsed exit → IsErrAnd r (λ e. e ≡ exit) → Runs left words r
+ends_unparsed left words (Ok done) exit why is = absurd is
+ends_unparsed left words (Err e) exit why is = unparsed e refl (subst IsUnparsed (sym is) why)

@@ -1,10 +1,11 @@
 -- What the end of a run of the program means.
--- Example: where the matches are those of `aig refute --frames 20 CIRCUIT PROOF`, status 0 says that `Refute` ended
--- well, and that its K is 20.
+-- Example: where the words are `aig refute --frames 20 CIRCUIT PROOF`, status 0 says that `Refute` ended well, and that
+-- its K is 20.
 use Rattle.std.specs.Prelude.{◌≡◌, ℕ, List, Option, Result, Ok, Err, IfOk, ⊤}
 use Rattle.clap.specs.declared.parser.matches.ArgMatches.{ArgMatches}
 use Rattle.aig_command.specs.declared.run_fault.RunFault.TheVariants as run_faults
 use Rattle.aig_cli.specs.Held.{HoldsSubcommand}
+use Rattle.aig_cli.specs.Table.{HoldsWords}
 use Rattle.aig_files.specs.ExitStatus.{status_of_exit}
 use Rattle.aig_files.specs.Source.{source_remaining}
 use Rattle.aig_files.specs.declared.exit.Exit.{Exit}
@@ -40,10 +41,11 @@ IsUnparsed (exits.Run run_faults.Output) = ⊤
 IsUnparsed (exits.Run run_faults.Memory) = ⊤
 IsUnparsed _ = ⊥
 
--- A run of the program ends as its arguments mean, or they were not parsed.
-pub data Runs {F : Type 0} (left : F → Option (List ℕ)) (result : Result (Unit {0}) Exit) : Type 0 where
-  parsed : (matches : ArgMatches) → RunsAsMeant left matches result → Runs left result
-  unparsed : (exit : Exit) → result ≡ Err exit → IsUnparsed exit → Runs left result
+-- A run of the program ends as the words of its arguments mean, or they were not parsed.
+pub data Runs {F : Type 0} (left : F → Option (List ℕ)) (words : List (List ℕ)) (result : Result (Unit {0}) Exit) : Type 0
+  where
+    parsed : (matches : ArgMatches) → HoldsWords words matches → RunsAsMeant left matches result → Runs left words result
+    unparsed : (exit : Exit) → result ≡ Err exit → IsUnparsed exit → Runs left words result
 
 -- the exit status: 0 for a good end
 abbrev pub status_of_end : Result (Unit {0}) Exit → ℕ

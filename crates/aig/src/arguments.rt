@@ -1,5 +1,6 @@
 //! The arguments of the command line.
-ghost use Rattle.std.specs.Prelude.{IfErr};
+ghost use Rattle.std.specs.Prelude.{IfErr, IfOk, map};
+ghost use Rattle.aig_cli.specs.Table.{HoldsWords};
 ghost use Rattle.aig.specs.Program.{IsUnparsed};
 
 use aig_base::Memory;
@@ -10,8 +11,7 @@ use clap::ArgMatches;
 use clap::error::ErrorKind;
 use std::alloc::Global;
 use std::env::{self, Env};
-use std::fmt;
-use std::io;
+use std::{fmt, io};
 
 /// Returns all arguments, the program's name first.
 pub fn all<R: Env + AllocGlobal>(rt: &R) -> Result<Vec<String>, Exit>
@@ -34,6 +34,7 @@ pub fn parsed<'a, R: AllocGlobal + Eprint>(
     rt: &R,
     words: &'a [String],
 ) -> Result<ArgMatches<'a>, Exit>
+    ensures words { IfOk result (HoldsWords (map (λ word. word.bytes.items) words.now)) }
     ensures fails { IfErr result IsUnparsed }
 {
     match matches_of(rt.alloc(), words) {

@@ -1,7 +1,7 @@
 //! The program `aig`: converts, simulates and unrolls and-inverter graphs, checks witnesses and runs scripts.
 #![tactic(auto)]
 
-ghost use Rattle.std.specs.Prelude.{◌≡◌, IfOk, Ok};
+ghost use Rattle.std.specs.Prelude.{◌≡◌, ℕ, List, IfOk, Ok, map};
 ghost use Rattle.aig.specs.Program.{Chooses, EndsAsOpened, Runs, RunsAsMeant, status_of_end};
 
 mod arguments;
@@ -62,7 +62,7 @@ fn run<R: Env + Files + AllocGlobal + Print + Eprint + Clock + Input>(
 ) -> Result<(), Exit>
 where
     R::File: AsFd,
-    ensures ends { Runs R.File.remaining result }
+    ensures ends { (words : List (List ℕ)) × Runs R.File.remaining words result }
 {
     let _reserved = reported(rt, reserve(rt))?;
     let words = reported(rt, arguments::all(rt))?;
@@ -76,7 +76,7 @@ fn run_words<R: Env + Files + AllocGlobal + Print + Eprint + Clock + Input>(
 ) -> Result<(), Exit>
 where
     R::File: AsFd,
-    ensures ends { Runs R.File.remaining result }
+    ensures ends { Runs R.File.remaining (map (λ word. word.bytes.items) words.now) result }
 {
     let matches = reported(rt, parsed(rt, words))?;
     let done = reported(rt, run_command(rt, terminals, &matches));

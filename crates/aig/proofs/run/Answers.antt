@@ -1,4 +1,4 @@
-use Rattle.std.proofs.Common.{◌≡◌, ◌⊎◌, inl, inr, sym, subst}
+use Rattle.std.proofs.Common.{◌≡◌, ◌⊎◌, [], inl, inr, sym, subst}
 use Rattle.aig_files.specs.declared.exit.Exit.{Exit}
 use Rattle.aig_files.specs.declared.exit.Exit.TheVariants as exits
 use Rattle.aig_command.specs.declared.run_fault.RunFault.TheVariants as run_faults
@@ -16,11 +16,13 @@ returns-in_err-_reserved g c =
     let r = c.from_residual in
     let exit = c.in_err-_reserved.field-0.0 in
     record {
-      ends =
-          ends_unparsed g.R.File.Read.remaining r.result exit
-          (unreserved exit (exit_of c.reserve.result exit
-          (λ exit. (exit ≡ exits.Run run_faults.Output) ⊎ (exit ≡ exits.Run run_faults.Memory)) c.in_err-_reserved.ensures
-          c.reserve.ensures.fails)) r.ensures.1;
+      ends = (
+        [],
+        ends_unparsed g.R.File.Read.remaining [] r.result exit
+            (unreserved exit (exit_of c.reserve.result exit
+            (λ exit. (exit ≡ exits.Run run_faults.Output) ⊎ (exit ≡ exits.Run run_faults.Memory)) c.in_err-_reserved.ensures
+            c.reserve.ensures.fails)) r.ensures.1,
+      );
     }
 
 pub returns-in_err-words : goal.returns-in_err-words
@@ -28,7 +30,12 @@ returns-in_err-words g c =
     let r = c.from_residual-in_err-words in
     let exit = c.in_err-words.field-0.0 in
     record {
-      ends =
-          ends_unparsed g.R.File.Read.remaining r.result exit
-          (exit_of c.all.result exit IsUnparsed c.in_err-words.ensures c.all.ensures.fails) r.ensures.1;
+      ends = (
+        [],
+        ends_unparsed g.R.File.Read.remaining [] r.result exit
+            (exit_of c.all.result exit IsUnparsed c.in_err-words.ensures c.all.ensures.fails) r.ensures.1,
+      );
     }
+
+pub returns : goal.returns
+returns g c = record { ends = (_, c.run_words.ensures.ends) }

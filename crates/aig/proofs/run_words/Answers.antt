@@ -1,6 +1,6 @@
 use Rattle.std.proofs.Common.{sym, subst}
 use Rattle.aig.specs.Program.{IsUnparsed, RunsAsMeant, parsed}
-use Rattle.aig.proofs.Running.{ends_unparsed, exit_of}
+use Rattle.aig.proofs.Running.{ends_unparsed, exit_of, value_of}
 use Rattle.aig.proofs.run_words.Goals as goal
 
 pub returns-in_err-matches : goal.returns-in_err-matches
@@ -8,7 +8,7 @@ returns-in_err-matches g c =
     let r = c.from_residual in
     record {
       ends =
-          ends_unparsed g.R.File.Read.remaining r.result c.in_err-matches.field-0.0
+          ends_unparsed g.R.File.Read.remaining _ r.result c.in_err-matches.field-0.0
           (exit_of c.parsed.result c.in_err-matches.field-0.0 IsUnparsed c.in_err-matches.ensures c.parsed.ensures.fails) r.ensures.1;
     }
 
@@ -17,6 +17,7 @@ returns g c =
     record {
       ends =
           parsed c.in_ok-matches.matches
+          (value_of c.parsed.result c.in_ok-matches.matches _ c.in_ok-matches.ensures c.parsed.ensures.words)
           (subst (RunsAsMeant g.R.File.Read.remaining c.in_ok-matches.matches) (sym c.reported-done.ensures)
           c.run_command.ensures.ends);
     }
