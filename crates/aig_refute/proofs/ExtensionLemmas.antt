@@ -30,7 +30,7 @@ use Rattle.aig_refute.specs.Unreachable.{IsUnreachable}
 
 -- ---- literals
 
-negated_twice : (l : ℕ) → negation (negation l) ≡ l
+pub negated_twice : (l : ℕ) → negation (negation l) ≡ l
 negated_twice l = elim (signs l) [
   | inl even ↦
       let is : negation l ≡ l + 1 = rw even refl in
@@ -45,7 +45,7 @@ negated_twice l = elim (signs l) [
       ap negation is ∙ back ∙ omega (arith, some)
 ]
 
-zero_and : (w : Tern) → kleene_and w Zero ≡ Zero
+pub zero_and : (w : Tern) → kleene_and w Zero ≡ Zero
 zero_and Zero = refl
 zero_and One = refl
 zero_and X = refl
