@@ -5,8 +5,9 @@ use Rattle.std.specs.Prelude.{◌==◌, ◌&&◌, option_map}
 use Rattle.std.specs.Str.Parse.{digits_value}
 use Rattle.std.proofs.lemmas.Bool.{and_left, and_right, ne_eqb}
 use Rattle.std.proofs.lemmas.List.Elements.{All-head, All-tail}
+use Rattle.std.proofs.lemmas.List.{take_rest}
 use Rattle.aig_names.specs.Vectors.{is_index_end, bit_of}
-use Rattle.aig_names.proofs.NextNames.{no_end, all_left, parted}
+use Rattle.aig_names.proofs.NextNames.{no_end, parted}
 
 -- a byte before the bit
 abbrev after : ℕ → Option (List ℕ × ℕ) → Option (List ℕ × ℕ)
@@ -42,7 +43,7 @@ pub bit_at : (name rest digits : List ℕ) (k place : ℕ) → place ≡ k + 1 �
 bit_at name rest digits k place p le e r h d =
     let lt : k < length name = omega arith in
     let tail : List ℕ = drop (k + 1) name in
-    let same : rest ≡ tail = r ∙ all_left name place ∙ ap (λ (i : ℕ). drop i name) p in
+    let same : rest ≡ tail = r ∙ take_rest name place ∙ ap (λ (i : ℕ). drop i name) p in
     let number : digits_value 10 digits ≡ digits_value 10 (take (length tail - 1) tail) = ap (digits_value 10) (d ∙ ap (λ (t : List ℕ). take (length t - 1) t) same) in
     let front : take (place - 1) name ≡ take k name = ap (λ (i : ℕ). take i name) (omega (arith, p)) in
     ap bit_of (parted name k lt e) ∙ bit_some (take k name) tail (rw same at h)
@@ -52,6 +53,6 @@ pub bit_not_at : (name rest : List ℕ) (k place : ℕ) → place ≡ k + 1 → 
     → All (λ b. b ≢ 91) (drop place name) → rest ≡ take (length name - place) (drop place name) → is_index_end rest ≡ false
     → bit_of name ≡ None
 bit_not_at name rest k place p le e none r h =
-    let same : rest ≡ drop (k + 1) name = r ∙ all_left name place ∙ ap (λ (i : ℕ). drop i name) p in
+    let same : rest ≡ drop (k + 1) name = r ∙ take_rest name place ∙ ap (λ (i : ℕ). drop i name) p in
     ap bit_of (parted name k (omega arith) e)
     ∙ bit_not (take k name) (drop (k + 1) name) (rw p at none) (rw same at h)

@@ -1,6 +1,6 @@
 -- Columns of names: the first of each entry, and what is left.
 use Rattle.std.proofs.Common.{◌≡◌, ℕ, ◌≤◌, List, [], ◌∷◌, ◌++◌, length, map, drop, refl, sym, ap, ◌∙◌, append_assoc}
-use Rattle.std.proofs.Common.{append-nil, arith}
+use Rattle.std.proofs.Common.{append-nil}
 use Rattle.std.proofs.lemmas.List.{drop_all}
 use Rattle.std.specs.List.{flat_map}
 use Rattle.aig_names.specs.Signals.{columns, put_in_front}
@@ -86,10 +86,6 @@ turned_all es old all none h =
 pub map_empty : {A B : Type 0} (f : A → B) (xs : List A) → map f xs ≡ [] → xs ≡ []
 map_empty f [] h = refl
 map_empty f (x ∷ xs) h = absurd (cc)
-
-pub no_items : {A : Type 0} (xs : List A) → length xs ≡ 0 → xs ≡ []
-no_items [] h = refl
-no_items (x ∷ xs) h = absurd (omega arith)
 
 pub columns_none : (es : List (ℕ × List (List ℕ))) → es ≡ [] → columns es ≡ []
 columns_none es h = ap columns h ∙ no_column

@@ -6,8 +6,8 @@ use Rattle.std.specs.Str.{all_ascii_digits}
 use Rattle.std.specs.Str.Parse.{digits_value}
 use Rattle.std.proofs.Math.Seq.{get_or-append_seam}
 use Rattle.std.proofs.lemmas.Bool.{and_parts, and_left, and_right, eqb-true, ne_eqb, false_from_ne_true}
-use Rattle.std.proofs.lemmas.List.{take-append-drop, drop_more, take_more, take_all, length-take, length-drop}
-use Rattle.std.proofs.lemmas.List.{get_or-take}
+use Rattle.std.proofs.lemmas.List.{take-append-drop, drop_more, take_more, length-take}
+use Rattle.std.proofs.lemmas.List.{get_or-take, take_rest}
 use Rattle.std.proofs.lemmas.List.Elements.{All-head, All-tail}
 use Rattle.aig_names.specs.Vectors.{is_index_end, next_name, put_before}
 use Rattle.aig_names.proofs.Indices.{index_parts, digit_is}
@@ -72,9 +72,6 @@ unfolding next_name
 next_not [] tail none h = rw h (ap (put_before 91) (next_none tail none))
 next_not (b ∷ x) tail none h = next_after b x tail ∙ ap (put_before b) (next_not x tail none h)
 
-pub all_left : (name : List ℕ) (place : ℕ) → take (length name - place) (drop place name) ≡ drop place name
-all_left name place = take_all (length name - place) (drop place name) (omega (arith, length-drop place name))
-
 pub parted : (name : List ℕ) (k : ℕ) → k < length name → get_or name k 0 ≡ 91 → name ≡ take k name ++ 91 ∷ drop (k + 1) name
 parted name k lt e =
     sym (take-append-drop k name) ∙ ap (λ (t : List ℕ). take k name ++ t) (drop_more name k 0 lt)
@@ -88,7 +85,7 @@ next_at name rest digits k place p le e r h d =
     let lt : k < length name = omega arith in
     let tail : List ℕ = drop (k + 1) name in
     let n : List ℕ = decimal (digits_value 10 (take (length tail - 1) tail) + 1) in
-    let same : rest ≡ tail = r ∙ all_left name place ∙ ap (λ (i : ℕ). drop i name) p in
+    let same : rest ≡ tail = r ∙ take_rest name place ∙ ap (λ (i : ℕ). drop i name) p in
     let number : digits_value 10 digits ≡ digits_value 10 (take (length tail - 1) tail) = ap (digits_value 10) (d ∙ ap (λ (t : List ℕ). take (length t - 1) t) same) in
     let front : take place name ≡ take k name ++ 91 ∷ [] =
     ap (λ (i : ℕ). take i name) p ∙ take_more name k 0 lt ∙ ap (λ (b : ℕ). take k name ++ b ∷ []) e in
@@ -102,6 +99,6 @@ pub next_not_at : (name rest : List ℕ) (k place : ℕ) → place ≡ k + 1 →
     → All (λ b. b ≢ 91) (drop place name) → rest ≡ take (length name - place) (drop place name) → is_index_end rest ≡ false
     → next_name name ≡ []
 next_not_at name rest k place p le e none r h =
-    let same : rest ≡ drop (k + 1) name = r ∙ all_left name place ∙ ap (λ (i : ℕ). drop i name) p in
+    let same : rest ≡ drop (k + 1) name = r ∙ take_rest name place ∙ ap (λ (i : ℕ). drop i name) p in
     ap next_name (parted name k (omega arith) e)
     ∙ next_not (take k name) (drop (k + 1) name) (rw p at none) (rw same at h)

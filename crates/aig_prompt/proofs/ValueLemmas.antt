@@ -11,7 +11,7 @@ use Rattle.std.proofs.lemmas.List.{drop-append-le}
 use Rattle.std.proofs.Math.Seq.{take-append_seam}
 use Rattle.std.proofs.lemmas.List.Elements.{All-append, All-cons, All-take}
 use Rattle.std.proofs.lemmas.List.Sums.{fold-append}
-use Rattle.std.proofs.lemmas.Option.{slice_get_within, get_or_from_slice_get}
+use Rattle.std.proofs.lemmas.Option.{slice_get_within, get_or_from_slice_get, none-some}
 use Rattle.std.proofs.lemmas.Grind.{flat_map-append, common_steps}
 use Rattle.std.proofs.Math.Nat.{mod-add-div, mod-lt, mul_assoc, pow-succ'}
 use Rattle.aig_parts.specs.declared.ternary.Tern.{Tern}
@@ -19,7 +19,6 @@ use Rattle.aig_parts.specs.declared.ternary.Tern.TheVariants.{Zero, One, X}
 use Rattle.aig_prompt.specs.Value.{bit_value, digit_bits, digit_number, digit_of, digits_bits, letter_value}
 use Rattle.aig_prompt.specs.Value.{number_bits, numeral, IsDigit, IsFitted, IsHexadecimal, IsNumeral, Reads, ReadsBase}
 use Rattle.aig_prompt.specs.Value.{ReadsSized}
-use Rattle.std.specs.Option.{is_some}
 use Rattle.aig_prompt.specs.declared.value.Bits.{Bits}
 use Rattle.aig_prompt.specs.declared.value.ValueFault.{ValueFault}
 use Rattle.aig_prompt.specs.declared.value.ValueFault.TheVariants as faults
@@ -139,14 +138,11 @@ sized_ends items size rest width (Err e) P f is size_is h = h
 
 -- ---- what is refused
 
-none_some : {X : Type 0} (x : X) → None ≡ Some x → ⊥
-none_some x e = true≢false (sym (ap is_some e))
-
 pub not_digit : (base : ℕ) (digits : List ℕ) (k : ℕ) → k < length digits → None ≡ digit_of (get_or digits k 0)
     → All (IsDigit base) digits → ⊥
 not_digit base digits k lt none all =
     let h : IsDigit base (get_or digits k 0) = all k 0 lt in
-    none_some h.0 (none ∙ h.1)
+    none-some h.0 (none ∙ h.1)
 
 pub not_letters : (letters : List ℕ) (values : List Tern) (k : ℕ) → k < length letters
     → None ≡ letter_value (get_or letters k 0) → map letter_value letters ≡ map Some values → ⊥
@@ -154,7 +150,7 @@ not_letters [] values k lt none h = absurd (omega (arith, lt))
 not_letters (b ∷ letters) [] k lt none h = absurd (omega (arith, ap length h))
 not_letters (b ∷ letters) (w ∷ values) zero lt none h =
     let first : letter_value b ≡ Some w = ap (λ os. get_or os 0 (Some w)) h in
-    none_some w (none ∙ first)
+    none-some w (none ∙ first)
 not_letters (b ∷ letters) (w ∷ values) (suc k) lt none h =
     not_letters letters values k (omega (arith, lt)) none (ap (drop 1) h)
 

@@ -1,10 +1,11 @@
 use Rattle.std.proofs.Common.{◌≡◌, ◌++◌, [], map, vec_len, sym, ap, ◌∙◌}
 use Rattle.std.specs.List.{flat_map}
 use Rattle.std.proofs.lemmas.Bool.{eqb-true}
+use Rattle.std.proofs.lemmas.List.{nil_from_length}
 use Rattle.aig_names.specs.Signals.{columns, section_names}
 use Rattle.aig_names.specs.Vectors.{turned}
 use Rattle.aig_names.specs.state.Naming.{named, entry_names}
-use Rattle.aig_names.proofs.Columns.{turned_more, turned_all, columns_none, map_empty, no_items}
+use Rattle.aig_names.proofs.Columns.{turned_more, turned_all, columns_none, map_empty}
 use Rattle.aig_names.proofs.signals.signals_of.Goals as goal
 
 pub columns-init : goal.columns-init
@@ -28,5 +29,5 @@ columns-preserved c =
 pub returns : goal.returns
 returns c =
     let none : c.columns.entries.items ≡ [] =
-    no_items c.columns.entries.items (sym c.columns.entries.ok.0 ∙ eqb-true (vec_len c.columns.entries) 0 (sym c.columns-test.ensures)) in
+    nil_from_length c.columns.entries.items (sym c.columns.entries.ok.0 ∙ eqb-true (vec_len c.columns.entries) 0 (sym c.columns-test.ensures)) in
     turned_all (map entry_names c.columns.entries.items) (map named c.columns.signals.items) _ (ap (map entry_names) none) c.columns.invariant
