@@ -3,9 +3,9 @@ use Rattle.std.proofs.Common.{◌≡◌, ◌≢◌, ◌⊎◌, inl, inr, ℕ, �
 use Rattle.std.proofs.Common.{◌∷◌, ◌++◌}
 use Rattle.std.proofs.Common.{length, get_or, refl, sym, ap, subst, ◌∙◌, arith}
 use Rattle.std.specs.Prelude.{nat_eq, if◌then◌else◌, IsTrue, IfOk, Result, Ok, Err}
-use Rattle.std.proofs.lemmas.Bool.Decides.{nat_tests}
 use Rattle.std.proofs.lemmas.List.Folds.{list_any-append, list_any_at}
 use Rattle.std.proofs.lemmas.List.{get_or_past}
+use Rattle.std.proofs.lemmas.Bool.{cases_eq, eq-eqb, ne_eqb}
 use Rattle.aig_bytes.specs.declared.fault.Memory.{Memory}
 use Rattle.aig_parts.specs.Literal.{variable, negation}
 use Rattle.aig_sat.specs.declared.checker.checker.Checker.{Checker}
@@ -17,31 +17,23 @@ use Rattle.aig_sat.specs.checker.Holding.{KeepsHolding, KeepsMeeting, KeepsSomeH
 use Rattle.aig_sat.specs.checker.Knowledge.{IsKnown, MakesTrue}
 use Rattle.aig_sat.specs.checker.Words.{HasTrue, IsClauseAt, Shrinks, StandsAt, literal_at, size_at}
 use Rattle.aig_sat.proofs.checking.PropagationLemmas.{agrees_narrowed}
-use Rattle.aig_sat.proofs.checking.StandingLemmas.{split_or}
 use Rattle.aig_sat.proofs.checking.TruthLemmas.{signs, true_even, true_odd}
-use Rattle.aig_sat.proofs.checking.WordLemmas.{below_or_above, same_or_other}
 
 -- ---- an assignment in which a literal is made true, and each other variable keeps its value
 
 abbrev pub made_true : (ℕ → Bool) → ℕ → ℕ → Bool
 made_true values l x = if nat_eq x (variable l) then nat_eq (l % 2) 0 else values x
 
-nat_same : (a b : ℕ) → a ≡ b → nat_eq a b ≡ true
-nat_same a b e = grind (arith, nat_tests)
-
-nat_other : (a b : ℕ) → a ≢ b → nat_eq a b ≡ false
-nat_other a b ne = grind (arith, nat_tests)
-
 made_at : (v : ℕ → Bool) (l : ℕ) → made_true v l (variable l) ≡ nat_eq (l % 2) 0
-made_at v l = ap (λ b. if b then nat_eq (l % 2) 0 else v (variable l)) (nat_same (variable l) (variable l) refl)
+made_at v l = ap (λ b. if b then nat_eq (l % 2) 0 else v (variable l)) (eq-eqb (variable l) (variable l) refl)
 
 made_else : (v : ℕ → Bool) (l x : ℕ) → x ≢ variable l → made_true v l x ≡ v x
-made_else v l x ne = ap (λ b. if b then nat_eq (l % 2) 0 else v x) (nat_other x (variable l) ne)
+made_else v l x ne = ap (λ b. if b then nat_eq (l % 2) 0 else v x) (ne_eqb x (variable l) ne)
 
 made : (v : ℕ → Bool) (l : ℕ) → is_true (made_true v l) l ≡ true
 made v l = elim (signs l) [
-  | inl even ↦ true_even (made_true v l) l even ∙ made_at v l ∙ nat_same (l % 2) 0 even
-  | inr odd ↦ true_odd (made_true v l) l odd ∙ ap not (made_at v l ∙ nat_other (l % 2) 0 (λ e. omega (arith, e, odd)))
+  | inl even ↦ true_even (made_true v l) l even ∙ made_at v l ∙ eq-eqb (l % 2) 0 even
+  | inr odd ↦ true_odd (made_true v l) l odd ∙ ap not (made_at v l ∙ ne_eqb (l % 2) 0 (λ e. omega (arith, e, odd)))
 ]
 
 other_variable : (l m : ℕ) → m ≢ l → m ≢ negation l → variable m ≢ variable l
@@ -59,7 +51,7 @@ made_keeps v l m ne nn =
     ]
 
 still_true : (v : ℕ → Bool) (l m : ℕ) → m ≢ negation l → is_true v m ≡ true → is_true (made_true v l) m ≡ true
-still_true v l m nn holds = elim (same_or_other m l) [
+still_true v l m nn holds = elim (cases_eq m l) [
   | inl e ↦ ap (is_true (made_true v l)) e ∙ made v l
   | inr ne ↦ made_keeps v l m ne nn ∙ holds
 ]
@@ -114,7 +106,7 @@ settled_earlier old mid new clause lie p n now v a untrue stands = now v (agrees
 pub settled_more : (old mid new : Propagator) (clause : List ℕ) (lie n : ℕ) → Narrows old mid → Narrows mid new
     → ((p : ℕ) → p < n → IsSettled old mid clause lie p) → IsSettled mid new clause lie n
     → (p : ℕ) → p < n + 1 → IsSettled old new clause lie p
-settled_more old mid new clause lie n first second before now p below = elim (same_or_other p n) [
+settled_more old mid new clause lie n first second before now p below = elim (cases_eq p n) [
   | inl e ↦ subst (λ (x : ℕ). IsSettled old new clause lie x) (sym e) (settled_earlier old mid new clause lie n first now)
   | inr ne ↦ settled_later old mid new clause lie p (before p (omega (arith, ne, below))) second
 ]

@@ -3,7 +3,7 @@ use Rattle.std.proofs.Common.{◌≡◌, ◌⊎◌, inl, inr, ℕ, zero, suc, �
 use Rattle.std.proofs.Common.{◌∷◌, ◌++◌}
 use Rattle.std.proofs.Common.{length, get_or, set, refl}
 use Rattle.std.proofs.Common.{sym, ap, ◌∙◌, arith}
-use Rattle.std.proofs.lemmas.Bool.{false≢true}
+use Rattle.std.proofs.lemmas.Bool.{false≢true, cases_eq, cases_lt}
 use Rattle.std.proofs.lemmas.List.{get_or-set_same, get_or-set_other, get_or_past, get_or_append_left}
 use Rattle.std.proofs.lemmas.List.{get_or-append_right}
 use Rattle.std.specs.Prelude.{nat_eq}
@@ -12,7 +12,6 @@ use Rattle.std.proofs.lemmas.Grind.{get_or_default_zero}
 use Rattle.std.proofs.lemmas.List.Folds.{Any-from_list_any}
 use Rattle.aig_sat.specs.checker.Distinct.{Has}
 use Rattle.aig_sat.specs.checker.Knowledge.{IsIn, IsKnown}
-use Rattle.aig_sat.proofs.checking.WordLemmas.{below_or_above, same_or_other}
 
 -- what is known was known, and is none of the first n of the list
 pub record AreForgotten (old new : List Bool) (list : List ℕ) (n : ℕ) : Type 0 where
@@ -26,7 +25,7 @@ pub forgotten_more : (old truths new : List Bool) (list : List ℕ) (n : ℕ) �
     → AreForgotten old new list (n + 1)
 forgotten_more old truths new list n before step = record {
   known = λ m h. before.known m (kept m h);
-  none = λ m j h within is. elim (same_or_other j n) [
+  none = λ m j h within is. elim (cases_eq j n) [
     | inr other ↦ before.none m j (kept m h) (omega arith) is
     | inl e ↦ apart m h (sym is ∙ ap (λ i. get_or list i 0) e)
   ];
@@ -35,7 +34,7 @@ forgotten_more old truths new list n before step = record {
     kept : (m : ℕ) → IsKnown new m → IsKnown truths m
     kept m h = elim step [
       | inr s ↦ ap (λ xs. get_or xs m false) (sym s.1) ∙ h
-      | inl s ↦ elim (same_or_other m (get_or list n 0)) [
+      | inl s ↦ elim (cases_eq m (get_or list n 0)) [
         | inr other ↦ sym (get_or-set_other truths (get_or list n 0) m false false other) ∙ ap (λ xs. get_or xs m false) (sym s.1) ∙ h
         | inl e ↦ absurd (false≢true
             (sym (get_or-set_same truths (get_or list n 0) false false s.0)
@@ -53,7 +52,7 @@ forgotten_more old truths new list n before step = record {
 
 -- nothing is known of a variable that is added
 pub known_more : (truths : List Bool) (l : ℕ) → IsKnown (truths ++ false ∷ false ∷ []) l → IsKnown truths l
-known_more truths l h = elim (below_or_above l (length truths)) [
+known_more truths l h = elim (cases_lt l (length truths)) [
   | inl lt ↦ sym (get_or_append_left truths (false ∷ false ∷ []) false l lt) ∙ h
   | inr ge ↦ absurd (false≢true (sym (none (l - length truths))
       ∙ sym (get_or-append_right truths (false ∷ false ∷ []) (length truths) l false refl ge) ∙ h))

@@ -1,5 +1,5 @@
 -- Clauses of marks that are stored.
-use Rattle.std.proofs.Common.{◌≡◌, inl, inr, ℕ, Bool, true, false, List, get_or, refl, sym, ap, subst, ◌∙◌}
+use Rattle.std.proofs.Common.{◌≡◌, inl, inr, ℕ, Bool, true, List, get_or, sym, ap, subst, ◌∙◌}
 use Rattle.std.proofs.lemmas.List.Folds.{list_any_at}
 use Rattle.aig_sat.specs.declared.checker.checker.Checker.{Checker}
 use Rattle.aig_sat.specs.declared.checker.known.Known.{Known}
@@ -48,7 +48,3 @@ stored literals old new same_refuted same_known met v h m = record {
     known = subst (λ (x : Known). MakesTrue v x.truths.items) (sym same_known) h.agrees.known;
   };
 }
-
-pub not_true : (b : Bool) → (b ≡ true → ⊥) → b ≡ false
-not_true true never = absurd (never refl)
-not_true false never = refl

@@ -2,7 +2,7 @@
 use Rattle.std.proofs.Common.{◌≡◌, ◌⊎◌, inl, inr, ℕ, ◌+◌, ◌<◌, Bool, true, false, List, [], ◌∷◌}
 use Rattle.std.proofs.Common.{◌++◌, length, get_or, refl, sym, ap, subst, ◌∙◌, arith, length-append}
 use Rattle.std.proofs.lemmas.List.{get_or-set_other, get_or_append_left}
-use Rattle.std.proofs.lemmas.Bool.{false≢true}
+use Rattle.std.proofs.lemmas.Bool.{false≢true, cases_eq}
 use Rattle.std.proofs.lemmas.List.Folds.{list_any_at}
 use Rattle.std.proofs.Math.Seq.{get_or-append_seam}
 use Rattle.std.specs.Prelude.{IsTrue, IfOk, Result, Ok, Err}
@@ -15,13 +15,13 @@ use Rattle.aig_sat.specs.checker.Clause.{is_true, meets}
 use Rattle.aig_sat.specs.checker.Knowledge.{AreFalseBeside, IsFound, IsIn, IsKnown, MakesTrue, Takes}
 use Rattle.aig_sat.specs.checker.Words.{IsClauseAt, Shrinks}
 use Rattle.aig_sat.proofs.checking.TruthLemmas.{negation_false, negation_true}
-use Rattle.aig_sat.proofs.checking.WordLemmas.{met_then, same_or_other, shrinks_none, shrinks_then}
+use Rattle.aig_sat.proofs.checking.WordLemmas.{met_then, shrinks_none, shrinks_then}
 
 -- what is known after a literal was taken
 pub taken_known : (literal : ℕ) (old new : Known) → Takes literal old new → (l : ℕ) → IsKnown new.truths.items l
     → IsKnown old.truths.items l ⊎ (l ≡ literal)
 taken_known literal old new (inl t) l h = inl (ap (λ xs. get_or xs l false) (sym t.0) ∙ h)
-taken_known literal old new (inr t) l h = elim (same_or_other l literal) [
+taken_known literal old new (inr t) l h = elim (cases_eq l literal) [
   | inl e ↦ inr e
   | inr ne ↦ inl (sym (get_or-set_other old.truths.items literal l true false ne) ∙ ap (λ xs. get_or xs l false) (sym t.0) ∙ h)
 ]

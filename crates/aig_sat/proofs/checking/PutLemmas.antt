@@ -5,9 +5,10 @@ use Rattle.std.proofs.lemmas.List.{length-set, get_or-set_same, get_or-set_other
 use Rattle.std.proofs.lemmas.List.{get_or-append_right, get_or_past}
 use Rattle.std.proofs.lemmas.List.Folds.{Any-from_list_any}
 use Rattle.std.proofs.lemmas.Grind.{get_or_default_zero}
+use Rattle.std.proofs.lemmas.Bool.{cases_eq, cases_lt}
 use Rattle.aig_sat.specs.checker.Clause.{is_true, meets}
 use Rattle.aig_sat.specs.checker.Words.{AreLiterals, IsLaidOut, IsLast, IsPut, KeepsMet, MeetsAll, Shrinks, StandsAt}
-use Rattle.aig_sat.proofs.checking.WordLemmas.{met_then, same_or_other, below_or_above}
+use Rattle.aig_sat.proofs.checking.WordLemmas.{met_then}
 
 -- a literal that meets a clause
 pub literal_that_meets : (values : ℕ → Bool) (literals : List ℕ) → meets values literals ≡ true
@@ -24,7 +25,7 @@ beyond : (xs : List ℕ) (q : ℕ) → length xs ≤ q → get_or xs q 0 ≡ 0
 beyond xs q above = get_or_past xs q 0 above
 
 small_after : (old tail : List ℕ) → AreLiterals tail → (q : ℕ) → length old ≤ q → get_or (old ++ tail) q 0 < 0x8000_0000
-small_after old tail small q above = elim (below_or_above (q - length old) (length tail)) [
+small_after old tail small q above = elim (cases_lt (q - length old) (length tail)) [
   | inl lt ↦ omega (arith, after old tail q above, small (q - length old) lt)
   | inr ge ↦ omega (arith, after old tail q above, beyond tail (q - length old) ge)
 ]
@@ -33,7 +34,7 @@ small_after old tail small q above = elim (below_or_above (q - length old) (leng
 pub append_laid_out : (words tail : List ℕ) → IsLaidOut words → AreLiterals tail → IsLaidOut (words ++ tail)
 append_laid_out words tail laid small p now =
     let len : length (words ++ tail) ≡ length words + length tail = length-append words tail in
-    elim (below_or_above p (length words)) [
+    elim (cases_lt p (length words)) [
       | inr above ↦ absurd (omega (arith, small_after words tail small p above, now))
       | inl below ↦
           let same : get_or (words ++ tail) p 0 ≡ get_or words p 0 = get_or_append_left words tail 0 p below in
@@ -55,7 +56,7 @@ append_shrinks words tail laid small = record {
 }
   where
     inside : (p : ℕ) → StandsAt (words ++ tail) p → p < length words
-    inside p now = elim (below_or_above p (length words)) [
+    inside p now = elim (cases_lt p (length words)) [
       | inl below ↦ below
       | inr above ↦ absurd (omega (arith, small_after words tail small p above, now))
     ]
@@ -68,7 +69,7 @@ pub put_last : (old literals words : List ℕ) → IsLaidOut old → IsPut old l
 put_last old literals words laid is = record {
   len = is.len;
   small = is.small;
-  ends = λ p now. elim (below_or_above p (length old)) [
+  ends = λ p now. elim (cases_lt p (length old)) [
     | inr above ↦ absurd (omega (arith, is.small p above, now))
     | inl below ↦
         let was : get_or words p 0 ≡ get_or old p 0 = is.before p below in
@@ -83,7 +84,7 @@ stand_laid_out words n size laid is p now =
     let x = 0x8000_0000 + size in
     let inside : n < length words = omega (arith, is.len) in
     let len : length (set words n x) ≡ length words = length-set words n x in
-    elim (same_or_other p n) [
+    elim (cases_eq p n) [
       | inl e ↦
           let here : get_or (set words n x) p 0 ≡ x = ap (λ i. get_or (set words n x) i 0) e ∙ get_or-set_same words n x 0 inside in (
             omega (arith, len, here, e, is.len),
@@ -106,7 +107,7 @@ pub stand_keeps : (words literals : List ℕ) (n : ℕ) → IsLast words n (leng
 stand_keeps words literals n is items values meets_it met p now =
     let x = 0x8000_0000 + length literals in
     let inside : n < length words = omega (arith, is.len) in
-    elim (same_or_other p n) [
+    elim (cases_eq p n) [
       | inl e ↦
           let here : get_or (set words n x) p 0 ≡ x = ap (λ i. get_or (set words n x) i 0) e ∙ get_or-set_same words n x 0 inside in
           let (k, k_in, k_true) = literal_that_meets values literals meets_it in

@@ -2,14 +2,14 @@
 use Rattle.std.proofs.Common.{◌≡◌, ℕ, Bool, true, false, List, [], ◌∷◌, refl, sym, subst, ◌∙◌}
 use Rattle.std.specs.List.{list_all}
 use Rattle.std.specs.Prelude.{IsTrue, IfOk, Result, Ok, Err}
-use Rattle.std.proofs.lemmas.Bool.{false≢true}
+use Rattle.std.proofs.lemmas.Bool.{false≢true, and_parts, and_from}
 use Rattle.aig_bytes.specs.declared.fault.Memory.{Memory}
 use Rattle.aig_sat.specs.declared.checker.checker.Checker.{Checker}
 use Rattle.aig_sat.specs.checker.Consequence.{Follows, IsUnsatisfiable, KeepsSatisfiable}
 use Rattle.aig_sat.specs.checker.Clause.{meets, Satisfies}
 use Rattle.aig_sat.specs.checker.Holding.{Holds, KeepsHolding, KeepsMeeting, KeepsSomeHolding}
 use Rattle.aig_sat.specs.checker.Standing.{standing}
-use Rattle.aig_sat.proofs.checking.StandingLemmas.{both_and, holds_state, split_and, state_holds}
+use Rattle.aig_sat.proofs.checking.StandingLemmas.{holds_state, state_holds}
 
 -- the formula of a checker
 abbrev pub formula : Checker → List (List ℕ)
@@ -28,7 +28,7 @@ follows_new c all v _ = holds_satisfied v c (all v)
 pub follows_meeting : (clause : List ℕ) (old new : Checker) → KeepsMeeting clause old new
     → Follows (clause ∷ formula old) (formula new)
 follows_meeting clause old new keeps v h =
-    let parts = split_and (meets v clause) (list_all (meets v) (formula old)) h in
+    let parts = and_parts (meets v clause) (list_all (meets v) (formula old)) h in
     holds_satisfied v new (keeps v (satisfied_holds v old parts.1) parts.0)
 
 pub follows_holding : (old new : Checker) → KeepsHolding old new → Follows (formula old) (formula new)
@@ -36,7 +36,7 @@ follows_holding old new keeps v h = holds_satisfied v new (keeps v (satisfied_ho
 
 pub follows_step : (clause : List ℕ) (old : Checker) → ((v : ℕ → Bool) → Holds v old → meets v clause ≡ true)
     → Follows (formula old) (clause ∷ [])
-follows_step clause old implied v h = both_and (meets v clause) true (implied v (satisfied_holds v old h)) refl
+follows_step clause old implied v h = and_from (meets v clause) true (implied v (satisfied_holds v old h)) refl
 
 pub keeps_holding : (old new : Checker) → KeepsSomeHolding old new → KeepsSatisfiable (formula old) (formula new)
 keeps_holding old new keeps v h = let (w, holds) = keeps v (satisfied_holds v old h) in (w, holds_satisfied w new holds)

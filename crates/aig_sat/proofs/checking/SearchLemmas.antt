@@ -3,14 +3,14 @@ use Rattle.std.proofs.Common.{◌≡◌, ◌⊎◌, ℕ, ◌+◌, ◌-◌, ◌�
 use Rattle.std.proofs.Common.{subst, arith}
 use Rattle.std.specs.Prelude.{Option, None, Some, IfNone}
 use Rattle.std.proofs.lemmas.List.{get_or-take, get_or-drop, length-take-le, length-drop}
+use Rattle.std.proofs.lemmas.Bool.{cases_lt}
 use Rattle.aig_parts.specs.Literal.{negation}
 use Rattle.aig_sat.specs.checker.Knowledge.{AreFalseBeside, IsKnown}
-use Rattle.aig_sat.proofs.checking.WordLemmas.{below_or_above}
 
 pub false_in_both : (truths : List Bool) (literals : List ℕ) (other n : ℕ) → n ≤ length literals
     → AreFalseBeside truths (take n literals) other → AreFalseBeside truths (drop n literals) other
     → AreFalseBeside truths literals other
-false_in_both truths literals other n within before after k inside = elim (below_or_above k n) [
+false_in_both truths literals other n within before after k inside = elim (cases_lt k n) [
   | inl lt ↦
       let same : get_or (take n literals) k 0 ≡ get_or literals k 0 = get_or-take n literals k 0 lt in
       let len : length (take n literals) ≡ n = length-take-le n literals within in

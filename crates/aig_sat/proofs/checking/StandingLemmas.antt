@@ -1,10 +1,10 @@
 -- The assignments that satisfy the formula of a state are those that agree with it.
-use Rattle.std.proofs.Common.{◌≡◌, ◌⊎◌, inl, inr, ℕ, zero, suc, ◌<◌, ◌≤◌, Bool, true, false, ◌&&◌}
-use Rattle.std.proofs.Common.{◌||◌, List, [], ◌∷◌, ◌++◌, length, get_or, refl, sym, ap, subst, ◌∙◌, arith}
+use Rattle.std.proofs.Common.{◌≡◌, ◌⊎◌, inl, inr, ℕ, zero, suc, ◌<◌, ◌≤◌, Bool, true, false}
+use Rattle.std.proofs.Common.{List, [], ◌∷◌, ◌++◌, length, get_or, refl, sym, ap, subst, ◌∙◌, arith}
 use Rattle.std.specs.Prelude.{nat_le, if◌then◌else◌}
 use Rattle.std.specs.List.{list_all}
-use Rattle.std.proofs.lemmas.Bool.{false≢true}
-use Rattle.std.proofs.lemmas.Bool.Decides.{nat_tests}
+use Rattle.std.proofs.lemmas.Bool.{false≢true, and_parts, and_from, or_cases, or_left, or_right, le-leb, leb-true}
+use Rattle.std.proofs.lemmas.Bool.{cases_eq}
 use Rattle.std.proofs.lemmas.List.{get_or_past}
 use Rattle.std.proofs.lemmas.List.Folds.{list_all-append}
 use Rattle.aig_sat.specs.declared.checker.propagator.Propagator.{Propagator}
@@ -14,47 +14,21 @@ use Rattle.aig_sat.specs.checker.Knowledge.{IsKnown, MakesTrue}
 use Rattle.aig_sat.specs.checker.Standing.{clause_at, clauses_at, conflict_clause, literals_at, standing, unit_at}
 use Rattle.aig_sat.specs.checker.Standing.{units_at}
 use Rattle.aig_sat.specs.checker.Words.{HasTrue, MeetsAll, StandsAt, literal_at, size_at}
-use Rattle.aig_sat.proofs.checking.WordLemmas.{same_or_other}
-
-pub split_and : (a b : Bool) → (a && b) ≡ true → (a ≡ true) × (b ≡ true)
-split_and true b h = (refl, h)
-split_and false b h = absurd (false≢true h)
-
-pub both_and : (a b : Bool) → a ≡ true → b ≡ true → (a && b) ≡ true
-both_and a b ea eb = cc
-
-pub split_or : (a b : Bool) → (a || b) ≡ true → (a ≡ true) ⊎ (b ≡ true)
-split_or true b h = inl refl
-split_or false b h = inr h
-
-or_left : (a b : Bool) → a ≡ true → (a || b) ≡ true
-or_left true b e = refl
-or_left false b e = absurd (false≢true e)
-
-or_right : (a b : Bool) → b ≡ true → (a || b) ≡ true
-or_right true b e = refl
-or_right false b e = e
-
-le_true : (a b : ℕ) → a ≤ b → nat_le a b ≡ true
-le_true a b h = grind (arith, nat_tests)
-
-le_from : (a b : ℕ) → nat_le a b ≡ true → a ≤ b
-le_from a b h = grind (arith, nat_tests)
 
 -- both lists
 pub all_split : (v : ℕ → Bool) (xs ys : List (List ℕ)) → list_all (meets v) (xs ++ ys) ≡ true
     → (list_all (meets v) xs ≡ true) × (list_all (meets v) ys ≡ true)
-all_split v xs ys h = split_and _ _ (sym (list_all-append (meets v) xs ys) ∙ h)
+all_split v xs ys h = and_parts _ _ (sym (list_all-append (meets v) xs ys) ∙ h)
 
 pub all_joined : (v : ℕ → Bool) (xs ys : List (List ℕ)) → list_all (meets v) xs ≡ true → list_all (meets v) ys ≡ true
     → list_all (meets v) (xs ++ ys) ≡ true
-all_joined v xs ys hx hy = list_all-append (meets v) xs ys ∙ both_and _ _ hx hy
+all_joined v xs ys hx hy = list_all-append (meets v) xs ys ∙ and_from _ _ hx hy
 
 -- a clause's literals
 literal_met : (v : ℕ → Bool) (words : List ℕ) (p n : ℕ) → meets v (literals_at words p n) ≡ true
     → (k : ℕ) × (k < n) × (is_true v (literal_at words p k) ≡ true)
 literal_met v words p zero h = absurd (false≢true h)
-literal_met v words p (suc n) h = elim (split_or (is_true v (literal_at words p n)) (meets v (literals_at words p n)) h) [
+literal_met v words p (suc n) h = elim (or_cases (is_true v (literal_at words p n)) (meets v (literals_at words p n)) h) [
   | inl e ↦ (n, omega arith, e)
   | inr e ↦ let (k, within, holds) = literal_met v words p n e in (k, omega (arith, within), holds)
 ]
@@ -62,7 +36,7 @@ literal_met v words p (suc n) h = elim (split_or (is_true v (literal_at words p 
 met_literal : (v : ℕ → Bool) (words : List ℕ) (p n k : ℕ) → k < n → is_true v (literal_at words p k) ≡ true
     → meets v (literals_at words p n) ≡ true
 met_literal v words p zero k within holds = absurd (omega arith)
-met_literal v words p (suc n) k within holds = elim (same_or_other k n) [
+met_literal v words p (suc n) k within holds = elim (cases_eq k n) [
   | inl e ↦ or_left (is_true v (literal_at words p n)) (meets v (literals_at words p n)) (ap (λ i. is_true v (literal_at words p i)) (sym e) ∙ holds)
   | inr other ↦ or_right (is_true v (literal_at words p n)) (meets v (literals_at words p n)) (met_literal v words p n k (omega arith) holds)
 ]
@@ -72,8 +46,8 @@ clause_met : (v : ℕ → Bool) (words : List ℕ) (p : ℕ) → list_all (meets
     → HasTrue v words p
 clause_met v words p h stands =
     let chosen : clause_at words p ≡ literals_at words p (size_at words p) ∷ [] =
-    ap (λ b. if b then literals_at words p (size_at words p) ∷ [] else []) (le_true 0x8000_0000 (get_or words p 0) stands) in
-    literal_met v words p (size_at words p) (split_and _ _ (sym (ap (list_all (meets v)) chosen) ∙ h)).0
+    ap (λ b. if b then literals_at words p (size_at words p) ∷ [] else []) (le-leb 0x8000_0000 (get_or words p 0) stands) in
+    literal_met v words p (size_at words p) (and_parts _ _ (sym (ap (list_all (meets v)) chosen) ∙ h)).0
 
 met_clause : (v : ℕ → Bool) (words : List ℕ) (p : ℕ) → (StandsAt words p → HasTrue v words p)
     → list_all (meets v) (clause_at words p) ≡ true
@@ -83,15 +57,15 @@ met_clause v words p met = go (nat_le 0x8000_0000 (get_or words p 0)) refl
         → list_all (meets v) (if b then literals_at words p (size_at words p) ∷ [] else []) ≡ true
     go false e = refl
     go true e =
-        let (k, within, holds) = met (le_from 0x8000_0000 (get_or words p 0) e) in
-        both_and _ _ (met_literal v words p (size_at words p) k within holds) refl
+        let (k, within, holds) = met (leb-true 0x8000_0000 (get_or words p 0) e) in
+        and_from _ _ (met_literal v words p (size_at words p) k within holds) refl
 
 clauses_met : (v : ℕ → Bool) (words : List ℕ) (n : ℕ) → list_all (meets v) (clauses_at words n) ≡ true → (p : ℕ) → p < n
     → StandsAt words p → HasTrue v words p
 clauses_met v words zero h p within stands = absurd (omega arith)
 clauses_met v words (suc n) h p within stands =
     let parts = all_split v (clause_at words n) (clauses_at words n) h in
-    elim (same_or_other p n) [
+    elim (cases_eq p n) [
       | inl e ↦ subst (λ (i : ℕ). HasTrue v words i) (sym e) (clause_met v words n parts.0 (subst (λ (i : ℕ). StandsAt words i) e stands))
       | inr other ↦ clauses_met v words n parts.1 p (omega arith) stands
     ]
@@ -106,7 +80,7 @@ unit_met : (v : ℕ → Bool) (truths : List Bool) (l : ℕ) → list_all (meets
     → is_true v l ≡ true
 unit_met v truths l h known =
     let chosen : unit_at truths l ≡ (l ∷ []) ∷ [] = ap (λ b. if b then (l ∷ []) ∷ [] else []) known in
-    elim (split_or (is_true v l) false (split_and _ _ (sym (ap (list_all (meets v)) chosen) ∙ h)).0) [
+    elim (or_cases (is_true v l) false (and_parts _ _ (sym (ap (list_all (meets v)) chosen) ∙ h)).0) [
       | inl e ↦ e
       | inr e ↦ absurd (false≢true e)
     ]
@@ -117,14 +91,14 @@ met_unit v truths l makes = go (get_or truths l false) refl
   where
     go : (b : Bool) → get_or truths l false ≡ b → list_all (meets v) (if b then (l ∷ []) ∷ [] else []) ≡ true
     go false e = refl
-    go true e = both_and _ _ (or_left (is_true v l) false (makes e)) refl
+    go true e = and_from _ _ (or_left (is_true v l) false (makes e)) refl
 
 units_met : (v : ℕ → Bool) (truths : List Bool) (n : ℕ) → list_all (meets v) (units_at truths n) ≡ true → (l : ℕ) → l < n
     → IsKnown truths l → is_true v l ≡ true
 units_met v truths zero h l within known = absurd (omega arith)
 units_met v truths (suc n) h l within known =
     let parts = all_split v (unit_at truths n) (units_at truths n) h in
-    elim (same_or_other l n) [
+    elim (cases_eq l n) [
       | inl e ↦ ap (is_true v) e ∙ unit_met v truths n parts.0 (subst (λ (i : ℕ). IsKnown truths i) e known)
       | inr other ↦ units_met v truths n parts.1 l (omega arith) known
     ]

@@ -3,12 +3,12 @@ use Rattle.std.proofs.Common.{◌≡◌, inl, inr, ℕ, ◌+◌, ◌<◌, ◌≤
 use Rattle.std.proofs.Common.{true, false, cond, subst, sym, ap, ◌∙◌, arith, length-append}
 use Rattle.std.proofs.lemmas.List.{length-set, get_or_append_left, get_or_past, get_or-set_same, get_or-set_other}
 use Rattle.std.proofs.Math.Seq.{get_or-append_seam}
+use Rattle.std.proofs.lemmas.Bool.{cases_eq}
 use Rattle.aig_parts.specs.Literal.{variable}
 use Rattle.aig_sat.specs.declared.checker.propagator.Propagator.{Propagator}
 use Rattle.aig_sat.specs.checker.First.{IsSettled}
 use Rattle.aig_sat.specs.checker.Words.{AreLiterals, Begins, IsLaidOut, IsLast, Shrinks, StandsAt, literal_at, size_at}
 use Rattle.aig_sat.proofs.checking.PutLemmas.{append_shrinks}
-use Rattle.aig_sat.proofs.checking.WordLemmas.{below_or_above, same_or_other}
 
 -- it stays so where no clause is added
 pub begins_then : (starts : List ℕ) (named : ℕ) (old new : List ℕ) → Shrinks old new → length old ≤ length new
@@ -45,7 +45,7 @@ stand_begins starts named words n size is b begun are_named = record {
   before = λ p k now inside.
       let x = 0x8000_0000 + size in
       let here : n < length words = omega (arith, is.len) in
-      elim (same_or_other p n) [
+      elim (cases_eq p n) [
         | inl e ↦
             let head : get_or (set words n x) p 0 ≡ x = ap (λ i. get_or (set words n x) i 0) e ∙ get_or-set_same words n x 0 here in
             let same : get_or (set words n x) (p + (4 + k)) 0 ≡ get_or words (n + (4 + k)) 0 =

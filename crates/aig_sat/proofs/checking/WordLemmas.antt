@@ -1,15 +1,9 @@
 -- Words of clauses that are written or added.
-use Rattle.std.proofs.Common.{◌≡◌, ◌≢◌, ◌⊎◌, inl, inr, ℕ, ◌+◌, ◌<◌, ◌≤◌, List, length, get_or}
+use Rattle.std.proofs.Common.{◌≡◌, inl, inr, ℕ, ◌+◌, ◌<◌, List, length, get_or}
 use Rattle.std.proofs.Common.{set, refl, ap, ◌∙◌, arith}
 use Rattle.std.proofs.lemmas.List.{length-set, get_or-set_same, get_or-set_other}
 use Rattle.aig_sat.specs.checker.Clause.{is_true}
 use Rattle.aig_sat.specs.checker.Words.{IsLaidOut, KeepsMet, Shrinks, StandsAt, size_at}
-
-pub same_or_other : (a b : ℕ) → (a ≡ b) ⊎ (a ≢ b)
-same_or_other a b = grind arith
-
-pub below_or_above : (a b : ℕ) → (a < b) ⊎ (b ≤ a)
-below_or_above a b = grind arith
 
 -- what met the first ones meets the second ones
 pub met_then : (old new : List ℕ) → Shrinks old new → KeepsMet old new

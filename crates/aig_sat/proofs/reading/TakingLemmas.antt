@@ -14,7 +14,6 @@ use Rattle.std.proofs.Math.Nat.{add_assoc, mul-add, mul_assoc}
 use Rattle.std.proofs.Math.Seq.{drop-cons}
 use Rattle.std.proofs.lemmas.Fmt.{decimal_digit}
 use Rattle.std.specs.Fmt.{decimal}
-use Rattle.std.specs.Prelude.{Result, Ok, Err, IfOk, OnOk}
 use Rattle.std.specs.Option.{IsSomeAnd}
 use Rattle.aig_bytes.specs.Bytes.{before, IsAtEnd}
 use Rattle.aig_bytes.specs.Term.{minus}
@@ -56,15 +55,6 @@ bytes_then a b c l m n xs ys first second = first ∙ ap (before xs) second ∙ 
 
 pub text_as : {a b : Block} {l m : Option (List ℕ)} {xs ys : List ℕ} → xs ≡ ys → TakesText a b l m xs → TakesText a b l m ys
 text_as {a} {b} {l} {m} e took = subst (TakesText a b l m) e took
-
--- what a call says where it succeeds
-pub if_ok : {T E : Type 0} {P Q : T → Type 0} (r : Result T E) → ((x : T) → P x → Q x) → IfOk r P → IfOk r Q
-if_ok (Ok x) on h = on x h
-if_ok (Err f) on h = tt
-
-pub on_ok : {T E P Q : Type 0} (r : Result T E) → (P → Q) → OnOk r P → OnOk r Q
-on_ok (Ok x) on h = on h
-on_ok (Err f) on h = tt
 
 -- one byte, which a look has shown
 module _ (a b c : Block) (l m : Option (List ℕ)) (taken : b.waiting ≡ c.previous ∷ c.waiting) (same : c.ended ≡ b.ended) where

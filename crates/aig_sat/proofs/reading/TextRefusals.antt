@@ -570,10 +570,6 @@ number_more first n m d digits is some digit first_some first_digit within over 
 
 -- ---- calls
 
-pub true_if : (b : Bool) → (b ≡ false → ⊥) → b ≡ true
-true_if true other = refl
-true_if false other = absurd (other refl)
-
 pub gap_unfinished : (o n : Option (List ℕ)) (p q : ℕ) (gap : List ℕ) → o ≡ before gap n → q ≡ last_byte p gap → Gap p gap
     → IfSome n (IsUnfinished q) → IfSome o (EndsUnfinished p)
 gap_unfinished None n p q gap e last of h = tt

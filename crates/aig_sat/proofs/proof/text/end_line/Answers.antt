@@ -3,8 +3,9 @@ use Rattle.aig_sat.specs.proof.Steps.{text_to_come}
 use Rattle.aig_sat.proofs.reading.TextRefusals.{line_refused}
 use Rattle.std.proofs.Common.{◌++◌, ◌∷◌, [], arith, ap, ◌∙◌}
 use Rattle.std.proofs.lemmas.List.Elements.{All-push}
+use Rattle.std.proofs.lemmas.Result.{on_ok_weaker}
 use Rattle.aig_sat.specs.proof.ProofText.{IsBlank}
-use Rattle.aig_sat.proofs.reading.TakingLemmas.{on_ok, text_then, before_none}
+use Rattle.aig_sat.proofs.reading.TakingLemmas.{text_then, before_none}
 use Rattle.aig_sat.proofs.proof.text.end_line.Goals as goal
 
 pub loop-preserved : goal.loop-preserved
@@ -25,7 +26,7 @@ loop-preserved g c =
 pub returns-clause-line : goal.returns-clause-line
 returns-clause-line g c =
     let (blanks, all, took) = c.loop.invariant.blanks in
-    on_ok c.take_lf.result
+    on_ok_weaker c.take_lf.result
     (λ last. (blanks, all, text_then took (text_then (c.in_ok-skip_blank.ensures.none c.if-branch.false) last))) c.take_lf.ensures.taken
 
 pub returns-clause-refused : goal.returns-clause-refused

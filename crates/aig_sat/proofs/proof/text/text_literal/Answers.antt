@@ -2,13 +2,14 @@ use Rattle.aig_sat.specs.proof.Steps.{text_to_come}
 use Rattle.aig_sat.proofs.models.ModelLemmas.{passed_fault}
 use Rattle.aig_sat.proofs.reading.TextRefusals.{goes_on_if, no_clause, word_lacks}
 use Rattle.std.proofs.Common.{◌++◌}
-use Rattle.aig_sat.proofs.reading.TakingLemmas.{if_ok, text_then, word_on, gap_whole}
+use Rattle.std.proofs.lemmas.Result.{IfOk-weaker}
+use Rattle.aig_sat.proofs.reading.TakingLemmas.{text_then, word_on, gap_whole}
 use Rattle.aig_sat.proofs.proof.text.text_literal.Goals as goal
 
 pub returns-clause-literal : goal.returns-clause-literal
 returns-clause-literal g c =
     let (xs, leads, took) = c.in_ok-skip_gap.ensures.gap in
-    if_ok c.text_word.result
+    IfOk-weaker c.text_word.result _ _
     (λ next h. (
       xs ++ h.0,
       word_on c.args.is_first c.args.bytes.now.previous c.skip_gap.new.bytes.previous c.text_word.new.bytes.previous xs h.0 next
@@ -33,7 +34,7 @@ returns-clause-goes_on g c =
     let (xs, leads, took) = c.in_ok-skip_gap.ensures.gap in
     let word = word_lacks (text_to_come c.args.bytes.now (g.R.Read.left c.args.reader.now)) (text_to_come c.skip_gap.new.bytes (g.R.Read.left c.skip_gap.new.reader)) c.args.is_first c.args.bytes.now.previous c.skip_gap.new.bytes.previous xs took.come took.previous
     (gap_whole xs leads) c.in_ok-skip_gap.ensures.whole in
-    if_ok c.text_word.result
+    IfOk-weaker c.text_word.result _ _
     (λ next h. goes_on_if (text_to_come c.skip_gap.new.bytes (g.R.Read.left c.skip_gap.new.reader)) (text_to_come c.text_word.new.bytes (g.R.Read.left c.text_word.new.reader)) c.args.is_first c.text_word.new.bytes.previous h.0 next
     (text_to_come c.args.bytes.now (g.R.Read.left c.args.reader.now)) c.args.bytes.now.previous h.2.come h.1 word)
     c.text_word.ensures.word

@@ -1,7 +1,7 @@
-use Rattle.std.proofs.lemmas.Bool.{false≢true}
+use Rattle.std.proofs.lemmas.Bool.{false≢true, true_from_ne_false}
 use Rattle.aig_sat.specs.proof.Steps.{text_to_come}
 use Rattle.aig_sat.proofs.models.ModelLemmas.{passed_fault}
-use Rattle.aig_sat.proofs.reading.TextRefusals.{digit_refused, true_if, word_refused, zero_refused}
+use Rattle.aig_sat.proofs.reading.TextRefusals.{digit_refused, word_refused, zero_refused}
 use Rattle.std.proofs.Common.{◌++◌, ◌∷◌, [], inl, inr, sym, ◌∙◌}
 use Rattle.aig_bytes.specs.Term.{minus}
 use Rattle.aig_sat.proofs.reading.TakingLemmas.{text_then, word_is, zero_is}
@@ -46,7 +46,7 @@ returns-in_err-end_word-clause-refused g c at is =
     let (digits, of, took) = c.in_ok-number.ensures.number in
     word_refused (text_to_come c.args.bytes.now (g.R.Read.left c.args.reader.now)) (text_to_come c.take_minus.new.bytes (g.R.Read.left c.take_minus.new.reader)) (text_to_come c.text_number.new.bytes (g.R.Read.left c.text_number.new.reader)) c.args.is_first c.in_ok-negated.negated c.in_ok-number.number digits c.in_ok-negated.ensures.taken.come
     took.come c.in_ok-negated.ensures.none of c.in_ok-number.ensures.ends
-    (λ none. true_if c.in_ok-negated.negated (λ plain. false≢true (sym c.if-is_end.false ∙ c.is_end.ensures.1 (none, plain))))
+    (λ none. true_from_ne_false c.in_ok-negated.negated (λ plain. false≢true (sym c.if-is_end.false ∙ c.is_end.ensures.1 (none, plain))))
     (inl (c.end_word.ensures.refused at (passed_fault c.end_word.result c.from_residual-in_err-end_word.result c.in_err-end_word.field-0.0 _ c.in_err-end_word.was c.from_residual-in_err-end_word.ensures.1 is)))
 
 pub returns-in-None-clause-refused : goal.returns-in-None-clause-refused
@@ -54,5 +54,5 @@ returns-in-None-clause-refused g c at is =
     let (digits, of, took) = c.in_ok-number.ensures.number in
     word_refused (text_to_come c.args.bytes.now (g.R.Read.left c.args.reader.now)) (text_to_come c.take_minus.new.bytes (g.R.Read.left c.take_minus.new.reader)) (text_to_come c.text_number.new.bytes (g.R.Read.left c.text_number.new.reader)) c.args.is_first c.in_ok-negated.negated c.in_ok-number.number digits c.in_ok-negated.ensures.taken.come
     took.come c.in_ok-negated.ensures.none of c.in_ok-number.ensures.ends
-    (λ none. true_if c.in_ok-negated.negated (λ plain. false≢true (sym c.if-is_end.false ∙ c.is_end.ensures.1 (none, plain))))
+    (λ none. true_from_ne_false c.in_ok-negated.negated (λ plain. false≢true (sym c.if-is_end.false ∙ c.is_end.ensures.1 (none, plain))))
     (inr (c.literal_of.ensures.none c.in-None.is))
