@@ -3,7 +3,8 @@ use Rattle.std.proofs.Common.{◌≡◌, inl, inr, ℕ, zero, suc, ◌<◌, ◌�
 use Rattle.std.proofs.Common.{get_or, Some, slice_get, slice_set, refl, sym, ap, ◌∙◌, subst, arith}
 use Rattle.std.specs.List.{AllZip}
 use Rattle.std.proofs.lemmas.Option.{same_Some, slice_get-get_or}
-use Rattle.std.proofs.lemmas.List.{append-nil, length-map}
+use Rattle.std.proofs.lemmas.List.{append-nil, length-map, nil_from_length}
+use Rattle.std.proofs.lemmas.Slice.Zip.{AllZip-long}
 use Rattle.aig_parts.specs.declared.ternary.Tern.{Tern}
 use Rattle.aig_parts.specs.declared.ternary.Tern.TheVariants.{X}
 use Rattle.aig_parts.specs.declared.raw.Raw.{Raw}
@@ -12,13 +13,11 @@ use Rattle.aig_sim.specs.declared.witness.verdict.Verdict.TheVariants as verdict
 use Rattle.aig_sim.specs.Verdict.{IsVerdict}
 use Rattle.aig_sim.specs.WitnessText.{Witness}
 use Rattle.aig_sim.proofs.Completions.{confirmed}
-use Rattle.aig_sim.proofs.WitnessLemmas.{no_rows}
 use Rattle.aig_values.specs.InputRows.{HaveWidth, row_at, with_cell}
 use Rattle.aig_reduce.specs.Irreducible.{IsConfirmedWitness, IsSameOrX, HoldsReduced}
 use Rattle.aig_reduce.specs.Reduction.{values_of, witness_of, with_x_between, IsKept, IsReduced}
 use Rattle.aig_reduce.specs.state.Reducing.{IsRunOf}
 use Rattle.aig_reduce.proofs.RunLemmas.{confirmed_reaches, reaches_confirmed, reaches_still}
-use Rattle.aig_base.proofs.lists.Items.{zip_length}
 
 -- ---- lists of values
 
@@ -74,7 +73,7 @@ cover_shape [] [] h = refl
 cover_shape [] (y ∷ w) h = absurd h
 cover_shape (x ∷ v) [] h = absurd h
 cover_shape (x ∷ v) (y ∷ w) h =
-    ap (λ (n : ℕ). n ∷ map length w) (zip_length IsSameOrX x y h.0) ∙ ap (λ (ns : List ℕ). length x ∷ ns) (cover_shape v w h.1)
+    ap (λ (n : ℕ). n ∷ map length w) (AllZip-long IsSameOrX x y h.0) ∙ ap (λ (ns : List ℕ). length x ∷ ns) (cover_shape v w h.1)
 
 -- lists of the same lengths, from what holds at each place
 row_covers : (new given : List Tern) → length new ≡ length given
@@ -288,7 +287,7 @@ run_shaped raw property (x ∷ v) (y ∷ w) e h =
     record {
       latches = first ∙ h.latches;
       widths = shaped_widths (length raw.inputs) v w more h.widths;
-      some = λ none. h.some (no_rows w (sym (lengths v w more) ∙ ap length none));
+      some = λ none. h.some (nil_from_length w (sym (lengths v w more) ∙ ap length none));
       property = h.property;
     }
 

@@ -6,6 +6,7 @@ use Rattle.std.specs.List.{AllZip}
 use Rattle.std.proofs.lemmas.Bool.{cases_eq, false≢true}
 use Rattle.std.proofs.lemmas.List.{get_or-replicate, length-map, length-replicate, length-set}
 use Rattle.std.proofs.lemmas.Option.{get_or_from_slice_get, slice_get-get_or, slice_get_within}
+use Rattle.std.proofs.lemmas.Slice.Zip.{AllZip-long}
 use Rattle.aig_parts.specs.Literal.{variable}
 use Rattle.aig_parts.specs.Ternary.{kleene_and}
 use Rattle.aig_parts.specs.declared.gate.Gate.{Gate}
@@ -34,7 +35,6 @@ use Rattle.aig_reduce.specs.state.Needed.{StillReaches}
 use Rattle.aig_reduce.proofs.CoveredValues.{covered}
 use Rattle.aig_reduce.proofs.Irreducibles.{shaped_widths, cover_shape}
 use Rattle.aig_reduce.proofs.Places.{row_within}
-use Rattle.aig_base.proofs.lists.Items.{zip_length}
 
 -- ---- marks
 
@@ -107,11 +107,11 @@ module _ (p : CircuitAndRows) (circuit : IsCircuit p.circuit) (widths : HaveWidt
     (property : ℕ) where
   module _ (start : List Tern) (rows : List (List Tern)) (k : StillReaches p property start rows) where
     frames : length rows ≡ length p.rows
-    frames = sym (zip_length (AllZip IsSameOrX) rows p.rows k.inputs)
+    frames = sym (AllZip-long (AllZip IsSameOrX) rows p.rows k.inputs)
 
     latches : length start ≡ length p.circuit.latches
     latches =
-        sym (zip_length IsSameOrX start (start_of p.circuit) k.starts)
+        sym (AllZip-long IsSameOrX start (start_of p.circuit) k.starts)
         ∙ length-map p.circuit.latches (λ (x : Latch). reset_value x.reset)
 
     -- a literal that is not 0 in the pair's run is not 0 in this one

@@ -5,6 +5,7 @@ use Rattle.std.specs.List.{AllZip}
 use Rattle.std.proofs.lemmas.Bool.{cases_eq, cases_lt}
 use Rattle.std.proofs.lemmas.List.{get_or-drop}
 use Rattle.std.proofs.lemmas.Option.{get_or_from_slice_get, same_Some}
+use Rattle.std.proofs.lemmas.Slice.Zip.{AllZip-long}
 use Rattle.aig_parts.specs.declared.ternary.Tern.{Tern}
 use Rattle.aig_parts.specs.declared.ternary.Tern.TheVariants.{One, X}
 use Rattle.aig_parts.specs.declared.raw.Raw.{Raw}
@@ -25,7 +26,6 @@ use Rattle.aig_reduce.proofs.Irreducibles.{run_shaped}
 use Rattle.aig_reduce.proofs.Places.{tried_more}
 use Rattle.aig_base.proofs.values.Resets.{value_with}
 use Rattle.aig_reduce.proofs.RunLemmas.{confirmed_reaches}
-use Rattle.aig_base.proofs.lists.Items.{zip_length}
 
 -- ---- values that were tried are the given ones or x
 
@@ -112,7 +112,7 @@ module _ (raw : Raw) (given : Witness) (circuit : IsCircuit raw) (g : IsConfirme
       (run_shaped raw given.property (start ∷ rows) (values_of given)
       (sym (cover_shape (start ∷ rows) (values_of given) (starts, inputs))) (run_of raw given g)) c in
       let frames : length pair.rows ≡ length rows =
-      ap length rows_are ∙ zip_length (AllZip IsSameOrX) rows given.rows inputs in
+      ap length rows_are ∙ AllZip-long (AllZip IsSameOrX) rows given.rows inputs in
       record {
         starts = subst (λ (s : List Tern). CoverRow start s) (sym h.start_is) starts;
         inputs = subst (λ (rs : List (List Tern)). CoverRows rows rs) (sym rows_are) inputs;

@@ -2,6 +2,7 @@
 use Rattle.std.proofs.Common.{◌≡◌, ◌≢◌, ◌⊎◌, inl, inr, ℕ, zero, suc, ◌-◌, ◌<◌, List, [], ◌∷◌, length, Some, slice_get}
 use Rattle.std.proofs.Common.{refl, sym, ap, ◌∙◌, subst, arith}
 use Rattle.std.specs.List.{AllZip}
+use Rattle.std.proofs.lemmas.Slice.Zip.{AllZip-long}
 use Rattle.aig_parts.specs.declared.ternary.Tern.{Tern}
 use Rattle.aig_parts.specs.declared.ternary.Tern.TheVariants.{Zero, One, X}
 use Rattle.aig_parts.specs.declared.raw.Raw.{Raw}
@@ -20,7 +21,6 @@ use Rattle.aig_sim.proofs.VerdictLemmas.{bad_defined, constraint_defined, reache
 use Rattle.aig_reduce.specs.Irreducible.{IsSameOrX}
 use Rattle.aig_reduce.specs.state.Reducing.{IsRunOf}
 use Rattle.aig_reduce.proofs.CoveredValues.{one_stays}
-use Rattle.aig_base.proofs.lists.Items.{zip_length}
 
 -- a run from an allowed start under which all constraints are 1, and at the last frame the property
 pub record Reaches (raw : Raw) (w : Witness) : Type 0 where
@@ -85,7 +85,7 @@ kept_if_known a b (inr same) differs = sym same
 module _ (raw : Raw) (sound : IsSound raw) (v w : Witness) (property : v.property ≡ w.property) (starts : AllZip IsSameOrX v.start w.start)
     (rows : AllZip (AllZip IsSameOrX) v.rows w.rows) where
   frames : length w.rows ≡ length v.rows
-  frames = zip_length (AllZip IsSameOrX) v.rows w.rows rows
+  frames = AllZip-long (AllZip IsSameOrX) v.rows w.rows rows
 
   one_still : (t l : ℕ) → Value raw v.start v.rows t l One → Value raw w.start w.rows t l One
   one_still t l k = one_stays raw v.start w.start v.rows w.rows starts rows k

@@ -3,6 +3,8 @@ use Rattle.std.proofs.Common.{◌≡◌, ◌≢◌, ◌⊎◌, inl, inr, ℕ, ze
 use Rattle.std.proofs.Common.{get_or, refl, sym, ap, ◌∙◌, subst, arith}
 use Rattle.std.specs.List.{AllZip}
 use Rattle.std.proofs.lemmas.Option.{slice_get-get_or, slice_get_within}
+use Rattle.std.proofs.lemmas.Slice.Zip.{AllZip-long}
+use Rattle.std.proofs.lemmas.List.{nil_from_length}
 use Rattle.aig_parts.specs.declared.ternary.Tern.{Tern}
 use Rattle.aig_parts.specs.declared.ternary.Tern.TheVariants.{Zero, One, X}
 use Rattle.aig_parts.specs.declared.raw.Raw.{Raw}
@@ -21,13 +23,6 @@ use Rattle.aig_values.specs.InputRows.{HaveWidth}
 use Rattle.aig_sim.specs.Verdict.{StartsWrong, IsNotOne, IsVerdict, IsConfirmed}
 use Rattle.aig_sim.specs.WitnessText.{Witness}
 use Rattle.aig_sim.proofs.VerdictLemmas.{bad_defined, constraint_defined}
-use Rattle.aig_sim.proofs.WitnessLemmas.{no_rows}
-
-zip_length : {A B : Type 0} (R : A → B → Type 0) (xs : List A) (ys : List B) → AllZip R xs ys → length ys ≡ length xs
-zip_length R [] [] h = refl
-zip_length R [] (y ∷ ys) h = absurd h
-zip_length R (x ∷ xs) [] h = absurd h
-zip_length R (x ∷ xs) (y ∷ ys) h = ap suc (zip_length R xs ys h.1)
 
 -- rows are as wide as those that they complete
 widths_kept : (width : ℕ) (rows rows' : List (List Tern)) → AllZip (AllZip Completes) rows rows' → HaveWidth width rows
@@ -35,7 +30,7 @@ widths_kept : (width : ℕ) (rows rows' : List (List Tern)) → AllZip (AllZip C
 widths_kept width [] [] all h k d lt = absurd (omega (arith, lt))
 widths_kept width [] (r' ∷ rows') all h k d lt = absurd all
 widths_kept width (r ∷ rows) [] all h k d lt = absurd all
-widths_kept width (r ∷ rows) (r' ∷ rows') all h zero d lt = zip_length Completes r r' all.0 ∙ h 0 d (omega arith)
+widths_kept width (r ∷ rows) (r' ∷ rows') all h zero d lt = AllZip-long Completes r r' all.0 ∙ h 0 d (omega arith)
 widths_kept width (r ∷ rows) (r' ∷ rows') all h (suc k) d lt =
     widths_kept width rows rows' all.1 (λ j e below. h (suc j) e (omega (arith, below))) k d (omega (arith, lt))
 
@@ -75,16 +70,16 @@ module _ (raw : Raw) (circuit : IsCircuit raw) (w : Witness) (latches : length w
 
   pub confirmed : w.rows ≢ [] → w.property < length raw.bad → IsVerdict raw w verdict.Confirmed → IsConfirmed raw w
   confirmed some there h start rows completion =
-      let frames : length rows ≡ length w.rows = zip_length (AllZip Completes) w.rows rows completion.1 in
+      let frames : length rows ≡ length w.rows = AllZip-long (AllZip Completes) w.rows rows completion.1 in
       let last : length w.rows - 1 < length w.rows = (elim (length_cases (length w.rows)) [
-        | inl e ↦ absurd (some (no_rows w.rows e))
+        | inl e ↦ absurd (some (nil_from_length w.rows e))
         | inr lt ↦ lt
       ]) in
       let b = get_or raw.bad w.property 0 in
       let at : slice_get raw.bad w.property ≡ Some b = slice_get-get_or raw.bad w.property 0 there in
       let end : length rows - 1 ≡ length w.rows - 1 = ap (λ (n : ℕ). n - 1) frames in (
         record {
-          latches = zip_length Completes w.start start completion.0 ∙ latches;
+          latches = AllZip-long Completes w.start start completion.0 ∙ latches;
           inputs = widths_kept (length raw.inputs) w.rows rows completion.1 widths;
         },
         starts_allowed start rows completion (λ p k. h.first (verdict.Initial p) (omega arith) k),

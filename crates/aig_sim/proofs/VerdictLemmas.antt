@@ -33,8 +33,8 @@ use Rattle.aig_sim.specs.WitnessText.{Witness, IsAdmitted, witness_rows_text}
 use Rattle.aig_values.proofs.Evaluation.{literal_has_value}
 use Rattle.aig_sim.proofs.OneText.{row_ends}
 use Rattle.aig_values.proofs.TraceLemmas.{holds_still, first_states}
-use Rattle.aig_sim.proofs.WitnessLemmas.{same_line, no_rows}
-use Rattle.std.proofs.lemmas.List.{length-take-le, take-append-drop, take_more, drop_more}
+use Rattle.aig_sim.proofs.WitnessLemmas.{same_line}
+use Rattle.std.proofs.lemmas.List.{length-take-le, take-append-drop, take_more, drop_more, nil_from_length}
 
 -- ---- literals that a witness asks for
 
@@ -277,7 +277,7 @@ module _ (raw : Raw) (w : Witness) where
   pub last_frame : (rest : List ℕ) (cells states : List Tern) → w.rows ≢ [] → HasRun raw w (length w.rows) rest cells states
       → HoldsAll raw w.start w.rows (length w.rows - 1) cells
   last_frame rest cells states some h = elim (cases_eq (length w.rows) 0) [
-    | inl e ↦ absurd (some (no_rows w.rows e))
+    | inl e ↦ absurd (some (nil_from_length w.rows e))
     | inr ne ↦ h.cells_are (length w.rows - 1) (omega (arith, ne))
   ]
 

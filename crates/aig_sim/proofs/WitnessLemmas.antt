@@ -173,10 +173,6 @@ same_line text row start rest more e f =
     (sym e ∙ f ∙ row_ends start more) in
     (same_row row start line, same)
 
-pub no_rows : (rows : List (List Tern)) → length rows ≡ 0 → rows ≡ []
-no_rows [] e = refl
-no_rows (row ∷ rows) e = absurd (omega (arith, e))
-
 -- ---- the whole text
 
 no_end_in_digits : {digits : List ℕ} {n : ℕ} → IsDecimal digits n → All (λ b. b ≢ 10) digits

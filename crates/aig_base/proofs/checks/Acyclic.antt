@@ -2,6 +2,7 @@
 use Rattle.std.proofs.Common.{◌≡◌, ◌⊎◌, inl, inr, ℕ, zero, suc, ◌+◌, ◌≤◌, max, List, [], ◌∷◌, slice_get, Some, refl}
 use Rattle.std.proofs.Common.{subst, arith}
 use Rattle.std.proofs.lemmas.Option.{same_Some}
+use Rattle.std.proofs.lemmas.Bool.{cases_eq}
 use Rattle.aig_parts.specs.declared.fault.Fault.{Fault}
 use Rattle.aig_parts.specs.declared.fault.Fault.TheVariants as fault
 use Rattle.aig_parts.specs.declared.gate.Gate.{Gate}
@@ -15,9 +16,6 @@ use Rattle.aig_base.specs.Sound.{IsSound}
 use Rattle.aig_base.proofs.levels.LevelBound.{level_bound}
 use Rattle.aig_base.proofs.checks.NoFault.{none}
 use Rattle.aig_base.proofs.levels.OneLevel.{level_of}
-
-same : (a b : ℕ) → (a ≡ b) ⊎ (a ≡ b → ⊥)
-same a b = grind arith
 
 -- an element with the one property, or all with the other
 any : {A : Type 0} (P Q : A → Type 0) → ((x : A) → P x ⊎ Q x) → (xs : List A)
@@ -40,10 +38,10 @@ module _ (raw : Raw) where
   source_cases : (v : ℕ) → IsSource raw v ⊎ (IsSource raw v → ⊥)
   source_cases zero = inl by.IsSource.constant
   source_cases (suc u) = elim (any (λ l. variable l ≡ suc u) (λ l. variable l ≡ suc u
-      → ⊥) (λ l. same (variable l) (suc u)) raw.inputs) [
+      → ⊥) (λ l. cases_eq (variable l) (suc u)) raw.inputs) [
         | inl (p, l, at, e) ↦ inl (subst (IsSource raw) e (by.IsSource.input p l at))
         | inr no_input ↦ elim (any (λ (x : Latch). variable x.lit ≡ suc u) (λ x. variable x.lit ≡ suc u
-            → ⊥) (λ x. same (variable x.lit) (suc u)) raw.latches) [
+            → ⊥) (λ x. cases_eq (variable x.lit) (suc u)) raw.latches) [
               | inl (p, x, at, e) ↦ inl (subst (IsSource raw) e (by.IsSource.latch p x at))
               | inr no_latch ↦ inr (λ s. neither (suc u) s refl no_input no_latch)
             ]
@@ -77,7 +75,7 @@ module _ (raw : Raw) where
   above (by.Level.gate q g a b at la lb) other = (q, g, a, b, at, refl, la, lb, refl)
 
   by_gate : (n v : ℕ) → ((u : ℕ) → Decided n u) → (g : Gate) → Supports v g ⊎ Fails n v g
-  by_gate n v sides g = elim (same (variable g.lhs) v) [
+  by_gate n v sides g = elim (cases_eq (variable g.lhs) v) [
     | inr ne ↦ inr (λ e a b la lb x y. ne e)
     | inl e ↦ elim (sides (variable g.rhs0)) [
       | inr never ↦ inr (λ e a b la lb x y. never a la x)

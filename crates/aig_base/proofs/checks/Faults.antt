@@ -5,6 +5,7 @@ use Rattle.std.proofs.Common.{All, Contains}
 use Rattle.std.specs.List.{Any, flat_map}
 use Rattle.std.proofs.lemmas.List.Elements.{All-append, All-nil, All-cons, All-map, All-contains}
 use Rattle.std.proofs.lemmas.Option.{slice_get-get_or, slice_get-map, same_Some}
+use Rattle.std.proofs.lemmas.Bool.{cases_eq}
 use Rattle.aig_parts.specs.declared.fault.Fault.{Fault}
 use Rattle.aig_parts.specs.declared.fault.Fault.TheVariants as fault
 use Rattle.aig_parts.specs.declared.gate.Gate.{Gate}
@@ -23,7 +24,7 @@ use Rattle.aig_base.specs.state.Ranged.{AreInRange, AreDefinedOnce, AreDefinitio
 use Rattle.aig_base.specs.Sections.{definitions, uses, IsDefined}
 use Rattle.aig_base.specs.Sound.{IsInRange, IsDefinition, IsRedefined, IsUndefined, IsReset, IsSound}
 use Rattle.aig_base.proofs.lists.Counting.{all_defined}
-use Rattle.aig_base.proofs.circuits.Entering.{contained, same_or_not}
+use Rattle.aig_base.proofs.circuits.Entering.{contained}
 use Rattle.aig_base.proofs.lists.Gets.{Contains-from_get, get_from_Contains, All-at}
 use Rattle.aig_base.proofs.lists.Joined.{All-left, All-right, All-unmap}
 use Rattle.aig_base.proofs.checks.Marking.{slice_get_unmap}
@@ -151,8 +152,8 @@ module _ (raw : Raw) where
   are_definitions_joined h = definitions_joined IsDefinition h.inputs h.latches h.gates
 
   definition_or_not : (l : ℕ) → IsDefinition l ⊎ (IsDefinition l → ⊥)
-  definition_or_not l = elim (same_or_not (l % 2) 0) [
-    | inl even ↦ elim (same_or_not l 0) [
+  definition_or_not l = elim (cases_eq (l % 2) 0) [
+    | inl even ↦ elim (cases_eq l 0) [
       | inl e ↦ inr (λ h. absurd (omega (arith, h.1)))
       | inr ne ↦ inl
           (even, omega arith)

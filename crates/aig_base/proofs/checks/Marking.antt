@@ -4,7 +4,7 @@ use Rattle.std.proofs.Common.{map, get_or, Bool, true, false, not, cond, Some, o
 use Rattle.std.proofs.Common.{arith, slice_get, Contains, Result, Ok, Err, OnOk, ◌≤◌, ◌%◌, replicate}
 use Rattle.std.proofs.Common.{get_or-set_other, get_or-set_same}
 use Rattle.std.proofs.lemmas.List.{length-set, length_push, set-get_or, length-replicate, get_or-replicate}
-use Rattle.std.proofs.lemmas.Bool.{cases_Bool}
+use Rattle.std.proofs.lemmas.Bool.{cases_Bool, cases_eq}
 use Rattle.std.proofs.lemmas.List.Elements.{Contains-push, Contains-push_cases, Contains-append_left}
 use Rattle.std.proofs.lemmas.List.Elements.{Contains-append_right, Contains-append_cases, All-contains}
 use Rattle.std.proofs.lemmas.List.Sums.{sum_by-set}
@@ -25,7 +25,6 @@ use Rattle.aig_base.specs.state.Marks.{IsMarked, AreGroundedMarks, sides, AreSta
 use Rattle.aig_base.specs.state.Marks.{IsMarking}
 use Rattle.aig_base.specs.state.Walk.{Meets}
 use Rattle.aig_base.proofs.lists.Chains.{leads_cases, leads_nowhere, side_first, side_second}
-use Rattle.aig_base.proofs.circuits.Entering.{same_or_not}
 use Rattle.aig_base.proofs.levels.LevelBound.{level_bound}
 use Rattle.aig_base.proofs.levels.OneLevel.{Grounded-of_level, same_level}
 use Rattle.aig_base.proofs.lists.Gets.{slice_get-set_same, slice_get-set_other, Contains-from_get, get_from_Contains}
@@ -44,12 +43,12 @@ module _ (v : ℕ) (marks : List Bool) (pending : List ℕ) where
         size = length-set marks v true;
         steps = omega (arith, length_push pending v, sums, one);
         marked = slice_get-set_same marks v true within;
-        kept = λ u h. elim (same_or_not u v) [
+        kept = λ u h. elim (cases_eq u v) [
           | inl e ↦ subst (λ w. slice_get (set marks v true) w ≡ Some true) (sym e)
               (slice_get-set_same marks v true within)
           | inr ne ↦ slice_get-set_other marks v u true ne ∙ h
         ];
-        new = λ u h. elim (same_or_not u v) [
+        new = λ u h. elim (cases_eq u v) [
           | inl e ↦ inr (e, subst (λ w. Contains (pending ++ v ∷ []) w) (sym e) (Contains-push pending v))
           | inr ne ↦ inl (sym (slice_get-set_other marks v u true ne) ∙ h)
         ];
@@ -182,7 +181,7 @@ module _ (raw : Raw) (next : List ℕ) (p link : ℕ) (gate : Gate) (at : slice_
   visit_both marks pending marks' pending' levels n is m0 m1 d i = record {
     low = i.low;
     size = length-set levels (variable gate.lhs) n ∙ i.size ∙ sym d.size;
-    each = λ u h. elim (same_or_not u (variable gate.lhs)) [
+    each = λ u h. elim (cases_eq u (variable gate.lhs)) [
       | inl e ↦ rw (e, get_or-set_same levels (variable gate.lhs) n 0 within, fits) level
       | inr ne ↦ elim (d.new u h) [
         | inl old ↦ rw (get_or-set_other levels (variable gate.lhs) u n 0 ne) (i.each u old)

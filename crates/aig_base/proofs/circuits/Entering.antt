@@ -7,6 +7,7 @@ use Rattle.std.proofs.lemmas.List.{length-append, length-map, length-set, length
 use Rattle.std.proofs.lemmas.List.{length_push}
 use Rattle.std.proofs.lemmas.List.Elements.{Contains-push_cases}
 use Rattle.std.proofs.lemmas.Option.{slice_get_within, same_Some}
+use Rattle.std.proofs.lemmas.Bool.{cases_eq}
 use Rattle.aig_parts.specs.declared.raw.Raw.{Raw}
 use Rattle.aig_base.specs.state.Definitions.{IsNumberOf}
 use Rattle.aig_base.specs.state.Entries.{IsLeastTwice, AreEntries}
@@ -20,19 +21,6 @@ use Rattle.aig_base.specs.Sound.{StandsTwice}
 use Rattle.aig_base.proofs.lists.LeastAmong.{at_most_or_over}
 use Rattle.aig_base.proofs.lists.Gets.{slice_get_left, slice_get_push, slice_get_last, slice_get-set_same}
 use Rattle.aig_base.proofs.lists.Gets.{slice_get-set_other, Contains-from_get, get_from_Contains}
-
-pub same_or_not : (u v : ℕ) → (u ≡ v) ⊎ (u ≡ v → ⊥)
-same_or_not u v = elim (cases u v) [
-  | inl l ↦ inr (λ e. omega arith)
-  | inr r ↦ elim r [
-    | inl e ↦ inl e
-    | inr l ↦ inr
-        (λ e. omega arith)
-  ]
-]
-  where
-    cases : (i j : ℕ) → (i < j) ⊎ ((i ≡ j) ⊎ (j < i))
-    cases i j = grind arith
 
 module _ (xs : List ℕ) (y : ℕ) where
   twice_left : (v : ℕ) → StandsTwice xs v → StandsTwice (xs ++ y ∷ []) v
@@ -125,7 +113,7 @@ module _ (max_var : ℕ) (done table : List ℕ) (again : Option ℕ) (v : ℕ) 
       let within : v < length table = slice_get_within table v 0 at in
       record {
         size = length-set table v n ∙ h.size;
-        numbers = λ u m here. elim (same_or_not u v) [
+        numbers = λ u m here. elim (cases_eq u v) [
           | inl e ↦
               let there : slice_get (set table v n) v ≡ Some m =
               subst (λ w. slice_get (set table v n) w ≡ Some m) e here in
@@ -142,7 +130,7 @@ module _ (max_var : ℕ) (done table : List ℕ) (again : Option ℕ) (v : ℕ) 
       → AreEntries max_var (done ++ v ∷ []) table (lesser again (Some v))
   enter_again n at some = record {
     size = h.size;
-    numbers = λ u m here. elim (same_or_not u v) [
+    numbers = λ u m here. elim (cases_eq u v) [
       | inl e ↦
           let same : n ≡ m = same_Some n m (sym at ∙ subst (λ w. slice_get table w ≡ Some m) e here) in
           number_kept done v u m (λ z. some (same ∙ z)) (h.numbers u m here)

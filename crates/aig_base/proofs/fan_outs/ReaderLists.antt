@@ -2,7 +2,7 @@
 use Rattle.std.proofs.Common.{◌≡◌, ◌≢◌, ◌⊎◌, ◌↔◌, inl, inr, ℕ, zero, suc, ◌+◌, ◌-◌, ◌<◌, ◌≤◌, List, [], ◌∷◌, ◌++◌}
 use Rattle.std.proofs.Common.{length, map, get_or, set, true, cond, nat_eq, nat_lt, count_by, Contains, slice_get, Some}
 use Rattle.std.proofs.Common.{Result}
-use Rattle.std.proofs.Common.{Ok, Err, OnErr, OnOk, refl, sym, ◌∙◌, ap, subst, arith, swap_remove, get_or-set_other}
+use Rattle.std.proofs.Common.{Ok, Err, OnErr, refl, sym, ◌∙◌, ap, subst, arith, swap_remove, get_or-set_other}
 use Rattle.std.proofs.Common.{get_or-set_same, length-set}
 use Rattle.std.proofs.lemmas.Bool.{cases_eq, eq-eqb, ne_eqb}
 use Rattle.std.proofs.lemmas.List.{length-map}
@@ -512,10 +512,6 @@ module _ (raw : Raw) (sound : IsSound raw) (i : ℕ) (g : Gate) (at : slice_get 
     only = only_more;
     all = all_more;
   }
-
-pub on_ok : {A E : Type 0} (r : Result A E) (P Q : Type 0) → (P → Q) → OnOk r P → OnOk r Q
-on_ok (Ok x) P Q f p = f p
-on_ok (Err e) P Q f p = tt
 
 pub gate_at : (raw : Raw) (gates : List Gate) (i : ℕ) (g : Gate) → gates ≡ raw.gates → i < length gates → g
     ≡ get_or gates i g

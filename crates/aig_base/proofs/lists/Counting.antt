@@ -1,10 +1,10 @@
 -- How many entries lists without repetition have.
 use Rattle.std.proofs.Common.{◌≡◌, ℕ, ◌+◌, ◌-◌, ◌<◌, ◌≤◌, List, [], ◌∷◌, ◌++◌, inl, inr, suc, length, map, get_or, eqb}
-use Rattle.std.proofs.Common.{false, Some, slice_get, All, Contains, refl, sym, ap, ◌∙◌, arith, subst, length-append}
+use Rattle.std.proofs.Common.{Some, slice_get, All, Contains, refl, sym, ap, ◌∙◌, arith, subst, length-append}
 use Rattle.std.specs.List.{IsDistinct, range_with_len}
 use Rattle.std.specs.Set.{is_member}
-use Rattle.std.proofs.lemmas.Bool.{cases_Bool, cases_eq, false≢true}
-use Rattle.std.proofs.lemmas.Bool.Decides.{Decides-eqb, nat_tests}
+use Rattle.std.proofs.lemmas.Bool.{cases_Bool, cases_eq, false≢true, ne_eqb}
+use Rattle.std.proofs.lemmas.Bool.Decides.{Decides-eqb}
 use Rattle.std.proofs.lemmas.Map.Made.{is_member-Decides, length-le_from_is_member}
 use Rattle.std.proofs.lemmas.Map.Keys.{IsDistinct-from_apart}
 use Rattle.std.proofs.lemmas.List.{length-map, length_push}
@@ -26,12 +26,9 @@ use Rattle.aig_base.proofs.lists.Positions.{unmap, unmap_option, Contains-from_s
 use Rattle.aig_base.proofs.circuits.Roles.{one_place}
 use Rattle.aig_parts.proofs.SymbolKeys.{equivalence_from_same}
 
-eqb-false : (a b : ℕ) → (a ≡ b → ⊥) → eqb a b ≡ false
-eqb-false a b h = grind (arith, nat_tests)
-
 pub distinct : (xs : List ℕ) → ((x : ℕ) → StandsTwice xs x → ⊥) → IsDistinct eqb xs
 distinct xs never = IsDistinct-from_apart eqb xs (λ i j d lt below.
-    eqb-false (get_or xs i d) (get_or xs j d) (λ e.
+    ne_eqb (get_or xs i d) (get_or xs j d) (λ e.
     never (get_or xs j d) (i, j, lt, slice_get-get_or xs i d (omega arith) ∙ ap Some e, slice_get-get_or xs j d below)))
 
 -- a list without repetition is no longer than one that has its elements

@@ -7,6 +7,7 @@ use Rattle.std.proofs.lemmas.List.{append-nil, append_assoc, map-append}
 use Rattle.std.proofs.lemmas.List.Concat.{flat_map-append}
 use Rattle.std.proofs.lemmas.List.Elements.{All-weaker}
 use Rattle.std.proofs.lemmas.List.Kept.{AllPairs-cons}
+use Rattle.std.proofs.lemmas.Bool.{cases_eq}
 use Rattle.aig_parts.specs.declared.symbols.Kind.{Kind}
 use Rattle.aig_parts.specs.declared.symbols.Kind.TheVariants as kinds
 use Rattle.aig_parts.specs.SymbolPlaces.{Key}
@@ -15,7 +16,7 @@ use Rattle.aig_base.specs.declared.select.PropertySection.TheVariants as section
 use Rattle.aig_base.specs.Selected.{kind_of, places_from, moved, kept_entries, kept_symbols}
 use Rattle.aig_base.proofs.lists.Positions.{Contains-cons, Contains-from_slice_get, unmap}
 use Rattle.aig_base.proofs.selections.Distinct.{pairs_none, pairs_one, pairs_left, pairs_mapped, pieces_distinct}
-use Rattle.aig_base.proofs.selections.PropertyChains.{places_above, places_first, places_later, same_or_other}
+use Rattle.aig_base.proofs.selections.PropertyChains.{places_above, places_first, places_later}
 
 -- ---- positions of a number
 
@@ -28,7 +29,7 @@ place_is i (q ∷ qs) p j c =
     (let (low, high, is) = place_is (i + 1) qs p j h in
     let next : j - i ≡ suc (j - (i + 1)) = omega (arith, low) in
     (omega (arith, low), omega (arith, high), ap (λ n. get_or (q ∷ qs) n 0) next ∙ is)) in
-    elim (same_or_other q p) [
+    elim (cases_eq q p) [
       | inl same ↦ elim (Contains-cons i (places_from (i + 1) qs p) j
           (subst (λ n. Contains (places_from i (q ∷ qs) n) j → Contains (i ∷ places_from (i + 1) qs n) j) same
           (λ h. subst (λ xs. Contains xs j) (places_first i q qs) h) c)) [

@@ -1,9 +1,10 @@
 -- Chains of positions by their numbers.
-use Rattle.std.proofs.Common.{◌≡◌, ◌≢◌, ◌⊎◌, inl, inr, ℕ, ◌+◌, ◌<◌, ◌≤◌, ◌==◌, true, false, cond, List, [], ◌∷◌, length}
+use Rattle.std.proofs.Common.{◌≡◌, ◌≢◌, inl, inr, ℕ, ◌+◌, ◌<◌, ◌≤◌, ◌==◌, true, false, cond, List, [], ◌∷◌, length}
 use Rattle.std.proofs.Common.{get_or, set, drop}
 use Rattle.std.proofs.Common.{refl, sym, ap, subst, ◌∙◌, arith, rules, All, replicate}
 use Rattle.std.proofs.lemmas.List.{length-set, get_or-set_same, get_or-set_other, drop_more, drop_all, get_or-replicate}
 use Rattle.std.proofs.lemmas.List.Elements.{All-nil, All-cons, All-head, All-tail, All-weaker}
+use Rattle.std.proofs.lemmas.Bool.{cases_eq}
 use Rattle.aig_base.specs.Selected.{places_from}
 use Rattle.aig_base.specs.state.PropertyPlaces.{IsChain, ArePlacesFrom, ArePlaces}
 
@@ -63,9 +64,6 @@ module _ (next : List ℕ) (i : ℕ) (lt : i < length next) where
         subst (λ n. IsChain (set next i v) n js) (sym e) (chain_stays v v js above c),
       )
 
-pub same_or_other : (a b : ℕ) → (a ≡ b) ⊎ (a ≢ b)
-same_or_other a b = grind arith
-
 -- one position more
 pub link_more : (numbers first next : List ℕ) (i q : ℕ) → i < length numbers → i < length next → q ≡ get_or numbers i 0
     → q < length first → ArePlacesFrom (i + 1) (drop (i + 1) numbers) first next
@@ -77,7 +75,7 @@ link_more numbers first next i q lt within is below h = record {
       let over : (n : ℕ) → All (λ j. i < j) (places_from (i + 1) rest n) = λ n.
       All-weaker (λ j. i + 1 ≤ j) (λ j. i < j) (λ j k. omega arith) _ (places_above (i + 1) rest n) in
       let inside : p < length first = omega (arith, pl, length-set first q i) in
-      elim (same_or_other q p) [
+      elim (cases_eq q p) [
         | inl same ↦
             let at : get_or (set first q i) q 0 ≡ i = get_or-set_same first q i 0 below in
             let js : places_from i (drop i numbers) q ≡ i ∷ places_from (i + 1) rest q = ap (λ xs. places_from i xs q) e ∙ places_first i q rest in

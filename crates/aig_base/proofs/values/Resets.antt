@@ -5,6 +5,7 @@ use Rattle.std.specs.List.{AllZip}
 use Rattle.std.proofs.lemmas.Bool.Decides.{eqb_tells}
 use Rattle.std.proofs.lemmas.List.{append-nil, drop_all, length-map, take_all}
 use Rattle.std.proofs.lemmas.Option.{same_Some}
+use Rattle.std.proofs.lemmas.Slice.Zip.{AllZip-long}
 use Rattle.aig_parts.specs.declared.ternary.Tern.{Tern}
 use Rattle.aig_parts.specs.declared.ternary.Tern.TheVariants.{Zero, One, X}
 use Rattle.aig_parts.specs.declared.latch.Latch.{Latch}
@@ -18,7 +19,6 @@ use Rattle.aig_base.proofs.circuits.Circuits.{latch_definition}
 use Rattle.aig_base.proofs.circuits.Places as places
 use Rattle.aig_base.proofs.values.Refined.{AllZip-slice_get}
 use Rattle.aig_base.specs.Resets.{IsSameLatch, HasOtherResets}
-use Rattle.aig_base.proofs.lists.Items.{zip_length}
 
 -- ---- values do not depend on resets
 
@@ -171,7 +171,7 @@ pub start_length : (raw : Raw) → length (start_of raw) ≡ length raw.latches
 start_length raw = length-map raw.latches (λ x. reset_value x.reset)
 
 pub latches_length : (raw other : Raw) → HasOtherResets raw other → length other.latches ≡ length raw.latches
-latches_length raw other h = zip_length IsSameLatch raw.latches other.latches h.latches
+latches_length raw other h = AllZip-long IsSameLatch raw.latches other.latches h.latches
 
 -- the start so far, one latch more
 pub start_more : (raw c : Raw) (start : List Tern) (lit : ℕ) (w : Tern) (i : ℕ) (y : Latch) → IsSound c

@@ -1,6 +1,7 @@
 use Rattle.std.proofs.Common.{sym, ap, ◌∙◌, length}
+use Rattle.std.proofs.lemmas.List.{nil_from_length}
 use Rattle.aig_sim.specs.WitnessText.{witness_rows_text}
-use Rattle.aig_sim.proofs.WitnessLemmas.{if_none, same_line, no_rows, one_rows}
+use Rattle.aig_sim.proofs.WitnessLemmas.{if_none, same_line, one_rows}
 use Rattle.aig_sim.proofs.witness.text.body_of.Goals as goal
 
 pub returns-in_err-frames-clause-none : goal.returns-in_err-frames-clause-none
@@ -21,4 +22,4 @@ returns-then-frames-eq0-clause-none c =
       widths = widths;
       text_is = (same_line c.args.text.now row start c.in_ok-rows.rows.now (witness_rows_text rows) is text_is).1;
     }) in
-    some (no_rows rows (ap length (sym same) ∙ count ∙ c.if-frames-eq0.true))
+    some (nil_from_length rows (ap length (sym same) ∙ count ∙ c.if-frames-eq0.true))

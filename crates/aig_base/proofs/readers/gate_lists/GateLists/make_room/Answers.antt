@@ -1,11 +1,12 @@
 use Rattle.std.proofs.Common.{◌<◌, ◌≤◌, length, map, OnErr, subst, sym, refl, ◌∙◌, arith}
 use Rattle.std.proofs.lemmas.List.{length-map}
+use Rattle.std.proofs.lemmas.Result.{on_ok_weaker}
 use Rattle.aig_base.specs.Readers.{GateList}
 use Rattle.aig_base.specs.state.GateLists.{RoomyLists, far_list, slot_list}
 use Rattle.aig_base.proofs.fan_outs.GateListLemmas.{gets_none, list_was, listed, moved_kept, moved_lists, moved_room}
 use Rattle.aig_base.proofs.fan_outs.GateListLemmas.{slot_at, slot_few, vec_roomy, written_kept, written_list}
 use Rattle.aig_base.proofs.fan_outs.GateListLemmas.{written_room}
-use Rattle.aig_base.proofs.fan_outs.ReaderLists.{fits_set, on_ok}
+use Rattle.aig_base.proofs.fan_outs.ReaderLists.{fits_set}
 use Rattle.aig_base.proofs.readers.gate_lists.GateLists.make_room.Goals as goal
 
 pub double_full-requires : goal.double_full-requires
@@ -56,7 +57,7 @@ returns-then-is_far-clause-ok c =
     let s = c.index.result.now in
     let at = slot_at far slots v s lt c.index.ensures in
     let count = c.is_far.ensures.far.0 c.if-is_far.true in
-    on_ok c.double_full.result _ _
+    on_ok_weaker c.double_full.result
     (λ room. fits_set (map (slot_list far) slots) _ v (far_list c.double_full.new.list) lt
     (written_list c.self.inside.far.items slots v c.position.result s c.index_mut.result.now
     c.double_full.new.list at count c.position.ensures c.index_mut.ensures.value c.self.invariant)
