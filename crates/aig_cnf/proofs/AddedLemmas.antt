@@ -1,29 +1,22 @@
 -- Clauses that are given to a checker, piece by piece.
-use Rattle.std.proofs.Common.{◌≡◌, ℕ, ◌+◌, ◌<◌, length, take, drop, get_or, Bool, true, false, ◌&&◌, List, [], ◌∷◌}
+use Rattle.std.proofs.Common.{◌≡◌, ℕ, ◌+◌, ◌<◌, length, take, drop, get_or, Bool, true, List, [], ◌∷◌}
 use Rattle.std.proofs.Common.{◌++◌, refl, sym, ◌∙◌, ap, subst}
 use Rattle.std.specs.List.{list_all, flat_map}
 use Rattle.std.proofs.lemmas.List.{append-nil, take-append-drop, take_more}
 use Rattle.std.proofs.lemmas.List.Concat.{flat_map-append}
+use Rattle.std.proofs.lemmas.Bool.{and_parts, and_from}
 use Rattle.aig_sat.specs.checker.Clause.{meets, Satisfies}
 use Rattle.aig_sat.specs.checker.Consequence.{Follows}
 use Rattle.aig_cnf.specs.state.Added.{Adds}
-
-both : (x y : Bool) → (x && y) ≡ true → (x ≡ true) × (y ≡ true)
-both true y e = (refl, e)
-both false y e = cc
-
-and : (x y : Bool) → x ≡ true → y ≡ true → (x && y) ≡ true
-and true y e f = f
-and false y e f = cc
 
 -- the first clauses and the others
 pub satisfies_parts : (values : ℕ → Bool) (xs ys : List (List ℕ)) → Satisfies values (xs ++ ys)
     → Satisfies values xs × Satisfies values ys
 satisfies_parts values [] ys h = (refl, h)
 satisfies_parts values (x ∷ xs) ys h =
-    let (first, rest) = both (meets values x) (list_all (meets values) (xs ++ ys)) h in
+    let (first, rest) = and_parts (meets values x) (list_all (meets values) (xs ++ ys)) h in
     let (left, right) = satisfies_parts values xs ys rest in
-    (and (meets values x) (list_all (meets values) xs) first left, right)
+    (and_from (meets values x) (list_all (meets values) xs) first left, right)
 
 pub adds_none : (old : List (List ℕ)) → Adds [] old old
 adds_none old = record { satisfied = λ values h s. s }
@@ -31,7 +24,7 @@ adds_none old = record { satisfied = λ values h s. s }
 pub adds_one : (clause : List ℕ) (old new : List (List ℕ)) → Follows (clause ∷ old) new → Adds (clause ∷ []) old new
 adds_one clause old new follows = record {
   satisfied = λ values h s.
-      follows values (and (meets values clause) (list_all (meets values) old) (both (meets values clause) true h).0 s);
+      follows values (and_from (meets values clause) (list_all (meets values) old) (and_parts (meets values clause) true h).0 s);
 }
 
 pub adds_then : {xs ys old middle new : List (List ℕ)} → Adds xs old middle → Adds ys middle new → Adds (xs ++ ys) old new

@@ -1,7 +1,7 @@
 -- The file that is read is spelled so, and what is spelled so is read.
 use Rattle.std.proofs.Common.{◌≡◌, inl, inr, ℕ, ◌+◌, Bool, true, false, cond, not, eqb, eq-eqb}
 use Rattle.std.proofs.Common.{subst, List, [], ◌++◌, length, Result, Ok, Err, refl, sym, ap, ◌∙◌, arith}
-use Rattle.std.proofs.lemmas.Bool.{ltb-false, le-ltb, eqb-true}
+use Rattle.std.proofs.lemmas.Bool.{ltb-false, le-ltb, eqb-true, not-false}
 use Rattle.aig_parts.specs.declared.raw.Raw.{Raw}
 use Rattle.aig_format.specs.declared.reader.header.Format.{Format}
 use Rattle.aig_format.specs.declared.reader.header.Format.TheVariants.{Ascii, Binary}
@@ -68,10 +68,6 @@ ascii_spells bytes c left raw h fine r =
       spelled = r2.spelled bytes (header_line Ascii h2.least (counts_of raw)) h2.spelled;
     }
 
-not_false : (b : Bool) → not b ≡ false → b ≡ true
-not_false true e = refl
-not_false false e = sym e
-
 binary_spells : (bytes : List ℕ) (c : Counts) (left : List ℕ) (raw : Raw) → HeaderRead bytes Binary c left
     → are_wrong Binary c ≡ false → BinaryRead c left raw → SpellsBinary bytes raw
 unfolding binary
@@ -82,7 +78,7 @@ binary_spells bytes c left raw h fine r =
     let fine2 : are_wrong Binary (counts_of raw) ≡ false = subst (λ (k : Counts). are_wrong Binary k ≡ false) is fine in
     let r2 : BinaryRead (counts_of raw) left raw = subst (λ (k : Counts). BinaryRead k left raw) is r in
     let exact : raw.max_var ≡ length raw.inputs + length raw.latches + length raw.gates =
-    eqb-true _ _ (not_false _ fine2) in
+    eqb-true _ _ (not-false _ fine2) in
     let both = binary_numbers left raw r2 h2.within exact in
     record {
       parts = record {

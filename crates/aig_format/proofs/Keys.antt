@@ -1,7 +1,7 @@
 -- What a symbol names, by its letter and its position.
 use Rattle.std.proofs.Common.{◌≡◌, ℕ, Bool, true, false, ◌==◌, eqb, eq-eqb, List}
 use Rattle.std.proofs.Common.{refl, sym, ap, Contains}
-use Rattle.std.proofs.lemmas.Bool.{eqb-true}
+use Rattle.std.proofs.lemmas.Bool.{eqb-true, false_from_ne_true}
 use Rattle.std.proofs.lemmas.Map.Views.{list_any-from_Contains, Contains-from_any}
 use Rattle.std.specs.Cmp.{IsEquivalence}
 use Rattle.std.specs.Map.{keys_of}
@@ -47,10 +47,6 @@ pub is_named_from : (kind : Kind) (position : ℕ) (named : List Entry) → Cont
     → is_named kind position named ≡ true
 is_named_from kind position named h = list_any-from_Contains same_laws (kind, position) (keys_of named) h
 
-not_true : (b : Bool) → (b ≡ true → ⊥) → b ≡ false
-not_true true h = absurd (h refl)
-not_true false h = refl
-
 pub not_named_from : (kind : Kind) (position : ℕ) (named : List Entry)
     → (Contains (keys_of named) (kind, position) → ⊥) → is_named kind position named ≡ false
-not_named_from kind position named h = not_true (is_named kind position named) (λ e. h (named_is kind position named e))
+not_named_from kind position named h = false_from_ne_true (is_named kind position named) (λ e. h (named_is kind position named e))

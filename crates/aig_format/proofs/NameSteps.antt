@@ -1,10 +1,10 @@
 -- How reading of names and symbols goes on, for loops.
-use Rattle.std.proofs.Common.{◌≡◌, ◌≢◌, ℕ, ◌+◌, ◌<◌, ◌≤◌, Contains, leb, false, eqb, All, length, take, drop, slice_get}
+use Rattle.std.proofs.Common.{◌≡◌, ◌≢◌, ℕ, ◌+◌, ◌<◌, ◌≤◌, Contains, false, eqb, All, length, take, drop, slice_get}
 use Rattle.std.proofs.Common.{List, [], ◌∷◌, ◌++◌, Option, Some, Ok, Err, refl, sym, ap, ◌∙◌, append_assoc}
 use Rattle.std.proofs.Common.{arith}
 use Rattle.std.proofs.lemmas.Bool.Decides.{nat_tests}
 use Rattle.std.specs.Option.{is_some}
-use Rattle.std.proofs.lemmas.Bool.{true≢false}
+use Rattle.std.proofs.lemmas.Bool.{true≢false, lt-leb}
 use Rattle.std.proofs.lemmas.Option.{get_or_from_slice_get}
 use Rattle.std.proofs.lemmas.List.{append-nil, drop-append-le, drop_more, take-append-drop}
 use Rattle.std.proofs.lemmas.List.Elements.{All-head, All-tail}
@@ -85,19 +85,16 @@ line_cut front (x ∷ left) mid o whole h none so_far =
 
 -- ---- positions
 
-lt-leb-false : (a b : ℕ) → b < a → leb a b ≡ false
-lt-leb-false a b lt = grind (arith, nat_tests)
-
 pub position_named : (c : Counts) (named : List Entry) (kind : Kind) (bytes : List ℕ) (p : ℕ) (rest : List ℕ)
     → number_at greatest bytes ≡ Ok (p, rest)
     → p < count_of c kind → Contains (keys_of named) (kind, p) → position_at c named kind bytes ≡ Err text
 unfolding position_at
 position_named c named kind bytes p rest h lt there =
-    rw (h, lt-leb-false (count_of c kind) p lt, is_named_from kind p named there) refl
+    rw (h, lt-leb (count_of c kind) p lt, is_named_from kind p named there) refl
 
 pub position_free : (c : Counts) (named : List Entry) (kind : Kind) (bytes : List ℕ) (p : ℕ) (rest : List ℕ)
     → number_at greatest bytes ≡ Ok (p, rest)
     → p < count_of c kind → (Contains (keys_of named) (kind, p) → ⊥) → position_at c named kind bytes ≡ Ok (p, rest)
 unfolding position_at
 position_free c named kind bytes p rest h lt free =
-    rw (h, lt-leb-false (count_of c kind) p lt, not_named_from kind p named free) refl
+    rw (h, lt-leb (count_of c kind) p lt, not_named_from kind p named free) refl

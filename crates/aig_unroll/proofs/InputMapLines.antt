@@ -4,7 +4,7 @@ use Rattle.std.proofs.Common.{[], ◌∷◌, ◌++◌, length, drop, get_or, Con
 use Rattle.std.proofs.Common.{refl, sym, ap, ◌∙◌, arith, append_assoc, add-one}
 use Rattle.std.specs.Prelude.{◌==◌, if◌then◌else◌}
 use Rattle.std.specs.Map.{keys_of}
-use Rattle.std.proofs.lemmas.Bool.{eqb-true, eq-eqb, false≢true}
+use Rattle.std.proofs.lemmas.Bool.{eqb-true, eq-eqb, false≢true, and_parts}
 use Rattle.std.proofs.lemmas.List.{append-nil, get_or-map, length-map, drop_more, drop_all}
 use Rattle.std.proofs.lemmas.List.FromFn.{length-map-range_with_len, get_or-map-range_with_len}
 use Rattle.aig_bytes.specs.Bytes.{Writes}
@@ -39,11 +39,6 @@ only_latch kinds.Constraint h = absurd (false≢true h)
 only_latch kinds.Justice h = absurd (false≢true h)
 only_latch kinds.Fairness h = absurd (false≢true h)
 
-both : (a b : Bool) → a && b ≡ true → (a ≡ true) × (b ≡ true)
-both true true h = (refl, refl)
-both true false h = (refl, h)
-both false b h = (h, absurd (cc))
-
 -- where the test chooses one section
 module _ (test : Kind → Bool) (kind : Kind) (own : test kind ≡ true) (only : (k : Kind) → test k ≡ true → k ≡ kind) where
   abbrev is_entry : Key → ℕ → Bool
@@ -51,7 +46,7 @@ module _ (test : Kind → Bool) (kind : Kind) (own : test kind ≡ true) (only :
 
   same_entry : (k : Key) (p : ℕ) → is_entry k p ≡ true → k ≡ (kind, p)
   same_entry k p h =
-      let (a, b) = both (test k.0) (k.1 == p) h in
+      let (a, b) = and_parts (test k.0) (k.1 == p) h in
       let e = only k.0 a in
       let q = eqb-true k.1 p b in
       λ i. (e i, q i)

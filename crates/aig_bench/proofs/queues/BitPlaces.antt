@@ -1,8 +1,8 @@
 -- Places of words, and the numbers that they stand for.
-use Rattle.std.proofs.Common.{◌≡◌, ◌≢◌, ◌⊎◌, ◌↔◌, inl, inr, ℕ, ◌+◌, ◌-◌, ◌*◌, ◌/◌, ◌%◌, ◌^◌, ◌<◌, ◌≤◌, List, length}
+use Rattle.std.proofs.Common.{◌≡◌, ◌≢◌, ◌↔◌, inl, inr, ℕ, ◌+◌, ◌-◌, ◌*◌, ◌/◌, ◌%◌, ◌^◌, ◌<◌, ◌≤◌, List, length}
 use Rattle.std.proofs.Common.{get_or, set, bit_and, bit_or, w64, Option, Some, None, IfNone, refl, sym, ap, ◌∙◌, arith}
 use Rattle.std.specs.Int.{bit_at, trailing_zeros}
-use Rattle.std.proofs.lemmas.Bool.{cases_eq}
+use Rattle.std.proofs.lemmas.Bool.{cases_eq, cases_lt}
 use Rattle.std.proofs.lemmas.List.{get_or_read}
 use Rattle.std.proofs.lemmas.Nat.{div-add-mod', pow_pos}
 use Rattle.std.proofs.lemmas.Nat.Bits.{bit_at_cat_high, bit_at-trailing_zeros, bit_at-zero, bit_at_above}
@@ -37,9 +37,6 @@ under from q t le lt = omega arith
 at_least : (from t : ℕ) → from ≤ from + t
 at_least from t = omega arith
 
-less_or : (a b : ℕ) → (a < b) ⊎ (b ≤ a)
-less_or a b = grind arith
-
 positive : (n : ℕ) → n ≢ 0 → 0 < n
 positive n ne = omega arith
 
@@ -52,7 +49,7 @@ first_set word from fits some =
     let here : bit_at word (from + t) ≡ 1 =
     bit_above word from (from + t) (at_least from t) ∙ ap (λ (i : ℕ). bit_at rest i) (back from t) ∙ h.1 in (
       at_least from t,
-      elim (less_or (from + t) 64) [
+      elim (cases_lt (from + t) 64) [
         | inl lt ↦ lt
         | inr le ↦ absurd (differ (bit_at word (from + t)) (bit_at_above word 64 (from + t) fits le) here)
       ],
@@ -134,7 +131,7 @@ module _ (words : List ℕ) (from word : ℕ) (inside : from / 64 < length words
 
 -- two stretches without a number
 pub none_then : (words : List ℕ) (from mid end : ℕ) → HasNone words from mid → HasNone words mid end → HasNone words from end
-none_then words from mid end h k n le lt has = elim (less_or n mid) [
+none_then words from mid end h k n le lt has = elim (cases_lt n mid) [
   | inl below ↦ h n le below has
   | inr above ↦ k n above lt has
 ]
@@ -147,7 +144,7 @@ first_then words from word n le h (above, lt, has, none) =
 
 pub none_at_all : (words : List ℕ) (from word : ℕ) → HasNone words from (word * 64) → length words ≤ word
     → IsFirstFrom words from None
-none_at_all words from word h over n le has = elim (less_or n (word * 64)) [
+none_at_all words from word h over n le has = elim (cases_lt n (word * 64)) [
   | inl below ↦ h n le below has
   | inr above ↦ past words n (omega arith) has
 ]
@@ -159,7 +156,7 @@ module _ (words filled : List ℕ) (set : IsLevelSet words filled) where
   -- no word after this one has a number
   pub none_filled : (from : ℕ) → HasNone words from ((from / 64 + 1) * 64) → IsFirstFrom filled (from / 64 + 1) None
       → IsFirstFrom words from None
-  none_filled from h k n le has = elim (less_or n ((from / 64 + 1) * 64)) [
+  none_filled from h k n le has = elim (cases_lt n ((from / 64 + 1) * 64)) [
     | inl below ↦ h n le below has
     | inr above ↦ k (n / 64) (omega arith) (filled_of n has)
   ]
@@ -170,7 +167,7 @@ module _ (words filled : List ℕ) (set : IsLevelSet words filled) where
   next_filled from w n h (above, has, least) k = first_then words from w n (omega arith) before k
     where
       before : HasNone words from (w * 64)
-      before m le lt is = elim (less_or m ((from / 64 + 1) * 64)) [
+      before m le lt is = elim (cases_lt m ((from / 64 + 1) * 64)) [
         | inl below ↦ h m le below is
         | inr over ↦ least (m / 64) (omega arith) (omega arith) (filled_of m is)
       ]
