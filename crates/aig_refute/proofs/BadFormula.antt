@@ -8,6 +8,7 @@ use Rattle.std.proofs.lemmas.List.{ext_get_or}
 use Rattle.std.proofs.lemmas.List.FromFn.{length-map-range_with_len, get_or-map-range_with_len}
 use Rattle.std.proofs.lemmas.List.Elements.{All-nil, All-cons, All-map, All-weaker}
 use Rattle.std.proofs.lemmas.Option.{slice_get-get_or, slice_get_within, get_or_from_slice_get}
+use Rattle.std.proofs.lemmas.Bool.{and_parts}
 use Rattle.aig_parts.specs.Literal.{variable}
 use Rattle.aig_parts.specs.declared.gate.Gate.{Gate}
 use Rattle.aig_parts.specs.declared.raw.Raw.{Raw}
@@ -42,7 +43,7 @@ use Rattle.aig_cnf.specs.Query.{within}
 use Rattle.aig_sat.specs.checker.Clause.{is_true, meets, Satisfies}
 use Rattle.aig_refute.specs.Models.{tern_of, values_of, AreKnown, NamesWitness, IsInModel}
 use Rattle.aig_cnf.proofs.SignLemmas.{signs}
-use Rattle.aig_refute.proofs.Tseitin.{and_both, both_and, assigned, known, gates_met, meets_gates, one_met, meets_one}
+use Rattle.aig_refute.proofs.Tseitin.{both_and, assigned, known, gates_met, meets_gates, one_met, meets_one}
 use Rattle.aig_refute.proofs.Tseitin.{true_even, true_below}
 
 -- ---- the unrolled circuit
@@ -132,8 +133,8 @@ pub formula_met : (raw : Raw) (order : List ℕ) (k p : ℕ) (a : ℕ → Bool) 
 formula_met raw order k p a h =
     let goal = meets a (goals (unrolled raw order k) (length raw.bad) k p) in
     let gates = list_all (meets a) (flat_map gate_clauses (unrolled raw order k).gates) in
-    let (first, rest) = and_both (meets a (1 ∷ [])) (goal && gates) h in
-    let (some, each) = and_both goal gates rest in (first, some, each)
+    let (first, rest) = and_parts (meets a (1 ∷ [])) (goal && gates) h in
+    let (some, each) = and_parts goal gates rest in (first, some, each)
 
 module _ (raw : Raw) (circuit : IsCircuit raw) (order : List ℕ) (canonical : IsCanonicalOrder raw order) (k : ℕ) where
   -- ---- from a model to a witness

@@ -11,6 +11,7 @@ use Rattle.std.proofs.lemmas.List.Elements.{All-head, All-tail}
 use Rattle.std.proofs.lemmas.List.Folds.{list_all-append}
 use Rattle.std.proofs.lemmas.List.FromFn.{get_or-map-range_with_len}
 use Rattle.std.proofs.lemmas.Option.{slice_get-map, slice_get_within, get_or_from_slice_get}
+use Rattle.std.proofs.lemmas.Bool.{and_parts}
 use Rattle.aig_parts.specs.Literal.{negation, variable}
 use Rattle.aig_parts.specs.declared.gate.Gate.{Gate}
 use Rattle.aig_parts.specs.declared.latch.Latch.{Latch}
@@ -40,7 +41,7 @@ use Rattle.aig_refute.proofs.FirstReached.{at_reached, both_satisfied, satisfies
 use Rattle.aig_refute.proofs.RowValues.{Allowed}
 use Rattle.aig_refute.proofs.SettledRows.{length_settled, makes_settled, settled, settled_known}
 use Rattle.aig_refute.proofs.StepFormula.{each_named}
-use Rattle.aig_refute.proofs.Tseitin.{and_both, both_and, gates_met, meets_gates, meets_one, true_even, true_negation}
+use Rattle.aig_refute.proofs.Tseitin.{both_and, gates_met, meets_gates, meets_one, true_even, true_negation}
 use Rattle.aig_refute.proofs.Tseitin.{true_odd}
 use Rattle.aig_refute.proofs.UnrolledRows.{row_in, run_in}
 use Rattle.aig_refute.proofs.UnrolledWitnesses.{in_row}
@@ -55,7 +56,7 @@ use Rattle.aig_unroll.proofs.UnrolledRow.{frames_at, length-flat}
 implied_true : (a : ℕ → Bool) (ms : List ℕ) (l : ℕ) → list_all (is_true a) ms ≡ true → Satisfies a (implies ms l)
 implied_true a [] l h = refl
 implied_true a (m ∷ ms) l h =
-    let (first, rest) = and_both (is_true a m) (list_all (is_true a) ms) h in
+    let (first, rest) = and_parts (is_true a m) (list_all (is_true a) ms) h in
     both_and (meets_one a (negation l ∷ m ∷ []) 1 m refl first) (implied_true a ms l rest)
 
 implied_false : (a : ℕ → Bool) (ms : List ℕ) (l : ℕ) → is_true a l ≡ false → Satisfies a (implies ms l)
@@ -221,7 +222,7 @@ module _ (raw : Raw) (circuit : IsCircuit raw) (order : List ℕ) (canonical : I
   pub broken_satisfies : HasBrokenStep raw k p → IsSatisfiable clauses
   broken_satisfies (start, rows, h) =
       let (a, satisfies, start_is, rows_are) = each_named raw circuit order canonical k p start rows h in
-      let (low, rest) = and_both (meets a (1 ∷ [])) (list_all (meets a) (first_reached reached ++ flat_map gate_clauses all.gates))
+      let (low, rest) = and_parts (meets a (1 ∷ [])) (list_all (meets a) (first_reached reached ++ flat_map gate_clauses all.gates))
       satisfies in
       let (first, gates) = both_satisfied a (first_reached reached) (flat_map gate_clauses all.gates) rest in
       let (quiet, loud) = at_reached a literal_at k first in

@@ -3,10 +3,11 @@ use Rattle.std.proofs.Common.{◌≡◌, ℕ, zero, suc, ◌+◌, ◌<◌, Bool,
 use Rattle.std.proofs.Common.{slice_get, refl, sym, ◌∙◌, ap, subst, add-one}
 use Rattle.std.specs.List.{list_all}
 use Rattle.std.proofs.lemmas.List.Folds.{list_all-append}
+use Rattle.std.proofs.lemmas.Bool.{not-true, and_parts}
 use Rattle.aig_parts.specs.Literal.{negation}
 use Rattle.aig_cnf.specs.Formula.{first_reached}
 use Rattle.aig_refute.proofs.BadFormula.{goal_frame}
-use Rattle.aig_refute.proofs.Tseitin.{and_both, both_and, meets_one, true_negation}
+use Rattle.aig_refute.proofs.Tseitin.{both_and, meets_one, true_negation}
 use Rattle.aig_sat.specs.checker.Clause.{is_true, meets, Satisfies}
 use Rattle.aig_unroll.specs.Unrolled.{frames}
 use Rattle.aig_unroll.proofs.UnrolledRow.{frames_at}
@@ -14,11 +15,11 @@ use Rattle.aig_unroll.proofs.UnrolledRow.{frames_at}
 pub satisfies_both : (a : ℕ → Bool) (xs ys : List (List ℕ)) → Satisfies a xs → Satisfies a ys → Satisfies a (xs ++ ys)
 satisfies_both a [] ys h k = k
 satisfies_both a (x ∷ xs) ys h k =
-    let (first, rest) = and_both (meets a x) (list_all (meets a) xs) h in both_and first (satisfies_both a xs ys rest k)
+    let (first, rest) = and_parts (meets a x) (list_all (meets a) xs) h in both_and first (satisfies_both a xs ys rest k)
 
 pub both_satisfied : (a : ℕ → Bool) (xs ys : List (List ℕ)) → Satisfies a (xs ++ ys) → Satisfies a xs × Satisfies a ys
 both_satisfied a xs ys h =
-    and_both (list_all (meets a) xs) (list_all (meets a) ys) (sym (list_all-append (meets a) xs ys) ∙ h)
+    and_parts (list_all (meets a) xs) (list_all (meets a) ys) (sym (list_all-append (meets a) xs ys) ∙ h)
 
 -- ---- from the literals to the clauses
 
@@ -51,12 +52,8 @@ only : (b : Bool) → (b || false) ≡ true → b ≡ true
 only true e = refl
 only false e = cc
 
-not_true : (b : Bool) → not b ≡ true → b ≡ false
-not_true true e = cc
-not_true false e = refl
-
 met_false : (a : ℕ → Bool) (l : ℕ) → meets a (negation l ∷ []) ≡ true → is_true a l ≡ false
-met_false a l h = not_true (is_true a l) (sym (true_negation a l) ∙ only (is_true a (negation l)) h)
+met_false a l h = not-true (is_true a l) (sym (true_negation a l) ∙ only (is_true a (negation l)) h)
 
 one_more : (a : ℕ → Bool) (x : ℕ) (ls : List ℕ) → is_true a x ≡ false → AreFalse a ls → AreFalse a (x ∷ ls)
 one_more a x ls quiet each zero m at =
@@ -65,12 +62,12 @@ one_more a x ls quiet each (suc i) m at = each i m at
 
 reached_last : (a : ℕ → Bool) (ls : List ℕ) (l : ℕ) → Satisfies a (first_reached (ls ++ l ∷ []))
     → AreFalse a ls × (is_true a l ≡ true)
-reached_last a [] l h = (λ i m at. cc, only (is_true a l) (and_both (meets a (l ∷ [])) true h).0)
+reached_last a [] l h = (λ i m at. cc, only (is_true a l) (and_parts (meets a (l ∷ [])) true h).0)
 reached_last a (x ∷ []) l h =
-    let (quiet, rest) = and_both (meets a (negation x ∷ [])) (list_all (meets a) (first_reached (l ∷ []))) h in
+    let (quiet, rest) = and_parts (meets a (negation x ∷ [])) (list_all (meets a) (first_reached (l ∷ []))) h in
     let (each, loud) = reached_last a [] l rest in (one_more a x [] (met_false a x quiet) each, loud)
 reached_last a (x ∷ y ∷ ys) l h =
-    let (quiet, rest) = and_both (meets a (negation x ∷ [])) (list_all (meets a) (first_reached (y ∷ ys ++ l ∷ []))) h in
+    let (quiet, rest) = and_parts (meets a (negation x ∷ [])) (list_all (meets a) (first_reached (y ∷ ys ++ l ∷ []))) h in
     let (each, loud) = reached_last a (y ∷ ys) l rest in (one_more a x (y ∷ ys) (met_false a x quiet) each, loud)
 
 -- one literal per frame

@@ -6,6 +6,7 @@ use Rattle.std.specs.List.{list_all}
 use Rattle.std.proofs.Math.Seq.{drop-append_seam}
 use Rattle.std.proofs.lemmas.List.{length-take-le}
 use Rattle.std.proofs.lemmas.Option.{slice_get-get_or, slice_get_within}
+use Rattle.std.proofs.lemmas.Bool.{and_parts}
 use Rattle.aig_parts.specs.declared.raw.Raw.{Raw}
 use Rattle.aig_parts.specs.declared.ternary.Tern.{Tern}
 use Rattle.aig_parts.specs.declared.ternary.Tern.TheVariants.{One}
@@ -23,7 +24,7 @@ use Rattle.aig_refute.specs.UnrolledWitness.{rows_in, start_in, IsConfirmedWithi
 use Rattle.aig_refute.proofs.BadFormula.{bad_at, bad_in_range, formula_met, in_model, inputs_are, low_of, valued}
 use Rattle.aig_refute.proofs.BadFormula.{wide_values}
 use Rattle.aig_refute.proofs.SettledRows.{length_settled, makes_settled, settled, settled_known}
-use Rattle.aig_refute.proofs.Tseitin.{and_both, assigned, both_and, gates_met, meets_one}
+use Rattle.aig_refute.proofs.Tseitin.{assigned, both_and, gates_met, meets_one}
 use Rattle.aig_refute.proofs.UnrolledRows.{run_in}
 use Rattle.aig_refute.proofs.UnrolledWitnesses.{in_row, reaches_in_row}
 use Rattle.aig_refute.proofs.WithinFormula.{confirmed_at}
@@ -89,8 +90,8 @@ module _ (raw : Raw) (circuit : IsCircuit raw) (order : List ℕ) (canonical : I
     met =
         let goal = meets a (last_alone literals) in
         let gates = list_all (meets a) (flat_map gate_clauses all.gates) in
-        let (low, rest) = and_both (meets a (1 ∷ [])) (goal && gates) h in
-        let (one, each) = and_both goal gates rest in (low, one, each)
+        let (low, rest) = and_parts (meets a (1 ∷ [])) (goal && gates) h in
+        let (one, each) = and_parts goal gates rest in (low, one, each)
 
     goal : is_true a (literal_at (k - 1)) ≡ true
     goal = only (is_true a (literal_at (k - 1))) (subst (λ (c : List ℕ). meets a c ≡ true) last_is met.1)

@@ -4,7 +4,7 @@ use Rattle.std.proofs.Common.{false, not, ◌&&◌, ◌||◌, if◌then◌else�
 use Rattle.std.proofs.Common.{Some, slice_get, slice_index, get_or, All, refl, sym, ◌∙◌, ap, ap₂, subst, arith}
 use Rattle.std.specs.Prelude.{◌==◌}
 use Rattle.std.specs.List.{list_all, list_any}
-use Rattle.std.proofs.lemmas.Bool.{eq-eqb, eqb-true, ne_eqb}
+use Rattle.std.proofs.lemmas.Bool.{eq-eqb, eqb-true, ne_eqb, not-true, or_left, or_right, and_parts}
 use Rattle.std.proofs.lemmas.List.Concat.{flat_map-cons}
 use Rattle.std.proofs.lemmas.List.Elements.{All-head, All-tail}
 use Rattle.std.proofs.lemmas.List.Folds.{list_all-append, list_any_at}
@@ -39,7 +39,7 @@ use Rattle.aig_refute.proofs.BadFormula.{bad_at, bad_in_range, goal_frame, input
 use Rattle.aig_refute.proofs.BadFormula.{wide_values}
 use Rattle.aig_refute.proofs.DisprovedInduction.{broken_satisfies, goals_before, reached_satisfies, start_at}
 use Rattle.aig_refute.proofs.FirstReached.{both_satisfied}
-use Rattle.aig_refute.proofs.Tseitin.{and_both, gates_met, none_of, one_met, only_row, tern_and, tern_not, true_below}
+use Rattle.aig_refute.proofs.Tseitin.{gates_met, none_of, one_met, only_row, tern_and, tern_not, true_below}
 use Rattle.aig_refute.proofs.Tseitin.{true_even, true_negation, true_odd}
 use Rattle.aig_refute.proofs.UnrolledRows.{known_in, run_in}
 use Rattle.aig_refute.proofs.UnrolledWitnesses.{reaches_in_row}
@@ -51,14 +51,6 @@ use Rattle.aig_unroll.proofs.UnrolledRow.{frames_at}
 true_false : (b : Bool) → b ≡ true → b ≡ false → ⊥
 true_false true e f = cc
 true_false false e f = cc
-
-or_left : (a b : Bool) → a ≡ true → (a || b) ≡ true
-or_left true b e = refl
-or_left false b e = cc
-
-or_right : (a b : Bool) → b ≡ true → (a || b) ≡ true
-or_right true b e = refl
-or_right false b e = e
 
 -- ---- the gates of the cone
 
@@ -156,7 +148,7 @@ all_implied : (a : ℕ → Bool) (ms : List ℕ) (l : ℕ) → Satisfies a (impl
     → list_all (is_true a) ms ≡ true
 all_implied a [] l h on = refl
 all_implied a (m ∷ ms) l h on =
-    let (first, rest) = and_both (meets a (negation l ∷ m ∷ [])) (list_all (meets a) (implies ms l)) h in
+    let (first, rest) = and_parts (meets a (negation l ∷ m ∷ [])) (list_all (meets a) (implies ms l)) h in
     let off : is_true a (negation l) ≡ false = true_negation a l ∙ ap not on in
     let here = second_true (is_true a (negation l)) (is_true a m) off first in
     let others = all_implied a ms l rest on in rw (here, others) refl
@@ -178,10 +170,6 @@ implied_at a ms (x ∷ ls) j l h at on =
 
 -- ---- a start that obeys the resets
 
-not_false : (b : Bool) → not b ≡ true → b ≡ false
-not_false true e = cc
-not_false false e = refl
-
 only_one : (b : Bool) → (b && true) ≡ true → b ≡ true
 only_one true e = refl
 only_one false e = cc
@@ -192,7 +180,7 @@ value_of_reset a v n (inl e) is =
     let literal : 2 * v + (1 - n) ≡ 2 * v + 1 = omega (arith, e) in
     let odd : (2 * v + 1) % 2 ≡ 1 = grind arith in
     let half : variable (2 * v + 1) ≡ v = grind arith in
-    let off : a v ≡ false = not_false (a v)
+    let off : a v ≡ false = not-true (a v)
     (sym (ap (is_true a) literal ∙ true_odd a (2 * v + 1) odd ∙ ap (λ u. not (a u)) half) ∙ is) in
     ap tern_of off ∙ ap reset_value (sym e)
 value_of_reset a v n (inr e) is =
@@ -220,7 +208,7 @@ all_allowed : (a : ℕ → Bool) (v : ℕ) (xs : List Latch) → All IsReset xs 
 unfolding reset_literals
 all_allowed a v [] resets h i x w at is = cc
 all_allowed a v (y ∷ xs) resets h i x w at is =
-    let (first, rest) = and_both (list_all (is_true a) (reset_literal v y)) (list_all (is_true a) (reset_literals (v + 1) xs))
+    let (first, rest) = and_parts (list_all (is_true a) (reset_literal v y)) (list_all (is_true a) (reset_literals (v + 1) xs))
     (sym (list_all-append (is_true a) (reset_literal v y) (reset_literals (v + 1) xs)) ∙ h) in
     go i at is first (λ j here e. all_allowed a (v + 1) xs (All-tail IsReset y xs resets) rest j x w here e)
   where
@@ -318,8 +306,8 @@ module _ (raw : Raw) (circuit : IsCircuit raw) (order : List ℕ) (canonical : I
   met =
       let first = flat_map (implies starts) (all_but_last reached) in
       let gates = flat_map gate_clauses kept_gates in
-      let (low, rest) = and_both (meets a (1 ∷ [])) (list_all (meets a) (reached ∷ first ++ gates)) h in
-      let (some, more) = and_both (meets a reached) (list_all (meets a) (first ++ gates)) rest in
+      let (low, rest) = and_parts (meets a (1 ∷ [])) (list_all (meets a) (reached ∷ first ++ gates)) h in
+      let (some, more) = and_parts (meets a reached) (list_all (meets a) (first ++ gates)) rest in
       let (implied, each) = both_satisfied a first gates more in (low, some, implied, each)
 
   literal_is : (t : ℕ) → t < k + 1 → slice_get all.bad (t * length raw.bad + p) ≡ Some (literal_at t)

@@ -7,6 +7,7 @@ use Rattle.std.proofs.lemmas.List.{get_or-drop, get_or-take, length-take-le}
 use Rattle.std.proofs.lemmas.List.Concat.{flat_map-cons}
 use Rattle.std.proofs.lemmas.List.Folds.{list_all-append}
 use Rattle.std.proofs.lemmas.Option.{slice_get_within, get_or_from_slice_get}
+use Rattle.std.proofs.lemmas.Bool.{and_parts}
 use Rattle.aig_parts.specs.Literal.{variable, negation, IsNegated}
 use Rattle.aig_parts.specs.Ternary.{kleene_and, kleene_not}
 use Rattle.aig_parts.specs.declared.gate.Gate.{Gate}
@@ -25,7 +26,7 @@ use Rattle.aig_sat.specs.checker.Clause.{is_true, meets, Satisfies}
 use Rattle.aig_cnf.proofs.SignLemmas.{signs}
 use Rattle.aig_refute.proofs.BadFormula.{bad_at, bad_in_range, goal_frame, names_witness, valued}
 use Rattle.aig_refute.proofs.RowValues.{length-cut}
-use Rattle.aig_refute.proofs.Tseitin.{and_both, both_and, none_of, true_even, true_odd}
+use Rattle.aig_refute.proofs.Tseitin.{both_and, none_of, true_even, true_odd}
 use Rattle.aig_refute.proofs.UnrolledWitnesses.{confirms_row}
 use Rattle.aig_refute.specs.Models.{tern_of, values_of}
 use Rattle.aig_refute.specs.PartialModels.{is_one, value_in, literal_in, has_one, SatisfiesInPart, IsFilling, inputs_in}
@@ -116,7 +117,7 @@ gates_met : (a : List Tern) (gates : List Gate) → SatisfiesInPart a (flat_map 
     → slice_get gates q ≡ Some g → IsAnd a g
 gates_met a [] h q g at = cc
 gates_met a (x ∷ xs) h q g at =
-    let both = and_both (list_all (has_one a) (gate_clauses x)) (list_all (has_one a) (flat_map gate_clauses xs))
+    let both = and_parts (list_all (has_one a) (gate_clauses x)) (list_all (has_one a) (flat_map gate_clauses xs))
     (sym (list_all-append (has_one a) (gate_clauses x) (flat_map gate_clauses xs))
     ∙ ap (list_all (has_one a)) (sym (flat_map-cons gate_clauses x xs)) ∙ h) in
     go q at both.0 (λ j f is. gates_met a xs both.1 j f is)
@@ -218,9 +219,9 @@ module _ (raw : Raw) (circuit : IsCircuit raw) (order : List ℕ) (canonical : I
   reaches : (p : ℕ) → p < length raw.bad → SatisfiesInPart a (formula_of raw order (within k p)).clauses
       → (t : ℕ) × (t < k) × MakesBad raw order k (inputs_in raw k a) t p
   reaches p property h =
-      let (first, rest) = and_both (has_one a (1 ∷ []))
+      let (first, rest) = and_parts (has_one a (1 ∷ []))
       (has_one a (goals (unrolled raw order k) (length raw.bad) k p) && list_all (has_one a) (flat_map gate_clauses (unrolled raw order k).gates)) h in
-      let (goal, gates) = and_both (has_one a (goals (unrolled raw order k) (length raw.bad) k p))
+      let (goal, gates) = and_parts (has_one a (goals (unrolled raw order k) (length raw.bad) k p))
       (list_all (has_one a) (flat_map gate_clauses (unrolled raw order k).gates)) rest in
       let (i, l, at, one_l) = one_met a (goals (unrolled raw order k) (length raw.bad) k p) goal in
       let (t, lt, is) = goal_frame (λ t. slice_index (unrolled raw order k).bad (t * length raw.bad + p)) k i l at in
@@ -294,5 +295,5 @@ module _ (a : List Tern) (whole : ℕ → Bool) (filling : IsFilling a whole) wh
   pub fills : (clauses : List (List ℕ)) → SatisfiesInPart a clauses → Satisfies whole clauses
   fills [] h = refl
   fills (c ∷ cs) h =
-      let (first, later) = and_both (has_one a c) (list_all (has_one a) cs) h in
+      let (first, later) = and_parts (has_one a c) (list_all (has_one a) cs) h in
       both_and (clause_filled c first) (fills cs later)

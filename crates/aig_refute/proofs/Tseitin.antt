@@ -5,6 +5,7 @@ use Rattle.std.proofs.Common.{refl, sym, ◌∙◌, ap, ap₂, subst, arith}
 use Rattle.std.specs.List.{list_all, list_any}
 use Rattle.std.proofs.lemmas.List.Folds.{list_all-append}
 use Rattle.std.proofs.lemmas.List.Concat.{flat_map-cons}
+use Rattle.std.proofs.lemmas.Bool.{and_parts}
 use Rattle.aig_parts.specs.Literal.{variable, negation, IsNegated}
 use Rattle.aig_parts.specs.Ternary.{kleene_and, kleene_not}
 use Rattle.aig_parts.specs.declared.gate.Gate.{Gate}
@@ -82,11 +83,6 @@ pub meets_gate : (a : ℕ → Bool) (g : Gate) → IsAnd a g → Satisfies a (ga
 meets_gate a g h =
     clauses_of a g ∙ (three_are (is_true a g.lhs) (is_true a g.rhs0) (is_true a g.rhs1)).1 h
 
-pub and_both : (x y : Bool) → (x && y) ≡ true → (x ≡ true) × (y ≡ true)
-and_both true true e = (refl, refl)
-and_both true false e = cc
-and_both false y e = cc
-
 pub both_and : {x y : Bool} → x ≡ true → y ≡ true → (x && y) ≡ true
 both_and e f = rw (e, f) refl
 
@@ -95,7 +91,7 @@ pub gates_met : (a : ℕ → Bool) (gates : List Gate) → Satisfies a (flat_map
     → slice_get gates q ≡ Some g → IsAnd a g
 gates_met a [] h q g at = cc
 gates_met a (x ∷ xs) h q g at =
-    let both = and_both (list_all (meets a) (gate_clauses x)) (list_all (meets a) (flat_map gate_clauses xs))
+    let both = and_parts (list_all (meets a) (gate_clauses x)) (list_all (meets a) (flat_map gate_clauses xs))
     (sym (list_all-append (meets a) (gate_clauses x) (flat_map gate_clauses xs))
     ∙ ap (list_all (meets a)) (sym (flat_map-cons gate_clauses x xs)) ∙ h) in
     go q at both.0 (λ j f is. gates_met a xs both.1 j f is)
