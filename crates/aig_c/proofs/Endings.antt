@@ -2,6 +2,7 @@
 use Rattle.std.proofs.Common.{◌≡◌, ℕ, List, [], ◌++◌, Result, Ok, Err, refl, sym, ap, ◌∙◌, subst}
 use Rattle.std.specs.Prelude.{Option, Some}
 use Rattle.std.proofs.lemmas.List.{append-nil}
+use Rattle.std.proofs.lemmas.Option.{same_Some}
 use Rattle.aig_bytes.specs.Bytes.{before, after, IsAtEnd}
 use Rattle.aig_bytes.specs.Flow.{Flow, flow}
 use Rattle.aig_parts.specs.declared.raw.Raw.{Raw}
@@ -11,9 +12,6 @@ use Rattle.aig_command.specs.declared.run_fault.RunFault.{RunFault}
 use Rattle.aig_command.specs.declared.run_fault.RunFault.TheVariants as run_faults
 use Rattle.aig_command.specs.declared.script_fault.ScriptFault.TheVariants as scripts
 use Rattle.aig_c.specs.Answers.{Refuses}
-
-same_bytes : (xs ys : List ℕ) → Some xs ≡ Some ys → xs ≡ ys
-same_bytes xs ys e = cc
 
 abbrev status_of_answer : {T : Type 0} → Result T RunFault → ℕ
 status_of_answer (Ok _) = 0
@@ -25,7 +23,7 @@ pub done : {X T : Type 0} {written : X → Option (List ℕ)} {failures : X → 
     → written old ≡ Some [] → written new ≡ Some bytes → got ≡ bytes
     → CommandEnds (flow written failures old new) run_faults.Output Means (Ok value) → Means (Ok value) got
 done {written = written} {old = old} {value = value} Means bytes got empty is copied (CommandEnds.writes_all text means all) =
-    let text_is : text ≡ bytes = same_bytes text bytes
+    let text_is : text ≡ bytes = same_Some text bytes
     (sym (all.got ∙ subst (λ (o : Option (List ℕ)). after o text ≡ Some text) (sym empty) refl) ∙ is) in
     subst (Means (Ok value)) (text_is ∙ sym copied) means
 
@@ -76,7 +74,7 @@ pub done_script : {X Y T : Type 0} {written : X → Option (List ℕ)} {failures
 done_script Means script rest bytes got holds left empty is copied (EndsReading.writes_all well all) =
     let text : List ℕ = all.text.bytes in
     let at_end : rest ≡ [] = subst IsAtEnd left (all.gave.whole all.whole) in
-    let script_is : script ≡ text = same_bytes script text
+    let script_is : script ≡ text = same_Some script text
     (sym holds ∙ (all.gave.gave ∙ (ap (before text) left
     ∙ (ap (λ r. Some (text ++ r)) at_end ∙ ap Some (append-nil text))))) in (
       all.text,

@@ -9,10 +9,6 @@ use Rattle.aig_command.specs.Command.{CommandEnds}
 use Rattle.aig_commands.specs.Refute.{ChecksStep, HasFormulas}
 use Rattle.aig_commands.specs.state.About.{Answers, IsOfStepProof}
 
-pub then_ok : {T E : Type 0} (r : Result T E) {P Q : Type 0} → (P → Q) → OnOk r P → OnOk r Q
-then_ok (Ok x) f p = f p
-then_ok (Err e) f p = tt
-
 pub checks_step : (k p : ℕ) (raw : Raw) (r : Result (Unit {0}) RunFault) → HasFormulas k p raw → OnOk r (IsUnreachable raw p)
     → IfErr r IsOfStepProof → ChecksStep k p raw r
 checks_step k p raw (Ok done) has shown fault = (has, shown)

@@ -5,6 +5,7 @@ use Rattle.std.specs.Global.{Vec}
 use Rattle.std.specs.Prelude.{IsErrAnd}
 use Rattle.std.specs.List.{AllZip, range_with_len}
 use Rattle.std.proofs.lemmas.List.{map-append, map_more, take_more}
+use Rattle.std.proofs.lemmas.Slice.Zip.{all_zipped_more}
 use Rattle.aig_parts.specs.declared.ternary.Tern.{Tern}
 use Rattle.aig_parts.specs.declared.raw.Raw.{Raw}
 use Rattle.aig_base.specs.Circuit.{IsCircuit}
@@ -25,13 +26,6 @@ use Rattle.aig_shell.proofs.Impossible.{small_variables}
 use Rattle.aig_shell.proofs.Meanings.{means_none}
 
 -- a pair more
-pub zip_push : {A B : Type 0} (R : A → B → Type 0) (xs : List A) (ys : List B) (x : A) (y : B) → AllZip R xs ys → R x y
-    → AllZip R (xs ++ x ∷ []) (ys ++ y ∷ [])
-zip_push R [] [] x y h r = (r, tt)
-zip_push R [] (b ∷ ys) x y h r = absurd h
-zip_push R (a ∷ xs) [] x y h r = absurd h
-zip_push R (a ∷ xs) (b ∷ ys) x y h r = (h.0, zip_push R xs ys x y h.1 r)
-
 -- one literal more has its value
 pub bits_more : (p : CircuitAndRows) (t : ℕ) (literals : List ℕ) (i l : ℕ) (bits new : List (Option Tern)) (w : Tern)
     → i < length literals → l ≡ get_or literals i l → HasValue p t l w → AreBits p t (take i literals) bits
@@ -40,7 +34,7 @@ bits_more p t literals i l bits new w lt is value (values, each, are) pushed =
     let more : take i literals ++ l ∷ [] ≡ take (i + 1) literals =
     ap (λ k. take i literals ++ k ∷ []) is ∙ sym (take_more literals i l lt) in (
       values ++ w ∷ [],
-      subst (λ ls. AllZip (HasValue p t) ls (values ++ w ∷ [])) more (zip_push (HasValue p t) (take i literals) values l w each value),
+      subst (λ ls. AllZip (HasValue p t) ls (values ++ w ∷ [])) more (all_zipped_more (HasValue p t) (take i literals) values l w each value),
       pushed ∙ ap (λ bs. bs ++ Some w ∷ []) are ∙ sym (map-append Some values (w ∷ [])),
     )
 
@@ -68,7 +62,7 @@ cells_more R a j cells new cell le before here pushed =
     ap (map (λ (v : Vec ℕ). v.items)) pushed ∙ map-append (λ (v : Vec ℕ). v.items) cells (cell ∷ []) in
     subst (λ ns. AllZip R ns (map (λ (v : Vec ℕ). v.items) new)) (sym (range_more a j le))
     (subst (AllZip R (range_with_len a (j - a) ++ j ∷ [])) (sym texts)
-    (zip_push R (range_with_len a (j - a)) (map (λ (v : Vec ℕ). v.items) cells) j cell.items before here))
+    (all_zipped_more R (range_with_len a (j - a)) (map (λ (v : Vec ℕ). v.items) cells) j cell.items before here))
 
 -- the row of a name more
 pub rows_more : {X Y A B : Type 0} (R : A → B → Type 0) (f : X → A) (g : Y → B) (xs : List X) (i : ℕ) (d : X) (ys new : List Y) (y : Y)
@@ -77,7 +71,7 @@ pub rows_more : {X Y A B : Type 0} (R : A → B → Type 0) (f : X → A) (g : Y
 rows_more R f g xs i d ys new y lt before here pushed =
     subst (λ zs. AllZip R zs (map g new)) (sym (map_more f xs i d lt))
     (subst (AllZip R (map f (take i xs) ++ f (get_or xs i d) ∷ [])) (sym (ap (map g) pushed ∙ map-append g ys (y ∷ [])))
-    (zip_push R (map f (take i xs)) (map g ys) (f (get_or xs i d)) (g y) before here))
+    (all_zipped_more R (map f (take i xs)) (map g ys) (f (get_or xs i d)) (g y) before here))
 
 -- a name without a row: there are no rows of all
 pub no_rows : {X A B : Type 0} (R : A → B → Type 0) (f : X → A) (xs : List X) (i : ℕ) (d : X) → i < length xs

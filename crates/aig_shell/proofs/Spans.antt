@@ -1,8 +1,7 @@
 -- Frames with a `-` between them.
-use Rattle.std.proofs.Common.{◌≡◌, ◌≢◌, ℕ, zero, suc, ◌+◌, ◌-◌, ◌<◌, ◌≤◌, ◌%◌, ◌^◌, ◌⊎◌, inl, inr, List, [], ◌∷◌, ◌++◌}
-use Rattle.std.proofs.Common.{All, length, take, drop, Some, slice_get, refl, sym, ◌∙◌, ap, subst, arith}
+use Rattle.std.proofs.Common.{◌≡◌, ◌≢◌, ℕ, zero, suc, ◌+◌, ◌<◌, ◌≤◌, ◌%◌, ◌^◌, ◌⊎◌, inl, inr, List, [], ◌∷◌, ◌++◌}
+use Rattle.std.proofs.Common.{All, take, drop, Some, slice_get, refl, sym, ◌∙◌, ap, subst, arith}
 use Rattle.std.specs.Fmt.{decimal}
-use Rattle.std.proofs.lemmas.List.{length-drop, take_all}
 use Rattle.std.proofs.lemmas.List.Elements.{All-append}
 use Rattle.std.proofs.lemmas.Fmt.{decimal_by_steps, decimal_injective}
 use Rattle.std.proofs.lemmas.Option.{slice_get_within}
@@ -84,7 +83,3 @@ empty_span xs ys count f l a b small x y e g le lt less =
     omega (arith, p, q, le, less)
 
 -- all that is left of a word
-pub rest_is : (n : ℕ) (word : List ℕ) → take (length word - n) (drop n word) ≡ drop n word
-rest_is n word =
-    let size : length (drop n word) ≡ length word - n = length-drop n word in
-    take_all (length word - n) (drop n word) (omega (arith, size))

@@ -1,6 +1,7 @@
 use Rattle.std.proofs.Common.{◌+◌, inr, arith, sym, ◌∙◌}
+use Rattle.std.proofs.lemmas.List.{take_rest}
 use Rattle.aig_shell.proofs.Results.{of_err}
-use Rattle.aig_shell.proofs.Spans.{no_dash_frames, dash_frames, dash_joins, empty_span, rest_is}
+use Rattle.aig_shell.proofs.Spans.{no_dash_frames, dash_frames, dash_joins, empty_span}
 use Rattle.aig_shell.proofs.frames.frames_of.Goals as goal
 
 pub returns-in_err-frame-clause-err : goal.returns-in_err-frame-clause-err
@@ -19,7 +20,7 @@ returns-in_err-first-clause-err c =
 pub returns-in_err-last-clause-err : goal.returns-in_err-last-clause-err
 returns-in_err-last-clause-err c =
     of_err c.from_residual-in_err-last.result (λ first last h. c.in_err-last.ensures.err last (
-      rest_is (c.in-Some.at + 1) c.args.word.now ∙ (dash_frames c.args.word.now c.in-Some.at c.args.frames first last (omega (arith, c.ranges.frames.fits))
+      take_rest c.args.word.now (c.in-Some.at + 1) ∙ (dash_frames c.args.word.now c.in-Some.at c.args.frames first last (omega (arith, c.ranges.frames.fits))
           c.in-Some.ensures.some c.in-Some.ensures.before h).1,
       h.2,
     ))
@@ -27,13 +28,13 @@ returns-in_err-last-clause-err c =
 pub returns-then-first-last-clause-err : goal.returns-then-first-last-clause-err
 returns-then-first-last-clause-err c = λ first last h.
     let r = dash_frames c.args.word.now c.in-Some.at c.args.frames first last (omega (arith, c.ranges.frames.fits)) c.in-Some.ensures.some c.in-Some.ensures.before h in
-    empty_span _ _ c.args.frames c.in_ok-first.first c.in_ok-last.last first last (omega (arith, c.ranges.frames.fits)) c.in_ok-first.ensures.ok c.in_ok-last.ensures.ok r.0 (rest_is (c.in-Some.at + 1) c.args.word.now ∙ r.1)
+    empty_span _ _ c.args.frames c.in_ok-first.first c.in_ok-last.last first last (omega (arith, c.ranges.frames.fits)) c.in_ok-first.ensures.ok c.in_ok-last.ensures.ok r.0 (take_rest c.args.word.now (c.in-Some.at + 1) ∙ r.1)
     h.1 h.2 c.if-first-last.true
 
 pub returns-clause-ok : goal.returns-clause-ok
 returns-clause-ok c = (
   inr (dash_joins c.args.word.now c.in-Some.at c.in_ok-first.first c.in_ok-last.last c.in-Some.ensures.some c.in_ok-first.ensures.ok.0
-      (sym (rest_is (c.in-Some.at + 1) c.args.word.now) ∙ c.in_ok-last.ensures.ok.0)),
+      (sym (take_rest c.args.word.now (c.in-Some.at + 1)) ∙ c.in_ok-last.ensures.ok.0)),
   omega (arith, c.if-first-last.false),
   c.in_ok-last.ensures.ok.1,
 )
