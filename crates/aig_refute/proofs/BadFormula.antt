@@ -9,6 +9,7 @@ use Rattle.std.proofs.lemmas.List.FromFn.{length-map-range_with_len, get_or-map-
 use Rattle.std.proofs.lemmas.List.Elements.{All-nil, All-cons, All-map, All-weaker}
 use Rattle.std.proofs.lemmas.Option.{slice_get-get_or, slice_get_within, get_or_from_slice_get}
 use Rattle.std.proofs.lemmas.Bool.{and_parts}
+use Rattle.aig_sat.proofs.checking.TruthLemmas.{true_even, true_below}
 use Rattle.aig_parts.specs.Literal.{variable}
 use Rattle.aig_parts.specs.declared.gate.Gate.{Gate}
 use Rattle.aig_parts.specs.declared.raw.Raw.{Raw}
@@ -44,7 +45,6 @@ use Rattle.aig_sat.specs.checker.Clause.{is_true, meets, Satisfies}
 use Rattle.aig_refute.specs.Models.{tern_of, values_of, AreKnown, NamesWitness, IsInModel}
 use Rattle.aig_cnf.proofs.SignLemmas.{signs}
 use Rattle.aig_refute.proofs.Tseitin.{both_and, assigned, known, gates_met, meets_gates, one_met, meets_one}
-use Rattle.aig_refute.proofs.Tseitin.{true_even, true_below}
 
 -- ---- the unrolled circuit
 

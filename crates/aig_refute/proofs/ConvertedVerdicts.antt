@@ -1,7 +1,8 @@
 -- A witness has the same verdict for a circuit and its renumbered form.
-use Rattle.std.proofs.Common.{◌≡◌, ◌≢◌, ◌⊎◌, ◌↔◌, inl, inr, ℕ, ◌-◌, ◌<◌, ◌≤◌, List, [], ◌∷◌, length, map, Option}
-use Rattle.std.proofs.Common.{Some, None, slice_get, option_map, refl, sym, ◌∙◌, ap, subst, arith}
+use Rattle.std.proofs.Common.{◌≡◌, ◌≢◌, ◌⊎◌, ◌↔◌, inl, inr, ℕ, ◌-◌, ◌<◌, ◌≤◌, List, [], ◌∷◌, length, map}
+use Rattle.std.proofs.Common.{Some, slice_get, option_map, refl, sym, ◌∙◌, ap, subst, arith}
 use Rattle.std.proofs.lemmas.Option.{slice_get-map}
+use Rattle.aig_base.proofs.lists.Positions.{unmap_option}
 use Rattle.aig_parts.specs.declared.latch.Latch.{Latch}
 use Rattle.aig_parts.specs.declared.raw.Raw.{Raw}
 use Rattle.aig_parts.specs.declared.ternary.Tern.{Tern}
@@ -24,12 +25,6 @@ use Rattle.aig_sim.specs.WitnessText.{Witness}
 use Rattle.aig_sim.proofs.VerdictLemmas.{bad_defined, constraint_defined}
 use Rattle.aig_refute.specs.Conversion.{HaveSameVerdicts}
 use Rattle.aig_refute.proofs.ConvertedTraces.{same_value}
-
--- what an element of a mapped list comes from
-mapped : {A B : Type 0} (f : A → B) (o : Option A) (y : B) → option_map f o ≡ Some y
-    → (x : A) × (o ≡ Some x) × (f x ≡ y)
-mapped f None y h = cc
-mapped f (Some x) y h = (x, refl, cc)
 
 module _ (raw : Raw) (circuit : IsCircuit raw) (order : List ℕ) (canonical : IsCanonicalOrder raw order) where
   -- a latch may start at what it may start at in the renumbered circuit
@@ -72,7 +67,7 @@ module _ (raw : Raw) (circuit : IsCircuit raw) (order : List ℕ) (canonical : I
       wrong = λ k. h.wrong ((same_allowed p h.latch h.value h.latch_is).1 k);
     },
     λ h.
-        let (x, at, is) = mapped (renumbered_latch raw order) (slice_get raw.latches p) h.latch
+        let (x, at, is) = unmap_option (renumbered_latch raw order) (slice_get raw.latches p) h.latch
         (sym (slice_get-map (renumbered_latch raw order) raw.latches p) ∙ h.latch_is) in
         record {
           latch = x;
@@ -101,7 +96,7 @@ module _ (raw : Raw) (circuit : IsCircuit raw) (order : List ℕ) (canonical : I
         not_one = h.not_one;
       },
       λ h.
-          let (l, at, is) = mapped (renumbered_literal raw order) (slice_get literals p) h.literal
+          let (l, at, is) = unmap_option (renumbered_literal raw order) (slice_get literals p) h.literal
           (sym (slice_get-map (renumbered_literal raw order) literals p) ∙ h.literal_is) in
           record {
             literal = l;

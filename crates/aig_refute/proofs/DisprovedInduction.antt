@@ -12,6 +12,8 @@ use Rattle.std.proofs.lemmas.List.Folds.{list_all-append}
 use Rattle.std.proofs.lemmas.List.FromFn.{get_or-map-range_with_len}
 use Rattle.std.proofs.lemmas.Option.{slice_get-map, slice_get_within, get_or_from_slice_get}
 use Rattle.std.proofs.lemmas.Bool.{and_parts}
+use Rattle.aig_cnf.proofs.AddedLemmas.{satisfies_parts}
+use Rattle.aig_sat.proofs.checking.TruthLemmas.{true_even, true_odd, true_negation}
 use Rattle.aig_parts.specs.Literal.{negation, variable}
 use Rattle.aig_parts.specs.declared.gate.Gate.{Gate}
 use Rattle.aig_parts.specs.declared.latch.Latch.{Latch}
@@ -37,12 +39,11 @@ use Rattle.aig_refute.specs.Satisfiable.{HasBrokenStep, IsReachedWithin, IsSatis
 use Rattle.aig_refute.specs.UnrolledWitness.{rows_in, start_in, IsConfirmedWithin}
 use Rattle.aig_refute.proofs.AnyState.{any_allowed, any_fits, reaches_any}
 use Rattle.aig_refute.proofs.BadFormula.{formula_met, goal_frame, in_model, wide_values}
-use Rattle.aig_refute.proofs.FirstReached.{at_reached, both_satisfied, satisfies_both}
+use Rattle.aig_refute.proofs.FirstReached.{at_reached, satisfies_both}
 use Rattle.aig_refute.proofs.RowValues.{Allowed}
 use Rattle.aig_refute.proofs.SettledRows.{length_settled, makes_settled, settled, settled_known}
 use Rattle.aig_refute.proofs.StepFormula.{each_named}
-use Rattle.aig_refute.proofs.Tseitin.{both_and, gates_met, meets_gates, meets_one, true_even, true_negation}
-use Rattle.aig_refute.proofs.Tseitin.{true_odd}
+use Rattle.aig_refute.proofs.Tseitin.{both_and, gates_met, meets_gates, meets_one}
 use Rattle.aig_refute.proofs.UnrolledRows.{row_in, run_in}
 use Rattle.aig_refute.proofs.UnrolledWitnesses.{in_row}
 use Rattle.aig_refute.proofs.WithinFormula.{confirmed_at}
@@ -224,7 +225,7 @@ module _ (raw : Raw) (circuit : IsCircuit raw) (order : List ℕ) (canonical : I
       let (a, satisfies, start_is, rows_are) = each_named raw circuit order canonical k p start rows h in
       let (low, rest) = and_parts (meets a (1 ∷ [])) (list_all (meets a) (first_reached reached ++ flat_map gate_clauses all.gates))
       satisfies in
-      let (first, gates) = both_satisfied a (first_reached reached) (flat_map gate_clauses all.gates) rest in
+      let (first, gates) = satisfies_parts a (first_reached reached) (flat_map gate_clauses all.gates) rest in
       let (quiet, loud) = at_reached a literal_at k first in
       let (j, stands) = frames_at (λ s. literal_at s ∷ []) (k + 1) k 0 (literal_at k) (omega arith) refl in (
         a,

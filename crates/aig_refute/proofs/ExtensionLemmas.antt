@@ -1,18 +1,19 @@
 -- A run of a circuit, with own inputs at 0 and own latches as their resets say, is a run of each circuit that extends
 -- it, and reaches the bad state there too.
-use Rattle.std.proofs.Common.{◌≡◌, inl, inr, ℕ, zero, suc, ◌+◌, ◌-◌, ◌%◌, ◌<◌, List, [], ◌∷◌, ◌++◌, length, map}
+use Rattle.std.proofs.Common.{◌≡◌, inr, ℕ, zero, suc, ◌<◌, List, [], ◌∷◌, ◌++◌, length, map}
 use Rattle.std.proofs.Common.{replicate, Contains, Some, slice_get}
-use Rattle.std.proofs.Common.{option_map, refl, sym, ◌∙◌, ap, subst, arith, length-append}
+use Rattle.std.proofs.Common.{option_map, sym, ◌∙◌, ap, subst, arith, length-append}
 use Rattle.std.proofs.lemmas.List.{length-map, length-replicate}
 use Rattle.std.proofs.lemmas.List.Elements.{All-map, All-weaker}
 use Rattle.std.proofs.lemmas.Option.{slice_get-map}
+use Rattle.aig_base.proofs.values.Refined.{and-zero}
+use Rattle.aig_certificate.proofs.Extensions.{twice_negated}
 use Rattle.aig_parts.specs.Literal.{negation, variable}
-use Rattle.aig_parts.specs.Ternary.{kleene_and}
 use Rattle.aig_parts.specs.declared.gate.Gate.{Gate}
 use Rattle.aig_parts.specs.declared.latch.Latch.{Latch}
 use Rattle.aig_parts.specs.declared.raw.Raw.{Raw}
 use Rattle.aig_parts.specs.declared.ternary.Tern.{Tern}
-use Rattle.aig_parts.specs.declared.ternary.Tern.TheVariants.{Zero, One, X}
+use Rattle.aig_parts.specs.declared.ternary.Tern.TheVariants.{Zero, One}
 use Rattle.aig_base.specs.Circuit.{IsCircuit}
 use Rattle.aig_base.specs.Runs.{Allows, IsAllowed, ReachesBad}
 use Rattle.aig_base.specs.Sections.{IsDefined}
@@ -25,30 +26,9 @@ use Rattle.aig_base.proofs.values.NegatedValues.{of_negation}
 use Rattle.aig_base.proofs.values.OneValue.{exists_value}
 use Rattle.aig_certificate.specs.Extension as extension
 use Rattle.aig_certificate.specs.Extension.{IsAndOf, IsExtension}
-use Rattle.aig_cnf.proofs.SignLemmas.{signs}
 use Rattle.aig_refute.specs.Unreachable.{IsUnreachable}
 
 -- ---- literals
-
-negated_twice : (l : ℕ) → negation (negation l) ≡ l
-negated_twice l = elim (signs l) [
-  | inl even ↦
-      let is : negation l ≡ l + 1 = rw even refl in
-      let odd : (l + 1) % 2 ≡ 1 = grind arith in
-      let back : negation (l + 1) ≡ l + 1 - 1 = rw odd refl in
-      ap negation is ∙ back ∙ omega arith
-  | inr odd ↦
-      let is : negation l ≡ l - 1 = rw odd refl in
-      let even : (l - 1) % 2 ≡ 0 = grind arith in
-      let back : negation (l - 1) ≡ l - 1 + 1 = rw even refl in
-      let some : 0 < l = grind arith in
-      ap negation is ∙ back ∙ omega (arith, some)
-]
-
-zero_and : (w : Tern) → kleene_and w Zero ≡ Zero
-zero_and Zero = refl
-zero_and One = refl
-zero_and X = refl
 
 -- ---- latches that start as their resets say
 
@@ -163,12 +143,12 @@ module _ (raw x : Raw) (b : ℕ) (e : IsExtension raw x b) (start : List Tern) (
     zero_above (extension.second g has under) v =
         let (q, at) = position_of x.gates g has in
         let (w, other) = valued g.rhs0 (sides_defined q g at).0 in
-        subst (λ (u : Tern). Has g.lhs u) (zero_and w) (value.gate t q g w Zero at other (zero_above under v))
+        subst (λ (u : Tern). Has g.lhs u) (and-zero w) (value.gate t q g w Zero at other (zero_above under v))
 
     bad_there : Value raw start rows t b One → Has e.bad One
     bad_there v =
         let low : Has (negation b) Zero = of_negation x longer_start longer_rows circuit.sound.definitions (stays v) in
-        subst (λ (l : ℕ). Has l One) (negated_twice e.bad)
+        subst (λ (l : ℕ). Has l One) (twice_negated e.bad)
         (of_negation x longer_start longer_rows circuit.sound.definitions (zero_above e.covers low))
 
     reaches_there : ReachesBad raw start rows t b → ReachesBad x longer_start longer_rows t e.bad

@@ -2,12 +2,12 @@
 use Rattle.std.proofs.Common.{◌≡◌, ℕ, zero, suc, ◌+◌, ◌<◌, Bool, true, false, not, ◌||◌, List, [], ◌∷◌, ◌++◌, Some}
 use Rattle.std.proofs.Common.{slice_get, refl, sym, ◌∙◌, ap, subst, add-one}
 use Rattle.std.specs.List.{list_all}
-use Rattle.std.proofs.lemmas.List.Folds.{list_all-append}
 use Rattle.std.proofs.lemmas.Bool.{not-true, and_parts}
+use Rattle.aig_sat.proofs.checking.TruthLemmas.{true_negation}
 use Rattle.aig_parts.specs.Literal.{negation}
 use Rattle.aig_cnf.specs.Formula.{first_reached}
 use Rattle.aig_refute.proofs.BadFormula.{goal_frame}
-use Rattle.aig_refute.proofs.Tseitin.{both_and, meets_one, true_negation}
+use Rattle.aig_refute.proofs.Tseitin.{both_and, meets_one}
 use Rattle.aig_sat.specs.checker.Clause.{is_true, meets, Satisfies}
 use Rattle.aig_unroll.specs.Unrolled.{frames}
 use Rattle.aig_unroll.proofs.UnrolledRow.{frames_at}
@@ -16,10 +16,6 @@ pub satisfies_both : (a : ℕ → Bool) (xs ys : List (List ℕ)) → Satisfies 
 satisfies_both a [] ys h k = k
 satisfies_both a (x ∷ xs) ys h k =
     let (first, rest) = and_parts (meets a x) (list_all (meets a) xs) h in both_and first (satisfies_both a xs ys rest k)
-
-pub both_satisfied : (a : ℕ → Bool) (xs ys : List (List ℕ)) → Satisfies a (xs ++ ys) → Satisfies a xs × Satisfies a ys
-both_satisfied a xs ys h =
-    and_parts (list_all (meets a) xs) (list_all (meets a) ys) (sym (list_all-append (meets a) xs ys) ∙ h)
 
 -- ---- from the literals to the clauses
 

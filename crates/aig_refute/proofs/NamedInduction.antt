@@ -10,6 +10,8 @@ use Rattle.std.proofs.lemmas.List.Elements.{All-head, All-tail}
 use Rattle.std.proofs.lemmas.List.Folds.{list_all-append, list_any_at}
 use Rattle.std.proofs.lemmas.List.FromFn.{get_or-map-range_with_len}
 use Rattle.std.proofs.lemmas.Option.{get_or_from_slice_get, slice_get-get_or, slice_get_within}
+use Rattle.aig_cnf.proofs.AddedLemmas.{satisfies_parts}
+use Rattle.aig_sat.proofs.checking.TruthLemmas.{true_even, true_odd, true_negation, true_below}
 use Rattle.aig_parts.specs.Literal.{negation, variable}
 use Rattle.aig_parts.specs.declared.gate.Gate.{Gate}
 use Rattle.aig_parts.specs.declared.latch.Latch.{Latch}
@@ -38,9 +40,7 @@ use Rattle.aig_refute.proofs.AnyState.{fits_from_any, reaches_any, reaches_from_
 use Rattle.aig_refute.proofs.BadFormula.{bad_at, bad_in_range, goal_frame, inputs_are, low_of, valued, values_known}
 use Rattle.aig_refute.proofs.BadFormula.{wide_values}
 use Rattle.aig_refute.proofs.DisprovedInduction.{broken_satisfies, goals_before, reached_satisfies, start_at}
-use Rattle.aig_refute.proofs.FirstReached.{both_satisfied}
-use Rattle.aig_refute.proofs.Tseitin.{gates_met, none_of, one_met, only_row, tern_and, tern_not, true_below}
-use Rattle.aig_refute.proofs.Tseitin.{true_even, true_negation, true_odd}
+use Rattle.aig_refute.proofs.Tseitin.{gates_met, none_of, one_met, only_row, tern_and, tern_not}
 use Rattle.aig_refute.proofs.UnrolledRows.{known_in, run_in}
 use Rattle.aig_refute.proofs.UnrolledWitnesses.{reaches_in_row}
 use Rattle.aig_unroll.specs.FrameLiteral.{input_count, is_uninitialised}
@@ -157,7 +157,7 @@ implied_at : (a : ℕ → Bool) (ms ls : List ℕ) (j l : ℕ) → Satisfies a (
     → is_true a l ≡ true → list_all (is_true a) ms ≡ true
 implied_at a ms [] j l h at on = cc
 implied_at a ms (x ∷ ls) j l h at on =
-    let (first, rest) = both_satisfied a (implies ms x) (flat_map (implies ms) ls)
+    let (first, rest) = satisfies_parts a (implies ms x) (flat_map (implies ms) ls)
     (subst (λ (cs : List (List ℕ)). Satisfies a cs) (flat_map-cons (implies ms) x ls) h) in
     go j at first (λ i here. implied_at a ms ls i l rest here on)
   where
@@ -308,7 +308,7 @@ module _ (raw : Raw) (circuit : IsCircuit raw) (order : List ℕ) (canonical : I
       let gates = flat_map gate_clauses kept_gates in
       let (low, rest) = and_parts (meets a (1 ∷ [])) (list_all (meets a) (reached ∷ first ++ gates)) h in
       let (some, more) = and_parts (meets a reached) (list_all (meets a) (first ++ gates)) rest in
-      let (implied, each) = both_satisfied a first gates more in (low, some, implied, each)
+      let (implied, each) = satisfies_parts a first gates more in (low, some, implied, each)
 
   literal_is : (t : ℕ) → t < k + 1 → slice_get all.bad (t * length raw.bad + p) ≡ Some (literal_at t)
   literal_is t below = bad_at free any order canonical (k + 1) t p below property

@@ -8,6 +8,7 @@ use Rattle.std.proofs.lemmas.List.Concat.{flat_map-cons}
 use Rattle.std.proofs.lemmas.List.Folds.{list_all-append}
 use Rattle.std.proofs.lemmas.Option.{slice_get_within, get_or_from_slice_get}
 use Rattle.std.proofs.lemmas.Bool.{and_parts}
+use Rattle.aig_sat.proofs.checking.TruthLemmas.{true_even, true_odd}
 use Rattle.aig_parts.specs.Literal.{variable, negation, IsNegated}
 use Rattle.aig_parts.specs.Ternary.{kleene_and, kleene_not}
 use Rattle.aig_parts.specs.declared.gate.Gate.{Gate}
@@ -26,7 +27,7 @@ use Rattle.aig_sat.specs.checker.Clause.{is_true, meets, Satisfies}
 use Rattle.aig_cnf.proofs.SignLemmas.{signs}
 use Rattle.aig_refute.proofs.BadFormula.{bad_at, bad_in_range, goal_frame, names_witness, valued}
 use Rattle.aig_refute.proofs.RowValues.{length-cut}
-use Rattle.aig_refute.proofs.Tseitin.{both_and, none_of, true_even, true_odd}
+use Rattle.aig_refute.proofs.Tseitin.{both_and, none_of}
 use Rattle.aig_refute.proofs.UnrolledWitnesses.{confirms_row}
 use Rattle.aig_refute.specs.Models.{tern_of, values_of}
 use Rattle.aig_refute.specs.PartialModels.{is_one, value_in, literal_in, has_one, SatisfiesInPart, IsFilling, inputs_in}

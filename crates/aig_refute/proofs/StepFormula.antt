@@ -6,6 +6,7 @@ use Rattle.std.proofs.Common.{refl, sym, ◌∙◌, ap, subst, arith}
 use Rattle.std.specs.List.{list_all}
 use Rattle.std.proofs.lemmas.Option.{slice_get-get_or, slice_get_within}
 use Rattle.std.proofs.lemmas.Bool.{and_parts}
+use Rattle.aig_cnf.proofs.AddedLemmas.{satisfies_parts}
 use Rattle.aig_parts.specs.declared.raw.Raw.{Raw}
 use Rattle.aig_parts.specs.declared.ternary.Tern.{Tern}
 use Rattle.aig_parts.specs.declared.ternary.Tern.TheVariants.{One}
@@ -24,7 +25,7 @@ use Rattle.aig_cnf.proofs.AnyCircuit.{from_any_circuit}
 use Rattle.aig_refute.proofs.AnyState.{any_allowed, any_fits, fits_from_any, reaches_any, reaches_from_any}
 use Rattle.aig_refute.proofs.BadFormula.{bad_at, bad_in_range, formula_met, in_model, inputs_are, low_of, valued}
 use Rattle.aig_refute.proofs.BadFormula.{values_known, wide_values}
-use Rattle.aig_refute.proofs.FirstReached.{at_reached, both_satisfied, reached_at, satisfies_both}
+use Rattle.aig_refute.proofs.FirstReached.{at_reached, reached_at, satisfies_both}
 use Rattle.aig_refute.proofs.Tseitin.{assigned, both_and, gates_met}
 use Rattle.aig_refute.proofs.UnrolledRows.{known_in, row_known, row_of_run, row_wide, run_in}
 use Rattle.aig_refute.proofs.UnrolledWitnesses.{made_bad_in, reaches_in_row}
@@ -109,7 +110,7 @@ module _ (raw : Raw) (circuit : IsCircuit raw) (order : List ℕ) (canonical : I
         let first = first_reached (goals all (length raw.bad) (k + 1) p) in
         let gates = flat_map gate_clauses all.gates in
         let (low, rest) = and_parts (meets a (1 ∷ [])) (list_all (meets a) (first ++ gates)) h in
-        (low, both_satisfied a first gates rest)
+        (low, satisfies_parts a first gates rest)
 
     assigns : (l : ℕ) (w : Tern) → Value all [] (row ∷ []) 0 l w → w ≡ tern_of (is_true a l)
     unfolding row

@@ -1,12 +1,12 @@
 -- A circuit without latches, and an assignment that makes each gate an AND.
-use Rattle.std.proofs.Common.{◌≡◌, ◌≢◌, inl, inr, ℕ, zero, suc, ◌+◌, ◌-◌, ◌%◌, Bool, true, false}
+use Rattle.std.proofs.Common.{◌≡◌, ◌≢◌, ℕ, zero, suc, ◌-◌, Bool, true, false}
 use Rattle.std.proofs.Common.{not, ◌&&◌, ◌||◌, List, [], ◌∷◌, flat_map, Some, slice_get}
-use Rattle.std.proofs.Common.{refl, sym, ◌∙◌, ap, ap₂, subst, arith}
+use Rattle.std.proofs.Common.{refl, sym, ◌∙◌, ap, ap₂, subst}
 use Rattle.std.specs.List.{list_all, list_any}
 use Rattle.std.proofs.lemmas.List.Folds.{list_all-append}
 use Rattle.std.proofs.lemmas.List.Concat.{flat_map-cons}
 use Rattle.std.proofs.lemmas.Bool.{and_parts}
-use Rattle.aig_parts.specs.Literal.{variable, negation, IsNegated}
+use Rattle.aig_sat.proofs.checking.TruthLemmas.{true_negation, true_below}
 use Rattle.aig_parts.specs.Ternary.{kleene_and, kleene_not}
 use Rattle.aig_parts.specs.declared.gate.Gate.{Gate}
 use Rattle.aig_parts.specs.declared.raw.Raw.{Raw}
@@ -16,39 +16,7 @@ use Rattle.aig_base.specs.Value as value
 use Rattle.aig_base.specs.Value.{Value}
 use Rattle.aig_cnf.specs.Formula.{gate_clauses}
 use Rattle.aig_sat.specs.checker.Clause.{is_true, meets, Satisfies}
-use Rattle.aig_cnf.proofs.SignLemmas.{signs}
 use Rattle.aig_refute.specs.Models.{tern_of}
-
--- ---- literals
-
-pub true_even : (a : ℕ → Bool) (l : ℕ) → l % 2 ≡ 0 → is_true a l ≡ a (variable l)
-true_even a l e = rw e refl
-
-pub true_odd : (a : ℕ → Bool) (l : ℕ) → IsNegated l → is_true a l ≡ not (a (variable l))
-true_odd a l e = rw e refl
-
--- an odd literal is the negation of the one below it
-pub true_below : (a : ℕ → Bool) (l : ℕ) → IsNegated l → is_true a l ≡ not (is_true a (l - 1))
-true_below a l e =
-    let even : (l - 1) % 2 ≡ 0 = grind arith in
-    let same : variable l ≡ variable (l - 1) = grind arith in
-    true_odd a l e ∙ ap (λ v. not (a v)) same ∙ ap not (sym (true_even a (l - 1) even))
-
-not_twice : (b : Bool) → not (not b) ≡ b
-not_twice true = refl
-not_twice false = refl
-
-pub true_negation : (a : ℕ → Bool) (l : ℕ) → is_true a (negation l) ≡ not (is_true a l)
-true_negation a l = elim (signs l) [
-  | inl even ↦
-      let is : negation l ≡ l + 1 = rw even refl in
-      let odd : (l + 1) % 2 ≡ 1 = grind arith in
-      let same : variable (l + 1) ≡ variable l = grind arith in
-      ap (is_true a) is ∙ true_odd a (l + 1) odd ∙ ap (λ v. not (a v)) same ∙ ap not (sym (true_even a l even))
-  | inr odd ↦
-      let is : negation l ≡ l - 1 = rw odd refl in
-      ap (is_true a) is ∙ sym (not_twice (is_true a (l - 1))) ∙ ap not (sym (true_below a l odd))
-]
 
 -- ---- a gate's clauses
 

@@ -14,7 +14,7 @@ pub true_odd : (a : ℕ → Bool) (l : ℕ) → IsNegated l → is_true a l ≡ 
 true_odd a l e = rw e refl
 
 -- an odd literal is the negation of the one below it
-true_below : (a : ℕ → Bool) (l : ℕ) → IsNegated l → is_true a l ≡ not (is_true a (l - 1))
+pub true_below : (a : ℕ → Bool) (l : ℕ) → IsNegated l → is_true a l ≡ not (is_true a (l - 1))
 true_below a l e =
     let even : (l - 1) % 2 ≡ 0 = grind arith in
     let same : variable l ≡ variable (l - 1) = grind arith in
