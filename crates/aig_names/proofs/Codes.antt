@@ -2,7 +2,7 @@
 use Rattle.std.proofs.Common.{◌≡◌, ℕ, zero, suc, ◌+◌, ◌/◌, ◌%◌, ◌<◌, ◌≤◌, true, false, [], ◌∷◌, Bool, List, All, refl}
 use Rattle.std.proofs.Common.{sym, ap, ◌∙◌, arith, inl, inr}
 use Rattle.std.specs.Prelude.{if◌then◌else◌, nat_lt}
-use Rattle.std.proofs.lemmas.Bool.{cases_lt, lt-ltb, le-ltb, ltb-false}
+use Rattle.std.proofs.lemmas.Bool.{cases_lt, lt-ltb, le-ltb, ltb-false, cond-true, cond-false}
 use Rattle.std.proofs.lemmas.List.Elements.{All-nil, All-cons}
 use Rattle.aig_names.specs.Names.{code_digits, identifier_code}
 
@@ -72,23 +72,17 @@ pub visible_code : (n : ℕ) → All IsVisible (identifier_code n)
 visible_code n = visible_digits (suc n) n
 
 -- ---- digits one by one
-pub if_true : (b : Bool) (x y : List ℕ) → b ≡ true → (if b then x else y) ≡ x
-if_true b x y e = rw e refl
-
-pub if_false : (b : Bool) (x y : List ℕ) → b ≡ false → (if b then x else y) ≡ y
-if_false b x y e = rw e refl
-
 digits_step : (j k n : ℕ) (b : Bool) → nat_lt n 94 ≡ b → n < suc j → n < suc k
     → (n / 94 < j → n / 94 < k → code_digits j (n / 94) ≡ code_digits k (n / 94)) → code_digits (suc j) n ≡ code_digits (suc k) n
 unfolding code_digits
 digits_step j k n true e p q h =
     ap (λ (ds : List ℕ). (33 + n % 94) ∷ ds)
-    (if_true (nat_lt n 94) [] (code_digits j (n / 94)) e ∙ sym (if_true (nat_lt n 94) [] (code_digits k (n / 94)) e))
+    (cond-true (nat_lt n 94) [] (code_digits j (n / 94)) e ∙ sym (cond-true (nat_lt n 94) [] (code_digits k (n / 94)) e))
 digits_step j k n false e p q h =
     let le = ltb-false n 94 e in
     ap (λ (ds : List ℕ). (33 + n % 94) ∷ ds)
-    (if_false (nat_lt n 94) [] (code_digits j (n / 94)) e ∙ h (omega (arith, le, p)) (omega (arith, le, q))
-    ∙ sym (if_false (nat_lt n 94) [] (code_digits k (n / 94)) e))
+    (cond-false (nat_lt n 94) [] (code_digits j (n / 94)) e ∙ h (omega (arith, le, p)) (omega (arith, le, q))
+    ∙ sym (cond-false (nat_lt n 94) [] (code_digits k (n / 94)) e))
 
 digits_enough : (j k n : ℕ) → n < j → n < k → code_digits j n ≡ code_digits k n
 digits_enough zero k n p q = absurd (omega (arith, p))
@@ -100,7 +94,7 @@ pub code_last : (n : ℕ) → n < 94 → identifier_code n ≡ (33 + n) ∷ []
 unfolding code_digits
 code_last n lt =
     let same : n % 94 ≡ n = omega (arith, lt) in
-    let none = if_true (nat_lt n 94) [] (code_digits n (n / 94)) (lt-ltb n 94 lt) in
+    let none = cond-true (nat_lt n 94) [] (code_digits n (n / 94)) (lt-ltb n 94 lt) in
     λ i. (33 + same i) ∷ none i
 
 -- a code of more
@@ -108,5 +102,5 @@ pub code_more : (n : ℕ) → 94 ≤ n → identifier_code n ≡ (33 + n % 94) �
 unfolding code_digits
 code_more n le =
     ap (λ (ds : List ℕ). (33 + n % 94) ∷ ds)
-    (if_false (nat_lt n 94) [] (code_digits n (n / 94)) (le-ltb n 94 le)
+    (cond-false (nat_lt n 94) [] (code_digits n (n / 94)) (le-ltb n 94 le)
     ∙ digits_enough n (suc (n / 94)) (n / 94) (omega (arith, le)) (omega arith))

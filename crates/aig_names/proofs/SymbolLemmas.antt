@@ -3,7 +3,7 @@ use Rattle.std.proofs.Common.{◌≡◌, ◌≢◌, ℕ, zero, suc, ◌<◌, Boo
 use Rattle.std.proofs.Common.{Contains, AllPairs, refl, sym, ap, ◌∙◌, arith}
 use Rattle.std.specs.Prelude.{◌==◌}
 use Rattle.std.specs.Map.{keys_of}
-use Rattle.std.proofs.lemmas.Bool.{eqb-true, eq-eqb}
+use Rattle.std.proofs.lemmas.Bool.{eqb-true, eq-eqb, cond-true, cond-false}
 use Rattle.std.proofs.lemmas.List.{get_or-map, length-map}
 use Rattle.aig_parts.specs.declared.symbols.Kind.{Kind}
 use Rattle.aig_parts.specs.Letters.{letter}
@@ -11,7 +11,6 @@ use Rattle.aig_parts.specs.SymbolPlaces.{Key}
 use Rattle.aig_parts.proofs.LetterLemmas.{same_kind}
 use Rattle.aig_parts.proofs.SymbolKeys.{and_both}
 use Rattle.aig_names.specs.Names.{symbol_of}
-use Rattle.aig_names.proofs.Codes.{if_true, if_false}
 
 -- the test of an entry
 abbrev is_entry : Key → Kind → ℕ → Bool
@@ -37,13 +36,13 @@ found_step : (s : Key × List ℕ) (symbols : List (Key × List ℕ)) (kind : Ki
 unfolding symbol_of
 found_step s symbols kind p name true e other h = absurd (other (same_entry s.0 kind p e))
 found_step s symbols kind p name false e other h =
-    if_false (is_entry s.0 kind p) s.1 (symbol_of symbols kind p) e ∙ h
+    cond-false (is_entry s.0 kind p) s.1 (symbol_of symbols kind p) e ∙ h
 
 found_first : (s : Key × List ℕ) (symbols : List (Key × List ℕ)) (kind : Kind) (p : ℕ) (name : List ℕ)
     → s ≡ ((kind, p), name) → symbol_of (s ∷ symbols) kind p ≡ name
 unfolding symbol_of
 found_first s symbols kind p name e =
-    if_true (is_entry s.0 kind p) s.1 (symbol_of symbols kind p)
+    cond-true (is_entry s.0 kind p) s.1 (symbol_of symbols kind p)
     (ap (λ (k : Key). is_entry k kind p) (ap (λ (x : Key × List ℕ). x.0) e) ∙ entry_same kind p)
     ∙ ap (λ (x : Key × List ℕ). x.1) e
 
@@ -71,7 +70,7 @@ missing_step : (s : Key × List ℕ) (symbols : List (Key × List ℕ)) (kind : 
 unfolding symbol_of
 missing_step s symbols kind p true e other h = absurd (other (same_entry s.0 kind p e))
 missing_step s symbols kind p false e other h =
-    if_false (is_entry s.0 kind p) s.1 (symbol_of symbols kind p) e ∙ h
+    cond-false (is_entry s.0 kind p) s.1 (symbol_of symbols kind p) e ∙ h
 
 pub symbol_missing : (symbols : List (Key × List ℕ)) (kind : Kind) (p : ℕ)
     → (Contains (keys_of symbols) (kind, p) → ⊥) → symbol_of symbols kind p ≡ []
