@@ -2,7 +2,7 @@
 use Rattle.std.proofs.Common.{◌≡◌, ◌≢◌, ℕ, zero, suc, ◌+◌, ◌<◌, ◌≤◌, Bool, true, false, List, [], ◌∷◌, ◌++◌, length}
 use Rattle.std.proofs.Common.{map, replicate, drop, get_or, refl, ap, ◌∙◌, arith}
 use Rattle.std.specs.Prelude.{◌==◌, if◌then◌else◌, codes}
-use Rattle.std.proofs.lemmas.Bool.{eqb-true}
+use Rattle.std.proofs.lemmas.Bool.{eqb-true, cond-false}
 use Rattle.std.proofs.lemmas.List.{drop_more, drop_all}
 use Rattle.aig_parts.specs.declared.ternary.Tern.{Tern}
 use Rattle.aig_parts.specs.declared.ternary.Tern.TheVariants.{Zero, One, X}
@@ -11,12 +11,6 @@ use Rattle.aig_sim.specs.Dump.{value_line, all_lines, changed_lines}
 use Rattle.aig_sim.specs.state.Dumping.{time_line, dumped_text}
 use Rattle.aig_values.specs.Characters.{character}
 use Rattle.aig_values.specs.TraceText.{literal_character}
-
-pub if_true : {A : Type 0} (b : Bool) (x y : A) → b ≡ true → (if b then x else y) ≡ x
-if_true b x y e = ap (λ (t : Bool). if t then x else y) e
-
-pub if_false : {A : Type 0} (b : Bool) (x y : A) → b ≡ false → (if b then x else y) ≡ y
-if_false b x y e = ap (λ (t : Bool). if t then x else y) e
 
 eqb_cases : (a b : ℕ) (t : Bool) → (a == b) ≡ t → a ≢ b → (a == b) ≡ false
 eqb_cases a b true e ne = absurd (ne (eqb-true a b e))
@@ -39,7 +33,7 @@ unfolding changed_lines all_lines
 changed_first n cells [] = refl
 changed_first n cells (l ∷ ls) =
     let line = value_line n (literal_character cells l) in
-    let first = if_false (0 == literal_character cells l) [] line (no_zero (literal_value cells l)) in
+    let first = cond-false (0 == literal_character cells l) [] line (no_zero (literal_value cells l)) in
     λ i. first i ++ changed_first (suc n) cells ls i
 
 -- the lines from a place on

@@ -1,11 +1,12 @@
 -- What a viewer sees of a signal after the texts of a dump.
-use Rattle.std.proofs.Common.{◌≡◌, ◌≢◌, ℕ, zero, suc, ◌+◌, ◌-◌, ◌^◌, ◌<◌, ◌≤◌, min, eqb, Bool, true, false, List, []}
+use Rattle.std.proofs.Common.{◌≡◌, ◌≢◌, ℕ, zero, suc, ◌+◌, ◌-◌, ◌^◌, ◌<◌, ◌≤◌, min, eqb, true, false, List, []}
 use Rattle.std.proofs.Common.{◌∷◌, ◌++◌, slice_get, Some, All, inl, inr, refl, ap, ◌∙◌, subst, arith, append_assoc}
 use Rattle.std.specs.Prelude.{if◌then◌else◌, ◌==◌, ◌&&◌, nat_le, codes, Option}
 use Rattle.std.specs.Fmt.{decimal}
 use Rattle.std.specs.Str.{bytes_eq}
 use Rattle.std.specs.Str.Parse.{digits_value}
 use Rattle.std.proofs.lemmas.Bool.{cases_Bool, le-leb, leb-true, eqb-true, and_from, and_parts, false_from_ne_true}
+use Rattle.std.proofs.lemmas.Bool.{cond-true, cond-false}
 use Rattle.std.proofs.lemmas.Fmt.{decimal_is_IsNumeral}
 use Rattle.std.proofs.lemmas.List.Elements.{All-cons, All-head, All-tail}
 use Rattle.std.proofs.lemmas.Slice.Eq.{bytes_eq-Decides}
@@ -91,12 +92,6 @@ value_tested c (inl e) = rw e (refl, refl, λ h. omega arith)
 value_tested c (inr (inl e)) = rw e (refl, refl, λ h. omega arith)
 value_tested c (inr (inr e)) = rw e (refl, refl, λ h. omega arith)
 
-then_part : (b : Bool) (x y : Option ℕ) → b ≡ true → (if b then x else y) ≡ x
-then_part b x y e = rw e refl
-
-else_part : (b : Bool) (x y : Option ℕ) → b ≡ false → (if b then x else y) ≡ y
-else_part b x y e = rw e refl
-
 time_stays : (now c : ℕ) (rest : List ℕ) → IsCharacter c → time_after now (c ∷ rest) ≡ now
 time_stays now c rest h = let other : eqb c 35 ≡ false = (value_tested c h).1 in rw other refl
 
@@ -122,7 +117,7 @@ leads_own m t now c value h le =
     let code : List ℕ = identifier_code m in
     let same : bytes_eq code code ≡ true = (bytes_eq-Decides code code).1 refl in
     leads_value m t now m c value (Some c) h
-    (then_part (is_value c && (bytes_eq code code && nat_le now t)) (Some c) value
+    (cond-true (is_value c && (bytes_eq code code && nat_le now t)) (Some c) value
     (and_from (is_value c) (bytes_eq code code && nat_le now t) (value_tested c h).0
     (and_from (bytes_eq code code) (nat_le now t) same (le-leb now t le))))
 
@@ -137,7 +132,7 @@ leads_unseen m t now n c value h unseen =
     let more = and_parts (bytes_eq other code) (nat_le now t) parts.1 in
     unseen (leb-true now t more.1) (one_signal n m ((bytes_eq-Decides other code).0 more.0)) in
     leads_value m t now n c value value h
-    (else_part (is_value c && (bytes_eq other code && nat_le now t)) (Some c) value
+    (cond-false (is_value c && (bytes_eq other code && nat_le now t)) (Some c) value
     (false_from_ne_true (is_value c && (bytes_eq other code && nat_le now t)) not))
 
 -- ---- values of all signals
