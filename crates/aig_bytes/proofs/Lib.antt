@@ -1,4 +1,5 @@
 pub mod BlockLemmas
+pub mod Decimals
 pub mod DigitLemmas
 pub mod GatherLemmas
 pub mod PairLemmas

@@ -1,38 +1,14 @@
 -- Lines of a text, as a reader of DIMACS has them.
-use Rattle.std.proofs.Common.{◌≡◌, ◌≢◌, ℕ, zero, suc, ◌+◌, ◌/◌, ◌%◌, ◌<◌, ◌≤◌, true, false, not, List, [], ◌∷◌, ◌++◌}
-use Rattle.std.proofs.Common.{filter, All, refl, sym, ap, ◌∙◌, subst, arith, append_assoc}
-use Rattle.std.specs.Prelude.{if◌then◌else◌, ◌==◌, nat_lt, slice_index}
-use Rattle.std.specs.Fmt.{decimal, digits, digits_onto, digit_glyph}
+use Rattle.std.proofs.Common.{◌≡◌, ◌≢◌, ℕ, true, false, not, List, [], ◌∷◌, ◌++◌}
+use Rattle.std.proofs.Common.{filter, All, refl, sym, ap, ◌∙◌, arith, append_assoc}
+use Rattle.std.specs.Prelude.{◌==◌, nat_lt, slice_index}
+use Rattle.std.specs.Fmt.{decimal}
 use Rattle.std.specs.List.{list_all, slice_split}
-use Rattle.std.proofs.lemmas.Bool.{and_parts, ltb-true, lt-ltb, ne_eqb}
+use Rattle.std.proofs.lemmas.Bool.{and_parts, ltb-true, ne_eqb}
 use Rattle.std.proofs.lemmas.List.Elements.{All-nil, All-cons, All-append}
 use Rattle.std.proofs.lemmas.List.Splits.{slice_split_at}
+use Rattle.aig_bytes.proofs.Decimals.{IsDigit, digits-decimal}
 use Rattle.aig_cnf.specs.DimacsRead.{lines}
-
--- ---- digits of numbers
-
-abbrev pub IsDigit : ℕ → Type 0
-IsDigit b = (48 ≤ b) × (b ≤ 57)
-
-digit_byte : (n : ℕ) → IsDigit (digit_glyph false (n % 10))
-digit_byte n =
-    let small : n % 10 < 10 = omega arith in
-    let digit : digit_glyph false (n % 10) ≡ 48 + n % 10 = rw (lt-ltb (n % 10) 10 small) in
-    subst IsDigit (sym digit) (omega arith, omega arith)
-
-digits_are : (k n : ℕ) (acc : List ℕ) → All IsDigit acc → All IsDigit (digits_onto k 10 false n acc)
-digits_are zero n acc h = h
-digits_are (suc k) n acc h =
-    let bytes : List ℕ = digit_glyph false (n % 10) ∷ acc in
-    let more : All IsDigit bytes = All-cons IsDigit (digit_glyph false (n % 10)) acc (digit_byte n) h in
-    elim (n / 10 == 0) as (λ b. All IsDigit (if b then bytes else digits_onto k 10 false (n / 10) bytes)) [
-      | true ↦ more
-      | false ↦ digits_are k (n / 10) bytes more
-    ]
-
-pub decimal_is_digits : (n : ℕ) → All IsDigit (decimal n)
-unfolding digits
-decimal_is_digits n = digits_are 64 n [] (All-nil IsDigit)
 
 -- ---- lines
 
@@ -43,7 +19,7 @@ pub digits_no_end : (bytes : List ℕ) → All IsDigit bytes → HasNoEnd bytes
 digits_no_end bytes h = λ k d lt e. let v = h k d lt in omega (arith, v.0, e)
 
 pub decimal_no_end : (n : ℕ) → HasNoEnd (decimal n)
-decimal_no_end n = digits_no_end (decimal n) (decimal_is_digits n)
+decimal_no_end n = digits_no_end (decimal n) (digits-decimal n)
 
 pub no_end_by_test : (bytes : List ℕ) → list_all (nat_lt 10) bytes ≡ true → HasNoEnd bytes
 no_end_by_test [] e = All-nil (λ b. b ≢ 10)

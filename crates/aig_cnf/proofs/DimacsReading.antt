@@ -18,7 +18,8 @@ use Rattle.aig_parts.specs.Literal.{variable}
 use Rattle.aig_cnf.specs.Dimacs.{sign_text, literal_text, clause_text, problem_line, formula_text}
 use Rattle.aig_cnf.specs.DimacsRead.{Found, is_space, words, number, signed, literal_of, clauses_of, counts_of}
 use Rattle.aig_cnf.specs.DimacsRead.{found_in, read_formula}
-use Rattle.aig_cnf.proofs.DimacsLines.{IsDigit, decimal_is_digits, decimal_no_end, no_end_by_test, line_end, line_more}
+use Rattle.aig_bytes.proofs.Decimals.{IsDigit, digits-decimal}
+use Rattle.aig_cnf.proofs.DimacsLines.{decimal_no_end, no_end_by_test, line_end, line_more}
 use Rattle.aig_cnf.proofs.DimacsLines.{HasLines, lines_none, lines_then, other_line}
 use Rattle.aig_cnf.proofs.SignLemmas.{signs}
 
@@ -107,14 +108,14 @@ module _ (l : ℕ) (small : variable l + 1 < 2 ^ 64) where
   even_word : l % 2 ≡ 0 → IsNumberWord l (decimal (variable l + 1))
   even_word even = record {
     bytes = All-weaker IsDigit (λ b. (33 ≤ b) × (b ≤ 57)) (λ b h. (omega (arith, h.0), h.1)) (decimal (variable l + 1))
-        (decimal_is_digits (variable l + 1));
+        (digits-decimal (variable l + 1));
     some = decimal_nonempty (variable l + 1) small;
     not_end = unequal (decimal (variable l + 1)) (codes "0") (λ e.
         let back : digits_value 10 (decimal (variable l + 1)) ≡ variable l + 1 = digits_value-decimal model (variable l + 1) small in
         let zero_is : digits_value 10 (decimal (variable l + 1)) ≡ 0 = ap (digits_value 10) e in
         omega (arith, back, zero_is));
     read = λ v lt.
-        positive_literal v (decimal (variable l + 1)) (decimal_is_digits (variable l + 1)) (decimal_nonempty (variable l + 1) small)
+        positive_literal v (decimal (variable l + 1)) (digits-decimal (variable l + 1)) (decimal_nonempty (variable l + 1) small)
         ∙ ap (option_and_then (signed v 0)) (number_back (variable l + 1) small)
         ∙ literal_back v 0 (variable l) l lt (omega (arith, even));
   }
@@ -124,7 +125,7 @@ module _ (l : ℕ) (small : variable l + 1 < 2 ^ 64) where
   odd_word odd = record {
     bytes = All-cons (λ b. (33 ≤ b) × (b ≤ 57)) 45 (decimal (variable l + 1)) (omega arith, omega arith)
         (All-weaker IsDigit (λ b. (33 ≤ b) × (b ≤ 57)) (λ b h. (omega (arith, h.0), h.1)) (decimal (variable l + 1))
-        (decimal_is_digits (variable l + 1)));
+        (digits-decimal (variable l + 1)));
     some = omega arith;
     not_end = unequal (45 ∷ decimal (variable l + 1)) (codes "0") (λ e.
         let first : 45 ≡ 48 = ap (λ (xs : List ℕ). slice_index xs 0) e in omega (arith, first));
@@ -252,9 +253,9 @@ module _ (v : ℕ) (few : v < 2 ^ 64) where
   problem_words n small =
       ap (λ (ws : List (List ℕ)). codes "p" ∷ codes "cnf" ∷ ws)
       (ap words (append_assoc (decimal v) (32 ∷ []) (decimal n ++ []))
-      ∙ first_word (decimal v) (decimal n ++ []) (digits_no_space (decimal v) (decimal_is_digits v)) (decimal_nonempty v few)
+      ∙ first_word (decimal v) (decimal n ++ []) (digits_no_space (decimal v) (digits-decimal v)) (decimal_nonempty v few)
       ∙ ap (λ (ws : List (List ℕ)). decimal v ∷ ws) (ap words (append-nil (decimal n))
-      ∙ last_word (decimal n) (digits_no_space (decimal n) (decimal_is_digits n)) (decimal_nonempty n small)))
+      ∙ last_word (decimal n) (digits_no_space (decimal n) (digits-decimal n)) (decimal_nonempty n small)))
 
   counts_read : (n : ℕ) → n < 2 ^ 64
       → counts_of (codes "p" ∷ codes "cnf" ∷ decimal v ∷ decimal n ∷ []) ≡ Some (v, n)

@@ -1,16 +1,17 @@
 -- Names and their pieces: all bytes are visible, no piece is empty, and none begins with `$`.
-use Rattle.std.proofs.Common.{◌≡◌, ◌≢◌, ◌⊎◌, ℕ, zero, suc, ◌+◌, ◌-◌, ◌/◌, ◌%◌, ◌<◌, ◌≤◌, Bool, true, false, ◌&&◌, ◌||◌}
+use Rattle.std.proofs.Common.{◌≡◌, ◌≢◌, ◌⊎◌, ℕ, suc, ◌+◌, ◌-◌, ◌<◌, ◌≤◌, Bool, true, false, ◌&&◌, ◌||◌}
 use Rattle.std.proofs.Common.{cond, List, [], ◌∷◌, ◌++◌, length, slice_get, Some, All, Contains, refl, sym, ap, ◌∙◌}
 use Rattle.std.proofs.Common.{subst, arith, inl, inr}
 use Rattle.std.specs.Prelude.{if◌then◌else◌, ◌==◌, nat_lt}
 use Rattle.std.specs.List.{onto_first, list_any}
-use Rattle.std.specs.Fmt.{decimal, digits, digits_onto, digit_glyph}
+use Rattle.std.specs.Fmt.{decimal}
 use Rattle.std.proofs.lemmas.Bool.{cases_lt, lt-ltb, ltb-true, eqb-true, eqb-false, eq-eqb, and_from, or_parts}
 use Rattle.std.proofs.lemmas.Bool.{false≢true}
 use Rattle.std.proofs.lemmas.List.{take_more, take_all}
 use Rattle.std.proofs.lemmas.List.Elements.{All-nil, All-cons, All-head, All-tail, All-map, All-weaker, All-contains}
 use Rattle.std.proofs.lemmas.List.Elements.{filter_passes}
 use Rattle.std.proofs.lemmas.List.Splits.{length-slice_split}
+use Rattle.aig_bytes.proofs.Decimals as decimals
 use Rattle.aig_parts.specs.declared.symbols.Kind.{Kind}
 use Rattle.aig_parts.specs.declared.symbols.Kind.TheVariants.{Input, Latch, Output, Bad, Constraint, Justice, Fairness}
 use Rattle.aig_parts.specs.SymbolPlaces.{Key}
@@ -26,25 +27,9 @@ NoDollar piece = slice_get piece 0 ≢ Some 36
 abbrev IsDigit : ℕ → Type 0
 IsDigit b = (48 ≤ b) × (b ≤ 122)
 
-digit_byte : (n : ℕ) → IsDigit (digit_glyph false (n % 10))
-digit_byte n =
-    let small : n % 10 < 10 = omega arith in
-    let digit : digit_glyph false (n % 10) ≡ 48 + n % 10 = rw (lt-ltb (n % 10) 10 small) in
-    subst IsDigit (sym digit) (omega arith, omega arith)
-
-digit_onto : (k n : ℕ) (acc : List ℕ) → All IsDigit acc → All IsDigit (digits_onto k 10 false n acc)
-digit_onto zero n acc h = h
-digit_onto (suc k) n acc h =
-    let bytes : List ℕ = digit_glyph false (n % 10) ∷ acc in
-    let more : All IsDigit bytes = All-cons IsDigit (digit_glyph false (n % 10)) acc (digit_byte n) h in
-    elim (n / 10 == 0) as (λ b. All IsDigit (if b then bytes else digits_onto k 10 false (n / 10) bytes)) [
-      | true ↦ more
-      | false ↦ digit_onto k (n / 10) bytes more
-    ]
-
 digit_decimal : (n : ℕ) → All IsDigit (decimal n)
-unfolding digits
-digit_decimal n = digit_onto 64 n [] (All-nil IsDigit)
+digit_decimal n =
+    All-weaker decimals.IsDigit IsDigit (λ b h. (h.0, omega (arith, h.1))) (decimal n) (decimals.digits-decimal n)
 
 digit_letter : (kind : Kind) → IsDigit (letter kind)
 digit_letter Input = (omega arith, omega arith)

@@ -1,5 +1,5 @@
 -- The pieces of a model's text: each place has one.
-use Rattle.std.proofs.Common.{◌≡◌, ◌≢◌, ◌⊎◌, inl, inr, ℕ, ◌+◌, ◌-◌, ◌<◌, ◌≤◌, ◌%◌, ◌^◌, nat_eq, if◌then◌else◌, Bool}
+use Rattle.std.proofs.Common.{◌≡◌, ◌≢◌, ◌⊎◌, inl, inr, ℕ, ◌+◌, ◌-◌, ◌<◌, ◌≤◌, ◌%◌, nat_eq, if◌then◌else◌, Bool}
 use Rattle.std.proofs.Common.{true, false, List, [], ◌∷◌, ◌++◌, length, get_or, take, drop, All, codes, refl, sym, ap}
 use Rattle.std.proofs.Common.{◌∙◌, subst, arith, append_assoc}
 use Rattle.std.specs.Fmt.{decimal}
@@ -12,7 +12,8 @@ use Rattle.aig_parts.specs.Literal.{variable}
 use Rattle.aig_sat.specs.model.ModelText.{BeginsLine, IsSatisfiable, IsSpace, number_text}
 use Rattle.aig_sat.specs.declared.model.reader.Phase.{Phase}
 use Rattle.aig_sat.specs.declared.model.reader.Phase.TheVariants.{Before, Within, After}
-use Rattle.aig_sat.proofs.models.DigitLemmas.{decimal_head, digits-decimal}
+use Rattle.aig_sat.proofs.models.DigitLemmas.{decimal_head}
+use Rattle.aig_bytes.proofs.Decimals.{IsDigit, digits-decimal}
 
 -- ---- pieces
 
@@ -89,10 +90,9 @@ no_space b lt (inl e) = omega (arith, lt, e)
 no_space b lt (inr (inl e)) = omega (arith, lt, e)
 no_space b lt (inr (inr e)) = omega (arith, lt, e)
 
-no_space_in_number : (n : ℕ) → n < 2 ^ 32 → All (λ b. IsSpace b → ⊥) (decimal n)
-no_space_in_number n small =
-    All-weaker (λ b. (48 ≤ b) × (b ≤ 57)) (λ b. IsSpace b → ⊥) (λ b h. no_space b (omega (arith, h.0))) (decimal n)
-    (digits-decimal n small)
+no_space_in_number : (n : ℕ) → All (λ b. IsSpace b → ⊥) (decimal n)
+no_space_in_number n =
+    All-weaker IsDigit (λ b. IsSpace b → ⊥) (λ b h. no_space b (omega (arith, h.0))) (decimal n) (digits-decimal n)
 
 pub no_space_in_word : (variables : ℕ) (front : List ℕ) (w : Word) → variables ≤ 2147483648 → MayBe variables front w
     → All (λ b. IsSpace b → ⊥) (word_text w)
@@ -103,7 +103,7 @@ no_space_in_word variables front Word.end small may =
 no_space_in_word variables front (Word.literal l) small may = by (nat_eq (l % 2) 0)
   where
     number : All (λ b. IsSpace b → ⊥) (decimal (variable l + 1))
-    number = no_space_in_number (variable l + 1) (omega (arith, may, small))
+    number = no_space_in_number (variable l + 1)
 
     by : (t : Bool) → All (λ b. IsSpace b → ⊥) ((if t then [] else codes "-") ++ decimal (variable l + 1))
     by true = number

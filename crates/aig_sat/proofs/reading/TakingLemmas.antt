@@ -28,7 +28,7 @@ use Rattle.aig_sat.specs.proof.ProofText.{EndsStep, Gap, IsBlank, SpellsClause, 
 use Rattle.aig_sat.specs.proof.Steps.{AreRenamed, BeginsSo, Block, TakesText, text_to_come, bytes_to_come}
 use Rattle.aig_sat.specs.proof.state.Taking.{Begins, Ends, GoesOn, LeadsAll, LeadsBy, LeadsClause, LeadsGap}
 use Rattle.aig_sat.specs.proof.state.Taking.{LeadsLiterals, LeadsStep, LeadsWord, TakesBytes, held, sign}
-use Rattle.aig_sat.proofs.models.DigitLemmas.{digit_joins}
+use Rattle.aig_bytes.proofs.Decimals.{digit_joins}
 
 pub before_none : (left : Option (List ℕ)) → before [] left ≡ left
 before_none None = refl

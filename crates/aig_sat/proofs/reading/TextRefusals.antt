@@ -20,7 +20,8 @@ use Rattle.aig_sat.specs.proof.Steps.{StepToCome}
 use Rattle.aig_sat.specs.proof.state.Taking.{BeginsGap, BeginsNot, ClauseToCome, EndsToCome, EndsUnfinished, IsDigit}
 use Rattle.aig_sat.specs.proof.state.Taking.{IsNumber, IsUnfinished, LeadsWord, LineToCome, WordToCome}
 use Rattle.aig_sat.proofs.reading.TakingLemmas.{after, before_none, digits_more}
-use Rattle.aig_sat.proofs.models.DigitLemmas.{decimal_head, digit_joins, digits-decimal}
+use Rattle.aig_sat.proofs.models.DigitLemmas.{decimal_head}
+use Rattle.aig_bytes.proofs.Decimals.{digit_joins, digits-decimal}
 use Rattle.aig_sat.proofs.models.PieceLemmas.{Word, no_space_in_word, split_at}
 
 -- ---- lists
@@ -421,7 +422,7 @@ all_digits f negated n bytes digits rest e no_minus some is lacks (WordToCome.en
     same le = decimal_injective n 0 (omega (arith, le)) (omega arith) (sym (is.within le) ∙ zero)
 all_digits f negated n bytes digits rest e no_minus some is lacks (WordToCome.literal {rest = more} l b below space clause) =
     let r = span IsDigit digits (decimal (variable l + 1)) rest (b ∷ more) is.all
-    (digits-decimal (variable l + 1) (omega (arith, below))) lacks
+    (digits-decimal (variable l + 1)) lacks
     (λ c xs k digit. let one : b ≡ c = cc in omega (arith, one, digit.0, space_below b space))
     (sym (number_after l (b ∷ more) (digits ++ rest) negated below e no_minus)) in
     record {

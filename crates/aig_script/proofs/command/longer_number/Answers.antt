@@ -1,7 +1,8 @@
 use Rattle.std.proofs.Common.{ℕ, ◌+◌, ◌≤◌, get_or, take, drop, ◌++◌, ◌∷◌, [], List, sym, ap, ◌∙◌, arith, append_assoc}
 use Rattle.std.specs.Fmt.{decimal}
 use Rattle.std.proofs.lemmas.List.{take_more}
-use Rattle.aig_script.proofs.Digits.{is_digit, digit_joins, grows_on, left}
+use Rattle.aig_script.proofs.Digits.{grows_on}
+use Rattle.aig_bytes.proofs.Decimals.{is_digit, digit_joins, left}
 use Rattle.aig_script.proofs.command.longer_number.Goals as goal
 
 pub returns-then-longer-clause-none : goal.returns-then-longer-clause-none

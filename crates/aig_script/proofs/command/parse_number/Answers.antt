@@ -1,4 +1,4 @@
-use Rattle.std.proofs.Common.{◌≡◌, [], length, sym, ap, ◌∙◌, arith}
+use Rattle.std.proofs.Common.{◌≡◌, [], length, sym, ap, ◌∙◌}
 use Rattle.std.specs.Fmt.{decimal}
 use Rattle.std.proofs.lemmas.Bool.{eqb-false}
 use Rattle.std.proofs.lemmas.List.{append-nil}
@@ -15,5 +15,5 @@ returns-else-is_empty-clause-none c n small e =
     let h = c.in_ok-number.ensures in
     let t = rw c.in_ok-number.was at c.split_number.type_inv in
     let none : c.in_ok-number.rest.now ≡ [] =
-    one_end c.in_ok-number.number n c.in_ok-number.rest.now [] (omega (arith, t)) small h.ends tt (sym h.some ∙ e ∙ sym (append-nil (decimal n))) in
+    one_end c.in_ok-number.number n c.in_ok-number.rest.now [] h.ends tt (sym h.some ∙ e ∙ sym (append-nil (decimal n))) in
     eqb-false (length c.in_ok-number.rest.now) 0 (sym c.is_empty.ensures ∙ c.if-is_empty.false) (ap length none)

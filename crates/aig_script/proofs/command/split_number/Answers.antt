@@ -2,9 +2,10 @@ use Rattle.std.proofs.Common.{ℕ, List, ◌∷◌, length, get_or, drop, sym, a
 use Rattle.std.specs.Fmt.{decimal}
 use Rattle.std.proofs.lemmas.Fmt.{decimal_nonempty}
 use Rattle.std.proofs.lemmas.List.{drop_more}
+use Rattle.std.proofs.lemmas.Option.{IfSome_then}
 use Rattle.aig_script.proofs.Fields.{on_none}
-use Rattle.aig_script.proofs.Digits.{is_digit, is_no_digit, digit_in_front, one_in_front, zero_in_front, leading_zero}
-use Rattle.aig_script.proofs.Digits.{some_such, none_such}
+use Rattle.aig_script.proofs.Digits.{digit_in_front, zero_in_front, leading_zero, none_such}
+use Rattle.aig_bytes.proofs.Decimals.{is_digit, is_no_digit, one_in_front}
 use Rattle.aig_script.proofs.command.split_number.Goals as goal
 
 pub returns-in_err-first-clause-none : goal.returns-in_err-first-clause-none
@@ -24,7 +25,7 @@ returns-then-first-gt48-clause-some c =
     let first = c.in_ok-first.first.now in
     let range = is_digit first (sym c.is_ascii_digit.ensures.value ∙ c.if-not-is_ascii_digit.false) in
     let is = one_in_front c.args.bytes.now c.in_ok-first.rest.now first c.in_ok-first.ensures.cases.0 range in
-    some_such c.longer_number.result (λ parts e. is ∙ e) c.longer_number.ensures.some
+    IfSome_then c.longer_number.result c.longer_number.ensures.some (λ parts e. is ∙ e)
 
 pub returns-then-first-gt48-clause-none : goal.returns-then-first-gt48-clause-none
 returns-then-first-gt48-clause-none c =

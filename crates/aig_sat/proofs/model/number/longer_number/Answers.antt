@@ -1,7 +1,7 @@
 use Rattle.std.proofs.Common.{ℕ, ◌+◌, ◌≤◌, get_or, take, drop, ◌++◌, ◌∷◌, [], List, sym, ap, ◌∙◌, arith, append_assoc}
 use Rattle.std.specs.Fmt.{decimal}
 use Rattle.std.proofs.lemmas.List.{take_more}
-use Rattle.aig_sat.proofs.models.DigitLemmas.{is_digit, is_no_digit, digit_after, digit_joins, grows, left}
+use Rattle.aig_bytes.proofs.Decimals.{is_digit, is_no_digit, digit_after, digit_joins, grows, left}
 use Rattle.aig_sat.proofs.model.number.longer_number.Goals as goal
 
 pub loop-digit-preserved : goal.loop-digit-preserved
@@ -28,7 +28,7 @@ returns-then-not-is_ascii_digit-clause-none c is n le e =
     let m = c.loop-digit.number in
     let x = get_or xs i 0 in
     is_no_digit x (sym c.is_ascii_digit.ensures.value ∙ c.if-not-is_ascii_digit.true)
-    (digit_after (decimal m) (drop (i + 1) xs) x n (omega (arith, le))
+    (digit_after (decimal m) (drop (i + 1) xs) x n
     (left c.args.first m i xs (decimal n) c.loop-digit-test.true c.loop-digit.invariant.spelled e))
 
 pub returns-then-longer-most-clause-none : goal.returns-then-longer-most-clause-none

@@ -1,16 +1,17 @@
 use Rattle.std.proofs.Common.{◌≡◌, ◌-◌, ◌∷◌, ◌∙◌, length, sym, ap, arith}
-use Rattle.aig_sat.proofs.models.DigitLemmas.{at_least, decimal_head, is_digit, is_no_digit, no_digits, one_in_front}
-use Rattle.aig_sat.proofs.models.DigitLemmas.{some_such}
+use Rattle.std.proofs.lemmas.Option.{IfSome_then}
+use Rattle.aig_sat.proofs.models.DigitLemmas.{at_least, decimal_head, no_digits}
+use Rattle.aig_bytes.proofs.Decimals.{is_digit, is_no_digit, one_in_front}
 use Rattle.aig_sat.proofs.model.number.positive_number.Goals.{then-not-is_ascii_digit-via-then-not-is_ascii_digit}
 use Rattle.aig_sat.proofs.model.number.positive_number.Goals.{then-not-is_ascii_digit-via-else-not-is_ascii_digit+then-first-eq48}
 use Rattle.aig_sat.proofs.model.number.positive_number.Goals as goal
 
 pub returns-clause-spelled : goal.returns-clause-spelled
 returns-clause-spelled c =
-    some_such c.longer_number.result (λ n e.
+    IfSome_then c.longer_number.result c.longer_number.ensures.spelled (λ n e.
     one_in_front c.args.bytes.now c.in_ok-first.rest.now c.in_ok-first.first.now c.in_ok-first.ensures.cases.0
     (is_digit c.in_ok-first.first.now (sym c.is_ascii_digit.ensures.value ∙ c.if-not-is_ascii_digit.false))
-    ∙ e) c.longer_number.ensures.spelled
+    ∙ e)
 
 pub returns-in_err-first-clause-none : goal.returns-in_err-first-clause-none
 returns-in_err-first-clause-none c is n some le e =
