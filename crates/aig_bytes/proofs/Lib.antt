@@ -3,4 +3,5 @@ pub mod Decimals
 pub mod DigitLemmas
 pub mod GatherLemmas
 pub mod PairLemmas
+pub mod Results
 pub mod WriteLemmas

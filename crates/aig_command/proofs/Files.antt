@@ -1,6 +1,6 @@
 -- From what a command means for a circuit to what it means for the circuit's file.
 use Rattle.std.proofs.Common.{◌≡◌, ◌≢◌, ℕ, ◌+◌, List, [], Result, Ok, Err, refl, sym, ap, subst, arith}
-use Rattle.std.specs.Prelude.{Option, Some, false, IfErr}
+use Rattle.std.specs.Prelude.{Option, Some, false}
 use Rattle.std.specs.Result.{IsErrAnd}
 use Rattle.aig_parts.specs.declared.fault.Fault.{Fault}
 use Rattle.aig_parts.specs.declared.fault.Fault.TheVariants as circuits
@@ -128,6 +128,3 @@ answered (Ok value) fault P is p = absurd is
 answered (Err why) fault P is p = subst (λ f. P (Err f)) (sym is) p
 
 -- what holds of a fault holds of the error that reports it
-pub reported_as : {T E : Type 0} (r : Result T E) (e : E) (P : E → Type 0) → IsErrAnd r (λ f. f ≡ e) → P e → IfErr r P
-reported_as (Ok x) e P h p = tt
-reported_as (Err f) e P h p = subst P (sym h) p

@@ -129,7 +129,3 @@ module _ {E : Type 0} (before pages : List (List ℕ)) (k : Key) (page : ℕ) (o
       let back : set pages page new ≡ pages =
       ap (λ (ws : List ℕ). set pages page ws) (stays ∙ is) ∙ set-get_or pages page old in
       λ j. subst (λ (ps : List (List ℕ)). IsMarkedEntry ps j ↔ IsMarkedEntry before j) (sym back) (same_marks pages before same j)
-
-pub on_error : {T E P : Type 0} (r : Result T E) → P → OnErr r P
-on_error (Ok x) p = tt
-on_error (Err e) p = p

@@ -304,6 +304,3 @@ decimal_refused digits width all (Err e) whole h = λ other bits is reads.
     (subst (λ xs. All (λ w. w ≡ Zero) (drop (length bits) xs)) (sym whole) reads.2.others))
 
 -- a fact that no fault changes
-pub any_fault : {V E : Type 0} (r : Result V E) (P : Type 0) → P → IfErr r (λ f. P)
-any_fault (Ok v) P h = tt
-any_fault (Err e) P h = h

@@ -51,10 +51,6 @@ bytes_fresh whole l b e f =
     let same : bytes_to_come b l ≡ bytes_to_come fresh whole = ap (λ (k : Block). bytes_to_come k l) f ∙ ap (bytes_to_come fresh) e in
     sym (ap (before []) same ∙ before_none (bytes_to_come fresh whole))
 
-pub none_left : (o : Option StepKind) → ((kind : StepKind) → o ≡ Some kind → ⊥) → o ≡ None
-none_left None other = refl
-none_left (Some kind) other = absurd (other kind refl)
-
 some_more : (steps : List Step) (step : Step) → are_none (steps ++ step ∷ []) ≡ false
 some_more [] step = refl
 some_more (s ∷ steps) step = refl

@@ -1,7 +1,6 @@
 -- Digits of numbers: what may stand in front, and how a number grows by a digit.
 use Rattle.std.proofs.Common.{◌≡◌, ℕ, zero, suc, ◌+◌, ◌-◌, ◌*◌, ◌^◌, ◌<◌, ◌≤◌, List, [], ◌∷◌, ◌++◌}
 use Rattle.std.proofs.Common.{length, refl, sym, ap, ◌∙◌, subst, append_assoc, arith}
-use Rattle.std.specs.Prelude.{Option, Some, None, IfNone}
 use Rattle.std.specs.Fmt.{decimal}
 use Rattle.std.proofs.lemmas.Fmt.{decimal_digit, decimal_nonempty}
 use Rattle.std.proofs.lemmas.List.Elements.{All-cons, All-nil, All-push, All-tail}
@@ -78,7 +77,3 @@ leading_zero x y n xs rest ge le range small ends e =
     let digits : AreDigits (x ∷ (y ∷ [])) = All-cons IsDigit x (y ∷ []) (omega arith, omega arith) (All-cons IsDigit y [] range (All-nil IsDigit)) in
     let more = begins_number (x ∷ (y ∷ [])) xs (decimal n) rest digits ends e in
     alone n y more.0 small (ap (λ (z : ℕ). z ∷ (y ∷ more.0)) (sym zero) ∙ sym more.1)
-
-pub none_such : {T P Q : Type 0} (r : Option T) → (P → Q) → IfNone r P → IfNone r Q
-none_such None f h = f h
-none_such (Some x) f h = tt

@@ -1,6 +1,6 @@
 -- Fields of a line with a space between them.
-use Rattle.std.proofs.Common.{◌≡◌, ◌≢◌, ℕ, zero, suc, ◌+◌, ◌<◌, ◌%◌, ◌^◌, List, [], ◌∷◌, ◌++◌, All, Option, Some, None}
-use Rattle.std.proofs.Common.{IfNone, refl, ◌∙◌, ap, arith}
+use Rattle.std.proofs.Common.{◌≡◌, ◌≢◌, ℕ, zero, suc, ◌+◌, ◌<◌, ◌%◌, ◌^◌, List, [], ◌∷◌, ◌++◌, All}
+use Rattle.std.proofs.Common.{refl, ◌∙◌, ap, arith}
 use Rattle.std.specs.Fmt.{decimal}
 use Rattle.std.proofs.lemmas.List.Elements.{All-append}
 use Rattle.std.proofs.lemmas.Fmt.{decimal_by_steps}
@@ -34,7 +34,3 @@ split_once (x ∷ a) b (y ∷ c) d p q e =
     let t : a ++ 32 ∷ b ≡ c ++ 32 ∷ d = cc in
     let r = split_once a b c d (rest_space x a p) (rest_space y c q) t in
     (ap (λ (z : ℕ). z ∷ a) h ∙ ap (λ (zs : List ℕ). y ∷ zs) r.0, r.1)
-
-pub on_none : {T P : Type 0} (r : Option T) → P → IfNone r P
-on_none None p = p
-on_none (Some x) p = tt

@@ -13,7 +13,6 @@ use Rattle.aig_script.specs.Replies.{Replies, LineReply}
 use Rattle.aig_script.specs.Ran.{Answered, StoppedAt, Reading, Failing}
 use Rattle.aig_script.specs.ScriptLine.{ScriptLine, KeepsScriptLine}
 use Rattle.aig_sim.proofs.SimulationLemmas.{before_nil, before-before}
-use Rattle.aig_parts.proofs.NamedLemmas.{on_error}
 
 pub lines_from-append : (s xs ys : List ℕ) → lines_from s (xs ++ ys) ≡ lines_from s xs ++ lines_from (rest_from s xs) ys
 lines_from-append s [] ys = refl
@@ -35,10 +34,6 @@ pub whole_from-append : (s xs ys : List ℕ)
 whole_from-append s xs ys =
     sym (map-append whole (lines_from s xs) (lines_from (rest_from s xs) ys))
     ∙ sym (ap (λ (ls : List (List ℕ)). map whole ls) (lines_from-append s xs ys))
-
-pub on_ok : {T E P : Type 0} (r : Result T E) → P → OnOk r P
-on_ok (Ok x) p = p
-on_ok (Err e) p = tt
 
 pub on_ok_from_err : {T E : Type 0} (P : Type 0) (r : Result T E) → IsErr r → OnOk r P
 on_ok_from_err P (Ok x) h = absurd (false≢true h)

@@ -2,6 +2,7 @@
 use Rattle.std.proofs.Common.{◌≡◌, ◌≢◌, ◌⊎◌, inl, inr, ℕ, ◌+◌, ◌*◌, List, [], ◌∷◌, ◌++◌, Bool, true, false, length}
 use Rattle.std.proofs.Common.{decimal, Option, None, Some, Result, Ok, Err, OnOk, IsErrAnd, Bor, append_assoc, refl}
 use Rattle.std.proofs.Common.{sym, ap, subst, ◌∙◌}
+use Rattle.aig_bytes.proofs.Results.{on_ok}
 use Rattle.aig_parts.specs.declared.ternary.Tern.{Tern}
 use Rattle.aig_bench.specs.BenchState.{CircuitAndRows}
 use Rattle.aig_signals.specs.Lookup.{Means, alone}
@@ -87,10 +88,6 @@ circuit_changed old new r (Ok x) text k edited does holds denied = λ s h.
     )
 circuit_changed old new r (Err refusal) text k same (none, kept) holds denied =
     ((λ s h. in_same old new s h k kept same), λ other s h. denied s (refused old new r s h (none other)))
-
-pub on_ok : {A E P : Type 0} (result : Result A E) → P → OnOk result P
-on_ok (Ok x) p = p
-on_ok (Err e) p = tt
 
 -- each edit
 pub set_ends : (old new : Session) (frames name value : List ℕ) (result : Result (Unit {0}) Refusal) (text : List ℕ) → text ≡ []

@@ -1,5 +1,5 @@
 -- What a fault says of a result.
-use Rattle.std.proofs.Common.{◌≡◌, ◌≢◌, Result, Ok, Err, IfErr, ◌∙◌, refl}
+use Rattle.std.proofs.Common.{◌≡◌, ◌≢◌, Result, Ok, Err, ◌∙◌, refl}
 use Rattle.std.specs.Prelude.{IsErrAnd}
 use Rattle.aig_bench.specs.declared.edit.EditFault.{EditFault}
 use Rattle.aig_bench.specs.declared.edit.EditFault.TheVariants as faults
@@ -10,11 +10,6 @@ use Rattle.aig_shell.specs.declared.refusal.Refusal.{Refusal}
 use Rattle.aig_shell.specs.declared.refusal.Refusal.TheVariants as refusals
 use Rattle.aig_shell.specs.Edits.{EndsEdit, IsImpossible}
 use Rattle.aig_shell.specs.Request.{Request}
-
--- a fault says the same, whichever it is
-pub of_err : {T E P : Type 0} (r : Result T E) → P → IfErr r (λ e. P)
-of_err (Ok x) p = tt
-of_err (Err e) p = p
 
 pub ends_err : {A : Type 0} (p q : CircuitAndRows) (r : Request) (result : Result A Refusal) (refusal : Refusal)
     → IsErrAnd result (λ e. e ≡ refusal) → (refusal ≢ refusals.Memory → IsImpossible p r) → q ≡ p → EndsEdit p r result q

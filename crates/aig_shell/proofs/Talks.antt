@@ -71,10 +71,6 @@ holds_cut text bytes line cut (inr (is, some)) = inr (is, λ e. some (first_of_n
 
 -- ---- the answer to a line
 
-pub on_ok : {T E P : Type 0} (r : Result T E) → P → OnOk r P
-on_ok (Ok x) p = p
-on_ok (Err e) p = tt
-
 pub reply_written : {E : Type 0} {old new : Conversation} {line : List ℕ} {before now : Moment} (text : List ℕ) (after_it : Next)
     → AnswersLine old line text before.calls now.calls (ends_after after_it) new → now.bytes ≡ after before.bytes text
     → now.failures ≡ before.failures + 0 → Replies {E = E} old line before now (Ok after_it) new

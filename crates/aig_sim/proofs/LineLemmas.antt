@@ -3,7 +3,7 @@ use Rattle.std.proofs.Common.{◌≡◌, ◌≢◌, ℕ, ◌+◌, ◌<◌, ◌�
 use Rattle.std.proofs.Common.{ap, ◌∙◌, subst, arith, append_assoc, ◌-◌, take, drop, length-drop, get_or, Some}
 use Rattle.std.proofs.Common.{slice_get}
 use Rattle.std.specs.List.{flat_map}
-use Rattle.std.specs.Prelude.{Result, Ok, Err, IfErr, Bool, true, false, ◌&&◌, ◌↔◌, IsTrue}
+use Rattle.std.specs.Prelude.{Result, Err, Bool, true, false, ◌&&◌, ◌↔◌, IsTrue}
 use Rattle.std.specs.Result.{IsErrAnd}
 use Rattle.std.proofs.Math.Seq.{take-add, get_or-drop}
 use Rattle.std.proofs.lemmas.Option.{get_or_from_slice_get}
@@ -273,10 +273,6 @@ read_same {width} {text'} {rows} {rows'} {shape} {shape'} {values} {values'} h t
     (subst (λ (x : List ℕ). HasRead width x rows shape values) t h)))
 
 -- a fault that is returned as it is
-pub fault_same : {T E : Type 0} (r : Result T E) (e : E) (P : E → Type 0) → IsErrAnd r (λ y. y ≡ e) → P e → IfErr r P
-fault_same (Ok x) e P h p = tt
-fault_same (Err y) e P h p = subst P (sym h) p
-
 -- a fault that is returned as it is
 pub forwarded : (P : Result ℕ StimFault → Type 0) (r : Result ℕ StimFault) (e : StimFault) → IsErrAnd r (λ f. f ≡ e)
     → P (Err e) → P r

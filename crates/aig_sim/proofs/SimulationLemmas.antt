@@ -5,6 +5,7 @@ use Rattle.std.specs.Prelude.{Option, Some, None, Result, IfOk, IfErr, OnOk, OnE
 use Rattle.std.specs.List.{flat_map}
 use Rattle.std.specs.Result.{IsErrAnd}
 use Rattle.std.proofs.lemmas.List.{append-nil, length_push, length-map}
+use Rattle.aig_bytes.proofs.Results.{known_err}
 use Rattle.aig_parts.specs.declared.ternary.Tern.{Tern}
 use Rattle.aig_parts.specs.declared.raw.Raw.{Raw}
 use Rattle.aig_bytes.specs.Bytes.{after, before, IsAtEnd, IsBeginning}
@@ -26,7 +27,6 @@ use Rattle.aig_sim.specs.Simulated.{Streams, Simulates}
 use Rattle.aig_sim.specs.StimulusText.{row_line, line_number, EndsLine, HasFault, HasFaultyLine}
 use Rattle.aig_values.specs.Trace.{IsTrace}
 use Rattle.aig_sim.proofs.LineLemmas.{read_none, read_piece, read_line, read_fault, read_unfinished, read_end}
-use Rattle.aig_sim.proofs.LineLemmas.{fault_same}
 use Rattle.aig_values.proofs.TraceLemmas.{first_states}
 
 -- ---- reads
@@ -453,5 +453,5 @@ pub stopped_for_no_memory : {is_text : RunText} {raw : Raw} {start : Option (Lis
     {written : Option (List ℕ)} {failures : ℕ} (r : Result ℕ StimFault) (f : StimFault) → IsErrAnd r (λ g. g ≡ f)
     → Stopped is_text raw start count text written failures f → IfErr r (λ g. g ≢ fault.Memory)
 stopped_for_no_memory {is_text} {raw} {start} {count} {text} {written} {failures} r f h stopped =
-    fault_same r f (λ g. g ≢ fault.Memory) h
+    known_err r f (λ g. g ≢ fault.Memory) h
     (λ is. stops_for_no_memory is_text raw start count text written failures f is stopped)

@@ -3,7 +3,7 @@ use Rattle.std.proofs.Common.{true, false, ◌≡◌, ◌≢◌, inl, inr, ℕ, 
 use Rattle.std.proofs.Common.{◌++◌, length, map, take, drop, get_or, All, refl, sym, ap, ◌∙◌, subst, arith}
 use Rattle.std.proofs.Common.{append_assoc}
 use Rattle.std.specs.List.{flat_map}
-use Rattle.std.specs.Prelude.{min, Option, Some, None, IfNone}
+use Rattle.std.specs.Prelude.{min, Some}
 use Rattle.std.proofs.lemmas.List.{length-append, length-map, length_push, take-append-drop, take_more, drop_more}
 use Rattle.std.proofs.lemmas.List.{get_or_append_left}
 use Rattle.std.proofs.lemmas.List.Elements.{All-head, All-tail, All-push, All-nil}
@@ -156,10 +156,6 @@ rows_more width text rest rest' rows row n widths len is wide begins = (
       ∙ sym (append_assoc (flat_map row_line rows) (row_line row) rest')
       ∙ ap (λ (t : List ℕ). t ++ rest') (sym (flat_map_push rows row)),
 )
-
-pub if_none : {A P : Type 0} (r : Option A) → P → IfNone r P
-if_none None p = p
-if_none (Some x) p = tt
 
 -- ---- the body
 

@@ -1,9 +1,10 @@
 -- What a variable is, looked up.
-use Rattle.std.proofs.Common.{◌≡◌, ◌<◌, ℕ, zero, suc, ◌==◌, Bool, true, false, List, [], ◌∷◌, map, Contains, Option}
+use Rattle.std.proofs.Common.{◌≡◌, ◌<◌, ℕ, zero, suc, ◌==◌, Bool, true, false, List, [], ◌∷◌, map, Contains}
 use Rattle.std.proofs.Common.{Some}
 use Rattle.std.proofs.Common.{None, length, slice_get, option_map, refl, sym, ◌∙◌, ap, subst, arith, eq-eqb}
 use Rattle.std.proofs.lemmas.Bool.Decides.{nat_tests}
 use Rattle.std.proofs.lemmas.Option.{slice_get-map, slice_get_within}
+use Rattle.aig_bytes.proofs.Results.{has_none}
 use Rattle.aig_parts.specs.declared.gate.Gate.{Gate}
 use Rattle.aig_parts.specs.declared.latch.Latch.{Latch}
 use Rattle.aig_parts.specs.declared.raw.Raw.{Raw}
@@ -15,10 +16,6 @@ use Rattle.aig_base.specs.Role.{place_of, Role, role}
 use Rattle.aig_base.proofs.circuits.Gates.{same_literal}
 use Rattle.aig_base.proofs.circuits.Places.{Place, IsSection, input, latch, gate, At, same_place, IsDefinition-of_place}
 use Rattle.aig_base.proofs.lists.Positions.{unmap, unmap_option, position_of, Contains-from_slice_get}
-
-none_option : {A : Type 0} → (o : Option A) → ((x : A) → o ≡ Some x → ⊥) → o ≡ None
-none_option None h = refl
-none_option (Some x) h = absurd (h x refl)
 
 -- what stands at the place that was found
 pub place_found : {A : Type 0} → (test : A → Bool) (xs : List A) (i : ℕ) → place_of test xs ≡ Some i
@@ -70,7 +67,7 @@ only_place xs i v at only =
 
 -- a number that stands nowhere is not found
 pub no_place : (xs : List ℕ) (v : ℕ) → ((j : ℕ) → slice_get xs j ≡ Some v → ⊥) → place_of (λ u. u == v) xs ≡ None
-no_place xs v never = none_option _ (λ j is.
+no_place xs v never = has_none _ (λ j is.
     let (u, here, test) = place_found (λ u. u == v) xs j is in never j (here ∙ ap Some (eqb→eq u v test)))
 
 module _ (raw : Raw) (sound : IsSound raw) where

@@ -1,6 +1,6 @@
 -- What the number of a definition says.
-use Rattle.std.proofs.Common.{◌≡◌, inl, inr, ℕ, zero, suc, ◌+◌, ◌<◌, ◌≤◌, List, ◌++◌, length, map, get_or, Option}
-use Rattle.std.proofs.Common.{Some, None, IfNone, slice_get, sym, ap, subst, ◌∙◌, arith}
+use Rattle.std.proofs.Common.{◌≡◌, inl, inr, ℕ, zero, suc, ◌+◌, ◌<◌, ◌≤◌, List, ◌++◌, length, map, get_or}
+use Rattle.std.proofs.Common.{Some, slice_get, sym, ap, subst, ◌∙◌, arith}
 use Rattle.std.proofs.lemmas.List.{length-append, length-map, get_or-map}
 use Rattle.std.proofs.lemmas.Option.{slice_get-get_or, slice_get_within, same_Some}
 use Rattle.aig_parts.specs.declared.gate.Gate.{Gate}
@@ -41,10 +41,6 @@ from_left xs ys k x l at =
     here ∙ ap Some (same_Some (get_or xs k x) x (sym (slice_get_left xs ys k (get_or xs k x) here) ∙ at))
 
 -- what follows from what a clause says of a `None`
-pub none_then : {X : Type 0} {P Q : Type 0} (o : Option X) → IfNone o P → (P → Q) → IfNone o Q
-none_then None h f = f h
-none_then (Some x) h f = tt
-
 -- what a variable's number says
 pub defines_numbered : (raw : Raw) (v n : ℕ) (d : Definition) → HasNumber raw n d
     → IsNumberOf (map variable (definitions raw)) v n → Defines raw v d

@@ -1,8 +1,7 @@
 -- The lists of readers: what taking out, adding and making room do to how often a gate stands in a list.
 use Rattle.std.proofs.Common.{◌≡◌, ◌≢◌, ◌⊎◌, ◌↔◌, inl, inr, ℕ, zero, suc, ◌+◌, ◌-◌, ◌<◌, ◌≤◌, List, [], ◌∷◌, ◌++◌}
 use Rattle.std.proofs.Common.{length, map, get_or, set, true, cond, nat_eq, nat_lt, count_by, Contains, slice_get, Some}
-use Rattle.std.proofs.Common.{Result}
-use Rattle.std.proofs.Common.{Ok, Err, OnErr, refl, sym, ◌∙◌, ap, subst, arith, swap_remove, get_or-set_other}
+use Rattle.std.proofs.Common.{refl, sym, ◌∙◌, ap, subst, arith, swap_remove, get_or-set_other}
 use Rattle.std.proofs.Common.{get_or-set_same, length-set}
 use Rattle.std.proofs.lemmas.Bool.{cases_eq, eq-eqb, ne_eqb}
 use Rattle.std.proofs.lemmas.List.{length-map}
@@ -393,10 +392,6 @@ module _ (raw : Raw) (sound : IsSound raw) (lhs r0 r1 : ℕ) (is_gate : IsLeftSi
     only = only_new;
     all = all_new;
   }
-
-pub on_err : {A E : Type 0} (r : Result A E) (P : Type 0) → P → OnErr r P
-on_err (Ok x) P p = tt
-on_err (Err e) P p = p
 
 -- a gate variable stands on the left side of one gate
 gate_position : (raw : Raw) → IsSound raw → (q i : ℕ) (h g : Gate) → slice_get raw.gates q ≡ Some h

@@ -1,6 +1,6 @@
 -- Variables that at least four gates read.
 use Rattle.std.proofs.Common.{◌≡◌, ◌⊎◌, inl, inr, ℕ, ◌≤◌, List, [], ◌∷◌, length, nat_eq, count_by, Result, Ok, Err}
-use Rattle.std.proofs.Common.{IfErr, IsErrAnd, sym, subst, arith}
+use Rattle.std.proofs.Common.{IfErr, subst, arith}
 use Rattle.aig_parts.specs.declared.raw.Raw.{Raw}
 use Rattle.aig_base.specs.Readers.{AreReaders, ReaderLists, list_of}
 use Rattle.aig_base.proofs.fan_outs.ReaderLists.{count-cons, count-of_Contains, one_same}
@@ -43,11 +43,6 @@ either_four raw lists v u r lv lu (inl h) = inl (four_readers raw lists v r lv h
 either_four raw lists v u r lv lu (inr h) = inr (four_readers raw lists u r lu h)
 
 -- a fault that is passed on
-pub passed_fault : {A : Type 0} (P : EditFault → Type 0) (r : Result A EditFault) (x : EditFault)
-    → IsErrAnd r (λ f. f ≡ x) → P x → IfErr r P
-passed_fault P (Ok a) x h k = tt
-passed_fault P (Err f) x h k = subst P (sym h) k
-
 -- what holds of each fault
 pub any_fault : {A : Type 0} (P : EditFault → Type 0) (r : Result A EditFault) → ((f : EditFault) → P f) → IfErr r P
 any_fault P (Ok a) h = tt

@@ -346,10 +346,6 @@ step_taken Binary f a b c l m n kind formula spelled clause took (ys, second, to
   bytes_then a b c l m n (first_byte kind ∷ []) ys took took',
 )
 
-pub none_of : (o : Option ℕ) → ((x : ℕ) → o ≡ Some x → ⊥) → o ≡ None
-none_of None other = refl
-none_of (Some x) other = absurd (other x refl)
-
 -- ---- the first byte
 
 pub first_is : (a b : Block) (l m : Option (List ℕ)) (x : ℕ) (P : Option (List ℕ) → Type 0) → TakesBytes a b l m []

@@ -1,10 +1,10 @@
 use Rattle.std.proofs.Common.{[], Err, length, refl, sym, ◌∙◌, ap, subst}
+use Rattle.aig_bytes.proofs.Results.{known_err}
 use Rattle.aig_sim.specs.Reached.{ReachesNone}
 use Rattle.aig_sim.specs.declared.witness.reach_fault.ReachFault.{ReachFault}
 use Rattle.aig_command.specs.declared.run_fault.RunFault.{RunFault}
 use Rattle.aig_command.specs.declared.run_fault.RunFault.TheVariants as run_faults
 use Rattle.aig_commands.specs.Witness.{WritesWitness}
-use Rattle.aig_command.proofs.Files.{reported_as}
 use Rattle.aig_commands.proofs.WitnessTexts.{reach_refused, start_length}
 use Rattle.aig_commands.proofs.witness.find_in_stimulus.Goals as goal
 
@@ -18,7 +18,7 @@ returns-in_err-check_property-clause-refused c =
     let asked = c.args.asked in
     let stimulus = c.args.stimulus.now in
     let (property, lacks) = c.in_err-check_property.ensures.none in
-    reported_as c.from_residual.result (run_faults.Reach c.in_err-check_property.field-0.0)
+    known_err c.from_residual.result (run_faults.Reach c.in_err-check_property.field-0.0)
     (λ (f : RunFault). WritesWitness asked stimulus raw (Err f) []) c.from_residual.ensures.1
     (subst (λ (f : ReachFault). WritesWitness asked stimulus raw (Err (run_faults.Reach f)) []) (sym property) (lacks, refl))
 
@@ -27,7 +27,7 @@ returns-in_err-rows-clause-refused c =
     let raw = c.args.circuit.now in
     let asked = c.args.asked in
     let stimulus = c.args.stimulus.now in
-    reported_as c.from_residual-in_err-rows.result (run_faults.Stimulus c.in_err-rows.field-0.0)
+    known_err c.from_residual-in_err-rows.result (run_faults.Stimulus c.in_err-rows.field-0.0)
     (λ (f : RunFault). WritesWitness asked stimulus raw (Err f) []) c.from_residual-in_err-rows.ensures.1
     (c.in_ok-check_property.ensures.property, c.in_err-rows.ensures.fault, refl)
 
@@ -36,7 +36,7 @@ returns-in_err-start-clause-refused c =
     let raw = c.args.circuit.now in
     let asked = c.args.asked in
     let stimulus = c.args.stimulus.now in
-    reported_as c.from_residual-in_err-start.result (run_faults.Reach c.in_err-start.field-0.0)
+    known_err c.from_residual-in_err-start.result (run_faults.Reach c.in_err-start.field-0.0)
     (λ (f : RunFault). WritesWitness asked stimulus raw (Err f) []) c.from_residual-in_err-start.ensures.1
     (subst (λ (f : ReachFault). WritesWitness asked stimulus raw (Err (run_faults.Reach f)) []) (sym c.in_err-start.ensures.memory) refl)
 
@@ -48,7 +48,7 @@ returns-in_err-reached-clause-refused c =
     let fault = c.in_err-reached.field-0.0 in
     let rows = c.in_ok-rows.rows.rows in
     let e = c.in_err-reached.ensures in
-    reported_as c.from_residual-in_err-reached.result (run_faults.Reach fault)
+    known_err c.from_residual-in_err-reached.result (run_faults.Reach fault)
     (λ (f : RunFault). WritesWitness asked stimulus raw (Err f) []) c.from_residual-in_err-reached.ensures.1
     (reach_refused asked stimulus raw rows fault c.in_ok-check_property.ensures.property c.in_ok-rows.ensures.rows
     (λ is. subst (λ start. ReachesNone raw start rows asked) (c.deref.ensures.value ∙ c.in_ok-start.ensures.start)

@@ -1,5 +1,6 @@
 use Rattle.std.proofs.Common.{sym, ◌∙◌}
-use Rattle.aig_prompt.proofs.ValueLemmas.{any_fault, numeral_more, numeral_all, numeral_refused}
+use Rattle.aig_bytes.proofs.Results.{on_err}
+use Rattle.aig_prompt.proofs.ValueLemmas.{numeral_more, numeral_all, numeral_refused}
 use Rattle.aig_prompt.proofs.value.number_of.Goals as goal
 
 pub loop-byte-preserved : goal.loop-byte-preserved
@@ -19,5 +20,5 @@ returns c = record {
 
 pub returns-in_err-number-clause-refused : goal.returns-in_err-number-clause-refused
 returns-in_err-number-clause-refused c =
-    any_fault c.from_residual.result _ (numeral_refused c.args.digits.now c.loop-byte.byte-index c.loop-byte.number
+    on_err c.from_residual.result (numeral_refused c.args.digits.now c.loop-byte.byte-index c.loop-byte.number
     c.loop-byte-test.true c.loop-byte.invariant.so_far.0 c.in_err-number.ensures.refused)

@@ -1,12 +1,13 @@
 use Rattle.std.proofs.Common.{◌≡◌, ◌+◌, ◌++◌, ◌∷◌, [], List, length, Option, Some, refl, sym, ap, ◌∙◌, subst, arith}
 use Rattle.std.proofs.Common.{rules}
 use Rattle.std.proofs.lemmas.List.{length_push}
+use Rattle.aig_bytes.proofs.Results.{has_none}
 use Rattle.aig_sat.specs.declared.proof.spelling.Spelling.{Spelling}
 use Rattle.aig_sat.specs.declared.proof.step.StepKind.{StepKind}
 use Rattle.aig_sat.specs.proof.Proofs.{Step}
 use Rattle.aig_sat.specs.proof.Steps.{Reads}
 use Rattle.aig_sat.proofs.models.ModelLemmas.{passed_fault}
-use Rattle.aig_refute.proofs.WholeProofs.{SoFar, begins_with, none_left, step_read, whole_read}
+use Rattle.aig_refute.proofs.WholeProofs.{SoFar, begins_with, step_read, whole_read}
 use Rattle.aig_refute.proofs.proof.check_steps.Goals as goal
 
 pub loop-number-init : goal.loop-number-init
@@ -59,7 +60,7 @@ returns-in_default-clause-whole g c = λ is.
     let l = left c.loop-number.proof in
     let m = left c.next.new.reader in
     whole_read old new (left c.args.proof.now) l m steps c.in_ok-kind.ensures.spelling so
-    (subst (Reads old new l m) (none_left c.in_ok-kind.field-0 c.in_default.not-Some) c.in_ok-kind.ensures.step)
+    (subst (Reads old new l m) (has_none c.in_ok-kind.field-0 c.in_default.not-Some) c.in_ok-kind.ensures.step)
 
 pub returns-in_err-take_step-clause-step : goal.returns-in_err-take_step-clause-step
 returns-in_err-take_step-clause-step g c = λ n is small.

@@ -1,8 +1,8 @@
 use Rattle.std.proofs.Common.{ap, Err}
+use Rattle.aig_bytes.proofs.Results.{known_err}
 use Rattle.aig_bench.specs.BenchState.{CircuitAndRows}
 use Rattle.aig_command.specs.declared.run_fault.RunFault.TheVariants as run_faults
 use Rattle.aig_script.specs.BenchFiles.{RefusesFiles}
-use Rattle.aig_command.proofs.Files.{reported_as}
 use Rattle.aig_script.proofs.Benches.{refuses_bench}
 use Rattle.aig_script.proofs.bench.open_bench.Goals as goal
 
@@ -12,7 +12,7 @@ returns-in_err-new-clause-fault g c =
     let fault = c.in_err-new.field-0.0 in
     let rows = c.in_ok-stimulus.stimulus.rows in
     let pair : CircuitAndRows = record { circuit = c.in_ok-circuit.circuit; rows = rows } in
-    reported_as c.from_residual-in_err-new.result (run_faults.Bench fault) (RefusesFiles c.args.circuit.now c.args.stimulus.now)
+    known_err c.from_residual-in_err-new.result (run_faults.Bench fault) (RefusesFiles c.args.circuit.now c.args.stimulus.now)
     c.from_residual-in_err-new.ensures.1 (
       pair,
       record {

@@ -1,5 +1,5 @@
 use Rattle.std.proofs.Common.{◌≡◌, ◌∷◌, length, refl, sym, ap, ◌∙◌, arith}
-use Rattle.aig_script.proofs.Fields.{on_none}
+use Rattle.aig_bytes.proofs.Results.{on_none}
 use Rattle.aig_script.proofs.Digits.{one_end}
 use Rattle.aig_script.proofs.command.parse_field.Goals as goal
 

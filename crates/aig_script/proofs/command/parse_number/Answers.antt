@@ -2,7 +2,7 @@ use Rattle.std.proofs.Common.{◌≡◌, [], length, sym, ap, ◌∙◌}
 use Rattle.std.specs.Fmt.{decimal}
 use Rattle.std.proofs.lemmas.Bool.{eqb-false}
 use Rattle.std.proofs.lemmas.List.{append-nil}
-use Rattle.aig_script.proofs.Fields.{on_none}
+use Rattle.aig_bytes.proofs.Results.{on_none}
 use Rattle.aig_script.proofs.Digits.{one_end}
 use Rattle.aig_script.proofs.command.parse_number.Goals as goal
 

@@ -3,8 +3,8 @@ use Rattle.std.specs.Fmt.{decimal}
 use Rattle.std.proofs.lemmas.Fmt.{decimal_nonempty}
 use Rattle.std.proofs.lemmas.List.{drop_more}
 use Rattle.std.proofs.lemmas.Option.{IfSome_then}
-use Rattle.aig_script.proofs.Fields.{on_none}
-use Rattle.aig_script.proofs.Digits.{digit_in_front, zero_in_front, leading_zero, none_such}
+use Rattle.aig_bytes.proofs.Results.{on_none, none_then}
+use Rattle.aig_script.proofs.Digits.{digit_in_front, zero_in_front, leading_zero}
 use Rattle.aig_bytes.proofs.Decimals.{is_digit, is_no_digit, one_in_front}
 use Rattle.aig_script.proofs.command.split_number.Goals as goal
 
@@ -32,7 +32,7 @@ returns-then-first-gt48-clause-none c =
     let first = c.in_ok-first.first.now in
     let range = is_digit first (sym c.is_ascii_digit.ensures.value ∙ c.if-not-is_ascii_digit.false) in
     let is = one_in_front c.args.bytes.now c.in_ok-first.rest.now first c.in_ok-first.ensures.cases.0 range in
-    none_such c.longer_number.result (λ h n rest small ends e. h n rest small ends (sym is ∙ e)) c.longer_number.ensures.none
+    none_then c.longer_number.result (λ h n rest small ends e. h n rest small ends (sym is ∙ e)) c.longer_number.ensures.none
 
 pub returns-in-len1-up-clause-none : goal.returns-in-len1-up-clause-none
 returns-in-len1-up-clause-none c n rest small ends e =

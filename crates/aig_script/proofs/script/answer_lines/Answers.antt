@@ -1,8 +1,8 @@
 use Rattle.std.proofs.Common.{take, refl, arith}
+use Rattle.aig_bytes.proofs.Results.{on_err}
 use Rattle.aig_script.proofs.ReplyLemmas.{on_ok_from_err, reading_none, reading_more, reading_fails, reading_stops}
 use Rattle.aig_script.proofs.ReplyLemmas.{reading_flushed, reading_unflushed}
 use Rattle.aig_script.proofs.script.answer_lines.Goals as goal
-use Rattle.aig_parts.proofs.NamedLemmas.{on_error}
 
 pub loop-reader-init : goal.loop-reader-init
 loop-reader-init g c = record { room = refl; width = c.requires.width; reading = reading_none c.requires.empty }
@@ -30,7 +30,7 @@ returns-in_err-flush g c =
     record {
       ok = on_ok_from_err _ r h;
       end = on_ok_from_err _ r h;
-      err = on_error r (reading_unflushed c.loop-reader.invariant.reading f.kept f.count);
+      err = on_err r (reading_unflushed c.loop-reader.invariant.reading f.kept f.count);
     }
 
 pub returns-in_err-size : goal.returns-in_err-size
@@ -42,7 +42,7 @@ returns-in_err-size g c =
     record {
       ok = on_ok_from_err _ r h;
       end = on_ok_from_err _ r h;
-      err = on_error r (reading_fails (reading_flushed c.loop-reader.invariant.reading f.kept f.count) e.given e.count);
+      err = on_err r (reading_fails (reading_flushed c.loop-reader.invariant.reading f.kept f.count) e.given e.count);
     }
 
 pub returns-in_err-feed : goal.returns-in_err-feed
@@ -54,6 +54,6 @@ returns-in_err-feed g c =
     record {
       ok = on_ok_from_err _ r h;
       end = on_ok_from_err _ r h;
-      err = on_error r (reading_stops (take c.in_ok-size.size c.read.new.buffer)
+      err = on_err r (reading_stops (take c.in_ok-size.size c.read.new.buffer)
           (reading_flushed c.loop-reader.invariant.reading f.kept f.count) e.given e.count c.in_err-feed.ensures.err);
     }

@@ -1,8 +1,8 @@
 use Rattle.std.proofs.Common.{◌≡◌, ℕ, List, [], ◌++◌, subst, sym, ◌∙◌}
 use Rattle.std.proofs.lemmas.Bool.{true≢false}
+use Rattle.aig_bytes.proofs.Results.{on_ok}
 use Rattle.aig_script.specs.Replies.{WholeReply}
 use Rattle.aig_script.specs.ScriptLine.{KeepsScriptLine}
-use Rattle.aig_script.proofs.ReplyLemmas.{on_ok}
 use Rattle.aig_script.proofs.script.end_line.Goals as goal
 use Rattle.aig_bytes.proofs.WriteLemmas.{writes_err}
 

@@ -1,12 +1,12 @@
 use Rattle.std.proofs.Common.{◌≡◌, ℕ, ◌+◌, ◌-◌, ◌++◌, List, length, take, drop, map, ap, refl, sym, subst, ◌∙◌, arith}
 use Rattle.std.proofs.lemmas.List.{take_all, take-append-drop, length-drop}
 use Rattle.std.proofs.Math.Seq.{take-add}
+use Rattle.aig_bytes.proofs.Results.{on_err}
 use Rattle.aig_script.specs.Lines.{whole, lines_from, rest_from}
 use Rattle.aig_script.specs.ScriptLine.{KeepsScriptLine}
 use Rattle.aig_script.proofs.ReplyLemmas.{rest_from-append, whole_from-append, answered_then, answered_same}
 use Rattle.aig_script.proofs.ReplyLemmas.{stopped_then, stopped_same}
 use Rattle.aig_script.proofs.script.feed.Goals as goal
-use Rattle.aig_parts.proofs.NamedLemmas.{on_error}
 
 pub returns-in_err-at-clause-err : goal.returns-in_err-at-clause-err
 returns-in_err-at-clause-err g c =
@@ -15,7 +15,7 @@ returns-in_err-at-clause-err g c =
     let rest : take (length xs - i) (drop i xs) ≡ drop i xs =
     take_all (length xs - i) (drop i xs) (omega (arith, length-drop i xs)) in
     let inv = c.loop-at.invariant in
-    on_error c.from_residual.result (λ text k.
+    on_err c.from_residual.result (λ text k.
     stopped_same
     (stopped_then (inv.answered text k) (c.in_err-at.ensures.err (rest_from text (take i xs)) (inv.rest text k)))
     (ap (λ (t : List ℕ). map whole (lines_from text (take i xs)) ++ map whole (lines_from (rest_from text (take i xs)) t)) rest

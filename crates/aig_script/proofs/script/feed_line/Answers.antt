@@ -1,6 +1,7 @@
 use Rattle.std.proofs.Common.{◌≡◌, ℕ, ◌+◌, ◌++◌, ◌<◌, [], List, length, take, drop, map, ap, refl, sym, subst, ◌∙◌}
 use Rattle.std.proofs.Common.{arith}
 use Rattle.std.proofs.lemmas.List.{take_all}
+use Rattle.aig_bytes.proofs.Results.{on_err}
 use Rattle.aig_script.specs.Lines.{IsPiece, whole, lines_from, rest_from}
 use Rattle.aig_script.specs.ScriptLine.{KeepsScriptLine}
 use Rattle.aig_script.proofs.Inputs.{same_inputs}
@@ -8,7 +9,6 @@ use Rattle.aig_script.proofs.Pieces.{ended_rest, ended_lines, split_lines}
 use Rattle.aig_script.proofs.Splits.{no_lines, all_rest}
 use Rattle.aig_script.proofs.ReplyLemmas.{answered_none, answered_push, answered_same, stopped_push}
 use Rattle.aig_script.proofs.script.feed_line.Goals as goal
-use Rattle.aig_parts.proofs.NamedLemmas.{on_error}
 
 pub returns-in_err-end_line-clause-width : goal.returns-in_err-end_line-clause-width
 returns-in_err-end_line-clause-width g c =
@@ -23,7 +23,7 @@ returns-in_err-end_line-clause-err g c =
     let n = c.line_length-length.result in
     let lt : n < length xs = omega arith in
     let h = c.in_err-end_line.ensures.reply in
-    on_error c.from_residual.result (λ text k.
+    on_err c.from_residual.result (λ text k.
     stopped_push (whole (text ++ take n xs)) (map whole (lines_from [] (drop (n + 1) xs))) answered_none (h.1 text k) h.2
     (split_lines text xs n lt (c.line_length-length.ensures.ended lt) c.line_length-length.ensures.no_end))
 

@@ -1,17 +1,17 @@
 use Rattle.std.proofs.Common.{◌+◌, inr, arith, sym, ◌∙◌}
 use Rattle.std.proofs.lemmas.List.{take_rest}
-use Rattle.aig_shell.proofs.Results.{of_err}
+use Rattle.aig_bytes.proofs.Results.{on_err}
 use Rattle.aig_shell.proofs.Spans.{no_dash_frames, dash_frames, dash_joins, empty_span}
 use Rattle.aig_shell.proofs.frames.frames_of.Goals as goal
 
 pub returns-in_err-frame-clause-err : goal.returns-in_err-frame-clause-err
 returns-in_err-frame-clause-err c =
-    of_err c.from_residual.result (λ first last h. c.in_err-frame.ensures.err first
+    on_err c.from_residual.result (λ first last h. c.in_err-frame.ensures.err first
     (no_dash_frames c.args.word.now c.args.frames first last (omega (arith, c.ranges.frames.fits)) c.in_default.ensures.none h))
 
 pub returns-in_err-first-clause-err : goal.returns-in_err-first-clause-err
 returns-in_err-first-clause-err c =
-    of_err c.from_residual-in_err-first.result (λ first last h. c.in_err-first.ensures.err first (
+    on_err c.from_residual-in_err-first.result (λ first last h. c.in_err-first.ensures.err first (
       (dash_frames c.args.word.now c.in-Some.at c.args.frames first last (omega (arith, c.ranges.frames.fits)) c.in-Some.ensures.some
           c.in-Some.ensures.before h).0,
       omega (arith, h.1, h.2),
@@ -19,7 +19,7 @@ returns-in_err-first-clause-err c =
 
 pub returns-in_err-last-clause-err : goal.returns-in_err-last-clause-err
 returns-in_err-last-clause-err c =
-    of_err c.from_residual-in_err-last.result (λ first last h. c.in_err-last.ensures.err last (
+    on_err c.from_residual-in_err-last.result (λ first last h. c.in_err-last.ensures.err last (
       take_rest c.args.word.now (c.in-Some.at + 1) ∙ (dash_frames c.args.word.now c.in-Some.at c.args.frames first last (omega (arith, c.ranges.frames.fits))
           c.in-Some.ensures.some c.in-Some.ensures.before h).1,
       h.2,

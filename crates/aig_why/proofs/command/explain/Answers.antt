@@ -1,7 +1,7 @@
 use Rattle.std.proofs.Common.{Err, sym, ap, subst}
 use Rattle.std.specs.Prelude.{option_copied}
 use Rattle.std.proofs.lemmas.Result.{IfErr-weaker, IfOk-weaker}
-use Rattle.aig_command.proofs.Files.{reported_as}
+use Rattle.aig_bytes.proofs.Results.{known_err}
 use Rattle.aig_command.specs.declared.run_fault.RunFault.{RunFault}
 use Rattle.aig_command.specs.declared.run_fault.RunFault.TheVariants as run_faults
 use Rattle.aig_why.specs.Why.{ExplainsRun, RefusesRun, Run}
@@ -33,13 +33,13 @@ returns-clause-fault c = λ property name asked.
 
 pub returns-in_err-naming-clause-fault : goal.returns-in_err-naming-clause-fault
 returns-in_err-naming-clause-fault c = λ property name asked.
-    reported_as c.from_residual.result run_faults.Memory
+    known_err c.from_residual.result run_faults.Memory
     (λ (f : RunFault). RefusesRun c.args.circuit (record { start = c.args.start.now; rows = c.args.rows.rows }) property name c.args.span f)
     c.from_residual.ensures.1 tt
 
 pub returns-in_err-run-clause-fault : goal.returns-in_err-run-clause-fault
 returns-in_err-run-clause-fault c = λ property name asked.
-    reported_as c.from_residual-in_err-run.result (run_faults.Bench c.in_err-run.field-0.0)
+    known_err c.from_residual-in_err-run.result (run_faults.Bench c.in_err-run.field-0.0)
     (λ (f : RunFault). RefusesRun c.args.circuit (record { start = c.args.start.now; rows = c.args.rows.rows }) property name c.args.span f)
     c.from_residual-in_err-run.ensures.1
     (bench_refused c.args.circuit (record { start = c.args.start.now; rows = c.args.rows.rows }) property name c.args.span

@@ -1,8 +1,8 @@
 use Rattle.std.proofs.Common.{[], Err, List, inl, inr, refl, sym, ◌∙◌, ap, length, subst}
 use Rattle.std.specs.Prelude.{option_copied}
 use Rattle.std.proofs.lemmas.Result.{IfErr-weaker, IfOk-weaker}
+use Rattle.aig_bytes.proofs.Results.{known_err}
 use Rattle.aig_parts.specs.declared.ternary.Tern.{Tern}
-use Rattle.aig_command.proofs.Files.{reported_as}
 use Rattle.aig_command.proofs.GivenRuns.{given_property, given_start}
 use Rattle.aig_command.specs.Given.{given_text, read_run}
 use Rattle.aig_command.specs.declared.run_fault.RunFault.{RunFault}
@@ -55,12 +55,12 @@ returns-clause-fault c =
 
 pub returns-in_err-property-clause-fault : goal.returns-in_err-property-clause-fault
 returns-in_err-property-clause-fault c =
-    reported_as c.from_residual.result c.in_err-property.field-0.0
+    known_err c.from_residual.result c.in_err-property.field-0.0
     (λ (f : RunFault). WritesWhy (given_text c.args.given) (option_copied c.args.name) c.args.span c.args.circuit (Err f) [])
     c.from_residual.ensures.1 (inl c.in_err-property.ensures.fault, refl)
 
 pub returns-in_err-question-clause-fault : goal.returns-in_err-question-clause-fault
 returns-in_err-question-clause-fault c =
-    reported_as c.from_residual-in_err-question.result run_faults.Memory
+    known_err c.from_residual-in_err-question.result run_faults.Memory
     (λ (f : RunFault). WritesWhy (given_text c.args.given) (option_copied c.args.name) c.args.span c.args.circuit (Err f) [])
     c.from_residual-in_err-question.ensures.1 (inr (read_run c.in_ok-property.field-0, c.in_ok-property.ensures.run, tt), refl)

@@ -1,4 +1,5 @@
 use Rattle.std.proofs.Common.{◌≡◌, ℕ, [], ◌∷◌, ◌++◌, List, sym, ap, subst, ◌∙◌, arith}
+use Rattle.aig_bytes.proofs.Results.{on_err}
 use Rattle.aig_parts.specs.declared.gate.Gate.{Gate}
 use Rattle.aig_base.specs.Changes.{next_gate, with_appended_gate}
 use Rattle.aig_base.specs.state.Descent.{level_above}
@@ -8,7 +9,7 @@ use Rattle.aig_base.specs.Readers.{reader_lists}
 use Rattle.aig_base.proofs.growth.AppendedLevels.{level_fits, more_levels}
 use Rattle.aig_base.proofs.growth.AppendedReaders.{more_readers}
 use Rattle.aig_base.proofs.circuits.Gates.{defined_in_range}
-use Rattle.aig_base.proofs.fan_outs.ReaderLists.{keeps_readers, kept_size, on_err, readers_kept, slots_size}
+use Rattle.aig_base.proofs.fan_outs.ReaderLists.{keeps_readers, kept_size, readers_kept, slots_size}
 use Rattle.aig_base.proofs.change.append.append_gate.Goals as goal
 
 pub make_room_for_list-requires-clause-within0 : goal.make_room_for_list-requires-clause-within0
@@ -27,19 +28,19 @@ make_room_for_list-requires-clause-within1 c =
 
 pub returns-in_err-make_room_for_list-clause-same_readers : goal.returns-in_err-make_room_for_list-clause-same_readers
 returns-in_err-make_room_for_list-clause-same_readers c =
-    on_err c.from_residual.result _
+    on_err c.from_residual.result
     (keeps_readers c.readers.inside.fan_outs.slots c.make_room_for_list.new.self.slots _ c.readers.view_is
     c.make_room_for_list.ensures.keeps)
 
 pub returns-in_err-make_room_for_level-clause-same_readers : goal.returns-in_err-make_room_for_level-clause-same_readers
 returns-in_err-make_room_for_level-clause-same_readers c =
-    on_err c.from_residual-in_err-make_room_for_level.result _
+    on_err c.from_residual-in_err-make_room_for_level.result
     (keeps_readers c.readers.inside.fan_outs.slots c.make_room_for_list.new.self.slots _ c.readers.view_is
     c.make_room_for_list.ensures.keeps)
 
 pub returns-in_err-append_gate-clause-same_readers : goal.returns-in_err-append_gate-clause-same_readers
 returns-in_err-append_gate-clause-same_readers c =
-    on_err c.from_residual-in_err-append_gate.result _
+    on_err c.from_residual-in_err-append_gate.result
     (keeps_readers c.readers.inside.fan_outs.slots c.make_room_for_list.new.self.slots _ c.readers.view_is
     c.make_room_for_list.ensures.keeps)
 

@@ -1,4 +1,5 @@
 use Rattle.std.proofs.Common.{arith, ◌∙◌, refl, ap, sym, subst, [], ◌∷◌}
+use Rattle.aig_bytes.proofs.Results.{known_err}
 use Rattle.aig_base.specs.Changes.{with_gate}
 use Rattle.aig_bench.specs.declared.engine.driven_circuit.DrivenCircuit.{DrivenCircuit}
 use Rattle.aig_bench.specs.Edit.{Edits, rewire}
@@ -9,7 +10,7 @@ use Rattle.aig_bench.specs.state.Renewed.{IsStaleFrom, RenewsAll}
 use Rattle.aig_bench.proofs.renewals.Engines.{held, settled_renewed}
 use Rattle.aig_bench.proofs.edits.Edited.{none_current, all_latches, all_next, all_consistent, all_touched, all_changed}
 use Rattle.aig_bench.proofs.edits.Edited.{follows_rewire, forces_gate, gate_forced}
-use Rattle.aig_bench.proofs.edits.FourReaders.{passed_fault, no_memory}
+use Rattle.aig_bench.proofs.edits.FourReaders.{no_memory}
 use Rattle.aig_bench.proofs.edits.Refusals.{lacking, rewire_refused, rewire_allowed}
 use Rattle.aig_bench.proofs.edits.Rewired.{driven_rewired}
 use Rattle.aig_bench.proofs.bench.Bench.rewire.Goals as goal
@@ -37,14 +38,14 @@ returns-in_err-replace_gate-clause-edits g c =
 
 pub returns-in_err-check_rewire-clause-memory : goal.returns-in_err-check_rewire-clause-memory
 returns-in_err-check_rewire-clause-memory g c =
-    passed_fault _ c.from_residual.result c.in_err-check_rewire.field-0.0 c.from_residual.ensures.1
+    known_err c.from_residual.result c.in_err-check_rewire.field-0.0 _ c.from_residual.ensures.1
     (λ e. absurd (no_memory (pair_of c.engine.inside.driven) c.args.lhs c.args.r0 c.args.r1 c.in_err-check_rewire.field-0.0
     c.in_err-check_rewire.ensures.fault e))
 
 pub returns-in_err-replace_gate-clause-memory : goal.returns-in_err-replace_gate-clause-memory
 returns-in_err-replace_gate-clause-memory g c =
     rw (← c.self.view_is, ← c.engine.view_is)
-    (passed_fault _ c.from_residual-in_err-replace_gate.result c.in_err-replace_gate.field-0.0
+    (known_err c.from_residual-in_err-replace_gate.result c.in_err-replace_gate.field-0.0 _
     c.from_residual-in_err-replace_gate.ensures.1 (rw (← c.engine.view_is) at c.in_err-replace_gate.ensures.memory))
 
 pub renew_from-requires : goal.renew_from-requires

@@ -1,10 +1,10 @@
 use Rattle.std.proofs.Common.{◌∙◌, sym, subst, ℕ, List, ◌∷◌, ◌++◌, [], Contains, true≢false, ap}
 use Rattle.std.specs.Prelude.{All}
 use Rattle.std.specs.Map.{keys_of}
+use Rattle.aig_bytes.proofs.Results.{on_err}
 use Rattle.aig_parts.specs.declared.symbols.places.Place.{Place}
 use Rattle.aig_parts.specs.SymbolPlaces.{Key, symbols_in}
 use Rattle.aig_parts.specs.state.NamedEntries.{IsPlaceIn}
-use Rattle.aig_parts.proofs.NamedLemmas.{on_error}
 use Rattle.aig_parts.proofs.SymbolLemmas.{keys_in, symbols_stay, symbol_more, place_more}
 use Rattle.aig_parts.proofs.symbols.Symbols.insert.Goals as goal
 
@@ -29,7 +29,7 @@ returns-clause-fresh c _ =
 pub returns-in_err-push-clause-err : goal.returns-in_err-push-clause-err
 returns-in_err-push-clause-err c =
     let text = c.self.inside.text.items in
-    on_error c.from_residual-in_err-push.result
+    on_err c.from_residual-in_err-push.result
     (ap (symbols_in c.put_name.new.text.items) c.in_err-push.ensures.err
     ∙ ap (λ (t : List ℕ). symbols_in t c.self.inside.places.entries) c.in_ok-place.ensures.ok
     ∙ symbols_stay text c.as_slice.result.now c.self.inside.places.entries c.self.invariant ∙ c.self.view_is)

@@ -1,10 +1,11 @@
 use Rattle.std.proofs.Common.{◌≡◌, ◌<◌, ◌++◌, ◌∷◌, [], ℕ, Option, Some, sym, subst, rules, arith}
 use Rattle.std.specs.Prelude.{IfSome}
 use Rattle.std.proofs.lemmas.List.Elements.{All-push}
+use Rattle.aig_bytes.proofs.Results.{has_none}
 use Rattle.aig_parts.specs.Literal.{variable}
 use Rattle.aig_sat.specs.proof.Steps.{AreLiterals}
 use Rattle.aig_sat.specs.proof.state.Taking.{HasClause, LeadsAll, LeadsBy}
-use Rattle.aig_sat.proofs.reading.TakingLemmas.{leads_end, leads_more, none_of}
+use Rattle.aig_sat.proofs.reading.TakingLemmas.{leads_end, leads_more}
 use Rattle.aig_sat.proofs.proof.reader.read_clause.Goals as goal
 
 pub loop-literal-preserved : goal.loop-literal-preserved
@@ -48,4 +49,4 @@ returns-clause-spelled g c =
     let s = c.args.spelling in
     let f = c.args.is_first in
     leads_end s f a b new (left l) (left m) (left n) c.loop-literal.clause.items c.loop-literal.invariant.spelled
-    (subst (LeadsBy s f b new (left m) (left n)) (none_of c.in_ok-literal.field-0 c.in_default.not-Some) c.in_ok-literal.ensures.literal)
+    (subst (LeadsBy s f b new (left m) (left n)) (has_none c.in_ok-literal.field-0 c.in_default.not-Some) c.in_ok-literal.ensures.literal)

@@ -1,10 +1,10 @@
 use Rattle.std.proofs.Common.{Err, List, All, refl, sym, subst, ◌∙◌}
 use Rattle.std.specs.List.{AllZip}
+use Rattle.aig_bytes.proofs.Results.{known_err}
 use Rattle.aig_parts.specs.declared.latch.Latch.{Latch}
 use Rattle.aig_base.specs.Sound.{IsReset}
 use Rattle.aig_base.specs.Resets.{IsSameLatch}
 use Rattle.aig_shell.proofs.Kept.{alike_signals}
-use Rattle.aig_command.proofs.Files.{reported_as}
 use Rattle.aig_command.specs.declared.run_fault.RunFault.TheVariants as run_faults
 use Rattle.aig_shell.specs.Conversation.{RefusesRows}
 use Rattle.aig_shell.proofs.Shells.{rows_refused}
@@ -22,21 +22,21 @@ returns-clause-session c =
 
 pub returns-in_err-signals-clause-refused : goal.returns-in_err-signals-clause-refused
 returns-in_err-signals-clause-refused c =
-    reported_as c.from_residual.result run_faults.Memory (RefusesRows c.args.circuit c.args.rows.rows) c.from_residual.ensures.1 tt
+    known_err c.from_residual.result run_faults.Memory (RefusesRows c.args.circuit c.args.rows.rows) c.from_residual.ensures.1 tt
 
 pub returns-in_err-run-clause-refused : goal.returns-in_err-run-clause-refused
 returns-in_err-run-clause-refused c =
     let fault = c.in_err-run.field-0.0 in
-    reported_as c.from_residual-in_err-run.result (run_faults.Bench fault) (RefusesRows c.args.circuit c.args.rows.rows)
+    known_err c.from_residual-in_err-run.result (run_faults.Bench fault) (RefusesRows c.args.circuit c.args.rows.rows)
     c.from_residual-in_err-run.ensures.1
     (rows_refused (Err fault) c.args.circuit c.args.rows.rows fault refl c.in_err-run.ensures.width c.in_err-run.ensures.limit)
 
 pub returns-in_err-first-clause-refused : goal.returns-in_err-first-clause-refused
 returns-in_err-first-clause-refused c =
-    reported_as c.from_residual-in_err-first.result run_faults.Memory (RefusesRows c.args.circuit c.args.rows.rows)
+    known_err c.from_residual-in_err-first.result run_faults.Memory (RefusesRows c.args.circuit c.args.rows.rows)
     c.from_residual-in_err-first.ensures.1 tt
 
 pub returns-in_err-kept-clause-refused : goal.returns-in_err-kept-clause-refused
 returns-in_err-kept-clause-refused c =
-    reported_as c.from_residual-in_err-kept.result run_faults.Memory (RefusesRows c.args.circuit c.args.rows.rows)
+    known_err c.from_residual-in_err-kept.result run_faults.Memory (RefusesRows c.args.circuit c.args.rows.rows)
     c.from_residual-in_err-kept.ensures.1 tt

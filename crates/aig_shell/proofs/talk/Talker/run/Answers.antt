@@ -1,8 +1,8 @@
 use Rattle.std.proofs.Common.{◌≡◌, ℕ, ◌+◌, List, [], ◌++◌, take, inl, inr, Ok, refl, sym, ap, ◌∙◌, arith, true}
 use Rattle.std.proofs.lemmas.Bool.{true≢false}
+use Rattle.aig_bytes.proofs.Results.{on_err}
 use Rattle.aig_bytes.specs.Bytes.{before}
 use Rattle.aig_bytes.specs.declared.fault.Io.{Io}
-use Rattle.aig_parts.proofs.NamedLemmas.{on_error}
 use Rattle.aig_sim.proofs.SimulationLemmas.{before_nil, before-before}
 use Rattle.aig_shell.specs.Talking.{Moment, moment}
 use Rattle.aig_shell.proofs.Shells.{breaks_part, ended_done, ends_ok, ends_broken}
@@ -44,7 +44,7 @@ pub loop-reader-smaller : goal.loop-reader-smaller
 loop-reader-smaller g c = c.in_ok-size.ensures.lowers (omega arith)
 
 pub returns-in_err-begin-clause-failed : goal.returns-in_err-begin-clause-failed
-returns-in_err-begin-clause-failed g c = on_error c.from_residual.result (λ s at h.
+returns-in_err-begin-clause-failed g c = on_err c.from_residual.result (λ s at h.
     let (greeting, greets, w) = c.in_err-begin.ensures in
     breaks_part g.R.Read.left g.R.Read.failures g.W.Write.written g.W.Write.failures g.K.Keep.calls c.args.reader.now c.args.reader.now
     c.args.files.now c.args.files.now c.args.out.now c.begin.new.out c.args.self.now.has_prompt
@@ -52,7 +52,7 @@ returns-in_err-begin-clause-failed g c = on_error c.from_residual.result (λ s a
     (inr (omega (arith, w.count))))
 
 pub returns-in_err-flush-clause-failed : goal.returns-in_err-flush-clause-failed
-returns-in_err-flush-clause-failed g c = on_error c.from_residual-in_err-flush.result (λ s at h.
+returns-in_err-flush-clause-failed g c = on_err c.from_residual-in_err-flush.result (λ s at h.
     let e = c.in_err-flush.ensures in
     let (input, read, st) = c.loop-reader.invariant.stands s at h in
     breaks_part g.R.Read.left g.R.Read.failures g.W.Write.written g.W.Write.failures g.K.Keep.calls c.args.reader.now c.loop-reader.reader
@@ -60,7 +60,7 @@ returns-in_err-flush-clause-failed g c = on_error c.from_residual-in_err-flush.r
     s input (part_stands st e.kept refl) read (inr (omega (arith, e.count, st.count))))
 
 pub returns-in_err-size-clause-failed : goal.returns-in_err-size-clause-failed
-returns-in_err-size-clause-failed g c = on_error c.from_residual-in_err-size.result (λ s at h.
+returns-in_err-size-clause-failed g c = on_err c.from_residual-in_err-size.result (λ s at h.
     let inv = c.loop-reader.invariant in
     let f = c.in_ok-flush.ensures in
     let e = c.in_err-size.ensures in
@@ -112,7 +112,7 @@ returns-then-size-eq0-clause-failed g c =
     ))
 
 pub returns-in_err-feed-clause-failed : goal.returns-in_err-feed-clause-failed
-returns-in_err-feed-clause-failed g c = on_error c.from_residual-in_err-feed.result (λ s at h.
+returns-in_err-feed-clause-failed g c = on_err c.from_residual-in_err-feed.result (λ s at h.
     let start : Moment = moment g.W.Write.written g.W.Write.failures g.K.Keep.calls c.args.out.now c.args.files.now in
     let person = c.args.self.now.has_prompt in
     let inv = c.loop-reader.invariant in

@@ -1,8 +1,8 @@
 use Rattle.std.proofs.Common.{ℕ, List, ◌∷◌, refl}
+use Rattle.aig_bytes.proofs.Results.{known_err}
 use Rattle.aig_sim.specs.declared.stimulus.fault.StimFault.{StimFault}
 use Rattle.aig_sim.specs.declared.stimulus.fault.StimFault.TheVariants.{Io}
 use Rattle.aig_sim.specs.state.Running.{SimulationStops}
-use Rattle.aig_sim.proofs.LineLemmas.{fault_same}
 use Rattle.aig_sim.proofs.SimulationLemmas.{line_stops, row_goes_on, row_stops}
 use Rattle.aig_sim.proofs.simulation.Simulation.end_line.Goals as goal
 
@@ -13,7 +13,7 @@ returns-in_err-row-clause-err g c =
     let f = g.W.Write.failures c.args.out.now in
     let e = c.in_err-row.ensures in
     let P : StimFault → Type 0 = λ fault. (more : List ℕ) → SimulationStops g.T.Recorder.is_text g.T.Recorder.has_recorded (10 ∷ more) s w w f f fault in
-    fault_same c.from_residual.result c.in_err-row.field-0.0 P c.from_residual.ensures.1
+    known_err c.from_residual.result c.in_err-row.field-0.0 P c.from_residual.ensures.1
     (λ more. line_stops s c.saturating_add-number.result c.in_err-row.field-0.0 more w f c.requires.room.0
     c.saturating_add-number.ensures e.of_line e.fault)
 
@@ -29,7 +29,7 @@ returns-in_err-record-clause-err g c =
     let machine' = c.step.new.self in
     let P : StimFault → Type 0 = λ fault. (more : List ℕ)
     → SimulationStops g.T.Recorder.is_text g.T.Recorder.has_recorded (10 ∷ more) s w w' f f' fault in
-    fault_same c.from_residual-in_err-record.result Io P c.from_residual-in_err-record.ensures.1
+    known_err c.from_residual-in_err-record.result Io P c.from_residual-in_err-record.ensures.1
     (λ more. row_stops g.T.Recorder.is_text g.T.Recorder.has_recorded s machine' c.in_ok-row.row.now c.requires.room.0 row.0 row.1 row.2
     c.step.ensures.circuit c.step.ensures.is_circuit c.step.ensures.step _ e.text more w w' f f' e.written.err e.written.count)
 

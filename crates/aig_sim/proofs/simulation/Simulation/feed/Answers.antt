@@ -1,8 +1,8 @@
 use Rattle.std.proofs.Common.{◌≡◌, ◌-◌, ℕ, List, length, take, drop, length-drop, sym, ap, subst, arith}
 use Rattle.std.proofs.lemmas.List.{take-append-drop, take_all}
 use Rattle.std.proofs.Math.Seq.{take-add}
+use Rattle.aig_bytes.proofs.Results.{known_err}
 use Rattle.aig_sim.specs.state.Running.{SimulationStops, SimulationGoesOn}
-use Rattle.aig_sim.proofs.LineLemmas.{fault_same}
 use Rattle.aig_sim.proofs.SimulationLemmas.{goes_on_then, stops_then}
 use Rattle.aig_sim.proofs.simulation.Simulation.feed.Goals as goal
 
@@ -20,7 +20,7 @@ returns-in_err-at-clause-err g c =
     let w' = g.W.Write.written c.feed_line.new.out in
     let f' = g.W.Write.failures c.feed_line.new.out in
     let fault = c.in_err-at.field-0.0 in
-    fault_same c.from_residual.result fault (SimulationStops g.T.Recorder.is_text g.T.Recorder.has_recorded xs s w w' f f') c.from_residual.ensures.1
+    known_err c.from_residual.result fault (SimulationStops g.T.Recorder.is_text g.T.Recorder.has_recorded xs s w w' f f') c.from_residual.ensures.1
     (subst (λ (bytes : List ℕ). SimulationStops g.T.Recorder.is_text g.T.Recorder.has_recorded bytes s w w' f f' fault) (take-append-drop i xs)
     (stops_then (take i xs) (drop i xs) s c.loop-at.self w v w' f h f' fault c.loop-at.invariant.goes_on
     (subst (λ (t : List ℕ). SimulationStops g.T.Recorder.is_text g.T.Recorder.has_recorded t c.loop-at.self v w' h f' fault) rest c.in_err-at.ensures.err)))

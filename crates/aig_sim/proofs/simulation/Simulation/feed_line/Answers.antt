@@ -2,8 +2,8 @@ use Rattle.std.proofs.Common.{◌≡◌, ℕ, ◌+◌, ◌<◌, List, ◌∷◌,
 use Rattle.std.proofs.Common.{arith}
 use Rattle.std.proofs.lemmas.List.{take_more, drop_more, take-append-drop}
 use Rattle.std.proofs.lemmas.Option.{get_or_from_slice_get}
+use Rattle.aig_bytes.proofs.Results.{known_err}
 use Rattle.aig_sim.specs.state.Running.{SimulationStops, SimulationGoesOn}
-use Rattle.aig_sim.proofs.LineLemmas.{fault_same}
 use Rattle.aig_sim.proofs.SimulationLemmas.{piece_goes_on, goes_on_then, stops_then}
 use Rattle.aig_sim.proofs.simulation.Simulation.feed_line.Goals as goal
 
@@ -39,7 +39,7 @@ returns-in_err-end_line-clause-err g c =
     let split : take n xs ++ (10 ∷ drop (n + 1) xs) ≡ xs =
     ap (λ b. take n xs ++ (b ∷ drop (n + 1) xs)) (sym is_end)
     ∙ ap (λ (t : List ℕ). take n xs ++ t) (sym (drop_more xs n 0 lt)) ∙ take-append-drop n xs in
-    fault_same c.from_residual.result fault (SimulationStops g.T.Recorder.is_text g.T.Recorder.has_recorded xs s w w' f f') c.from_residual.ensures.1
+    known_err c.from_residual.result fault (SimulationStops g.T.Recorder.is_text g.T.Recorder.has_recorded xs s w w' f f') c.from_residual.ensures.1
     (subst (λ (bytes : List ℕ). SimulationStops g.T.Recorder.is_text g.T.Recorder.has_recorded bytes s w w' f f' fault) split
     (stops_then (take n xs) (10 ∷ drop (n + 1) xs) s mid w w w' f f f' fault piece
     (c.in_err-end_line.ensures.err (drop (n + 1) xs))))

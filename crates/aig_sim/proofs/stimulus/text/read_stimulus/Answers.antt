@@ -1,6 +1,7 @@
 use Rattle.std.proofs.Common.{◌≡◌, ◌≢◌, ◌-◌, ◌≤◌, ℕ, ◌+◌, ◌++◌, ◌∷◌, [], List, length, length-drop, sym, ap, ◌∙◌, arith}
 use Rattle.std.proofs.Common.{take, drop, get_or, subst}
 use Rattle.std.proofs.lemmas.List.{take_more, drop_more, take-append-drop, take_all}
+use Rattle.aig_bytes.proofs.Results.{known_err}
 use Rattle.aig_parts.specs.declared.ternary.Tern.{Tern}
 use Rattle.aig_sim.specs.declared.stimulus.row_parser.Shape.{Shape}
 use Rattle.aig_sim.specs.declared.stimulus.row_parser.Shape.TheVariants.{Row}
@@ -8,7 +9,7 @@ use Rattle.aig_sim.specs.declared.stimulus.fault.StimFault.{StimFault}
 use Rattle.aig_sim.specs.declared.stimulus.fault.StimFault.TheVariants.{Memory}
 use Rattle.aig_sim.specs.StimulusText.{HasFaultyLine}
 use Rattle.aig_sim.specs.RowParser.{HasRead}
-use Rattle.aig_sim.proofs.LineLemmas.{read_more, end_after, read_line, read_fault, read_same, fault_same}
+use Rattle.aig_sim.proofs.LineLemmas.{read_more, end_after, read_line, read_fault, read_same}
 use Rattle.aig_sim.proofs.stimulus.text.read_stimulus.Goals as goal
 
 pub returns-in_err-end_line-clause-fault : goal.returns-in_err-end_line-clause-fault
@@ -33,7 +34,7 @@ returns-in_err-end_line-clause-fault c =
     subst (λ (w : ℕ). HasRead w (take (i + n) xs) rows line.shape line.values) (sym wide)
     (read_more xs i n line.shape line.values inv.line_width inv.has_read c.line_length-length.ensures.no_end
     c.in_ok-extend.ensures.keeps) in
-    fault_same c.from_residual-in_err-end_line.result fault P c.from_residual-in_err-end_line.ensures.1
+    known_err c.from_residual-in_err-end_line.result fault P c.from_residual-in_err-end_line.ensures.1
     (λ m. (
       rows,
       inv.limit,

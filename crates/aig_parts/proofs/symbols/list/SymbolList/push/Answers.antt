@@ -1,9 +1,9 @@
 use Rattle.std.proofs.Common.{◌∙◌, sym, subst, ℕ, List, ◌∷◌, ◌++◌, [], Contains, ap}
 use Rattle.std.specs.Map.{keys_of}
+use Rattle.aig_bytes.proofs.Results.{on_err}
 use Rattle.aig_parts.specs.declared.symbols.places.Place.{Place}
 use Rattle.aig_parts.specs.SymbolPlaces.{Key, symbols_in}
 use Rattle.aig_parts.specs.state.NamedEntries.{AreNamedEntries}
-use Rattle.aig_parts.proofs.NamedLemmas.{on_error}
 use Rattle.aig_parts.proofs.SymbolLemmas.{keys_in, symbols_stay, symbol_more, listed_longer, listed_more}
 use Rattle.aig_parts.proofs.symbols.list.SymbolList.push.Goals as goal
 
@@ -40,7 +40,7 @@ returns-clause-ok c =
 pub returns-in_err-insert-clause-err : goal.returns-in_err-insert-clause-err
 returns-in_err-insert-clause-err c =
     let inside = c.self.inside in
-    on_error c.from_residual-in_err-insert.result
+    on_err c.from_residual-in_err-insert.result
     (ap (symbols_in c.put_name.new.text.items) c.in_ok-reserve.ensures.items
     ∙ ap (λ (t : List ℕ). symbols_in t inside.entries.items) c.in_ok-place.ensures.ok
     ∙ symbols_stay inside.text.items c.args.name.now inside.entries.items c.self.invariant.places ∙ c.self.view_is)

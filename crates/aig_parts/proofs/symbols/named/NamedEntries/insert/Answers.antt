@@ -1,10 +1,11 @@
 use Rattle.std.proofs.Common.{ℕ, List, [], length, get_or, ap, ◌∙◌, arith, ◌<◌}
-use Rattle.aig_parts.proofs.NamedLemmas.{same_marks, set_page, unset_page, on_error}
+use Rattle.aig_bytes.proofs.Results.{on_err}
+use Rattle.aig_parts.proofs.NamedLemmas.{same_marks, set_page, unset_page}
 use Rattle.aig_parts.proofs.symbols.named.NamedEntries.insert.Goals as goal
 
 pub returns-in_err-make_pages-clause-err : goal.returns-in_err-make_pages-clause-err
 returns-in_err-make_pages-clause-err c =
-    on_error c.from_residual.result (same_marks c.make_pages.new.self c.args.self.now c.in_err-make_pages.ensures.same)
+    on_err c.from_residual.result (same_marks c.make_pages.new.self c.args.self.now c.in_err-make_pages.ensures.same)
 
 pub returns-clause-ok : goal.returns-clause-ok
 returns-clause-ok c =
