@@ -1,5 +1,5 @@
 -- Decimal numbers as text: their digits, what may stand in front, and how a number grows by a digit.
-use Rattle.std.proofs.Common.{◌≡◌, ℕ, zero, suc, ◌+◌, ◌-◌, ◌*◌, ◌/◌, ◌%◌, ◌^◌, ◌<◌, ◌≤◌, List, [], ◌∷◌, ◌++◌, All}
+use Rattle.std.proofs.Common.{◌≡◌, ◌≢◌, ℕ, zero, suc, ◌+◌, ◌-◌, ◌*◌, ◌/◌, ◌%◌, ◌^◌, ◌<◌, ◌≤◌, List, [], ◌∷◌, ◌++◌, All}
 use Rattle.std.proofs.Common.{length, take, drop, get_or, sym, ap, ◌∙◌, subst, arith, append_assoc, length-append}
 use Rattle.std.proofs.Common.{inl, inr}
 use Rattle.std.specs.Prelude.{true, false, if◌then◌else◌, ◌==◌}
@@ -9,7 +9,7 @@ use Rattle.std.proofs.lemmas.Bool.Decides.{nat_tests}
 use Rattle.std.proofs.lemmas.Bool.{cases_lt, lt-ltb}
 use Rattle.std.proofs.lemmas.Fmt.{decimal_digit, decimal_step, decimal_by_steps, decimal_injective, decimal_nonempty}
 use Rattle.std.proofs.lemmas.List.{take_all, take-append-le, take-append-drop, drop_more}
-use Rattle.std.proofs.lemmas.List.Elements.{All-nil, All-cons, All-head, All-tail}
+use Rattle.std.proofs.lemmas.List.Elements.{All-nil, All-cons, All-head, All-tail, All-weaker}
 
 abbrev pub IsDigit : ℕ → Type 0
 IsDigit b = (48 ≤ b) × (b ≤ 57)
@@ -44,6 +44,11 @@ digits_are (suc k) n acc h =
 pub digits-decimal : (n : ℕ) → AreDigits (decimal n)
 unfolding digits
 digits-decimal n = digits_are 64 n [] (All-nil IsDigit)
+
+-- no byte that is no digit is in a number
+pub decimal_lacks : (s : ℕ) → (IsDigit s → ⊥) → (n : ℕ) → All (λ b. b ≢ s) (decimal n)
+decimal_lacks s no n =
+    All-weaker IsDigit (λ b. b ≢ s) (λ b h e. no (subst IsDigit e h)) (decimal n) (digits-decimal n)
 
 pub digit_within : (a xs : List ℕ) (x : ℕ) → AreDigits (a ++ x ∷ xs) → IsDigit x
 digit_within [] xs x h = All-head IsDigit x xs h

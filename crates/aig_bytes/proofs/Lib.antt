@@ -1,4 +1,5 @@
 pub mod BlockLemmas
+pub mod Cuts
 pub mod Decimals
 pub mod DigitLemmas
 pub mod GatherLemmas

@@ -7,7 +7,7 @@ use Rattle.std.specs.List.{list_all, slice_split}
 use Rattle.std.proofs.lemmas.Bool.{and_parts, ltb-true, ne_eqb}
 use Rattle.std.proofs.lemmas.List.Elements.{All-nil, All-cons, All-append}
 use Rattle.std.proofs.lemmas.List.Splits.{slice_split_at}
-use Rattle.aig_bytes.proofs.Decimals.{IsDigit, digits-decimal}
+use Rattle.aig_bytes.proofs.Decimals.{decimal_lacks}
 use Rattle.aig_cnf.specs.DimacsRead.{lines}
 
 -- ---- lines
@@ -15,11 +15,8 @@ use Rattle.aig_cnf.specs.DimacsRead.{lines}
 abbrev pub HasNoEnd : List ℕ → Type 0
 HasNoEnd bytes = All (λ b. b ≢ 10) bytes
 
-pub digits_no_end : (bytes : List ℕ) → All IsDigit bytes → HasNoEnd bytes
-digits_no_end bytes h = λ k d lt e. let v = h k d lt in omega (arith, v.0, e)
-
 pub decimal_no_end : (n : ℕ) → HasNoEnd (decimal n)
-decimal_no_end n = digits_no_end (decimal n) (digits-decimal n)
+decimal_no_end n = decimal_lacks 10 (λ h. omega (arith, h.0)) n
 
 pub no_end_by_test : (bytes : List ℕ) → list_all (nat_lt 10) bytes ≡ true → HasNoEnd bytes
 no_end_by_test [] e = All-nil (λ b. b ≢ 10)

@@ -1,7 +1,6 @@
 pub mod BenchEnds
 pub mod Benches
 pub mod Digits
-pub mod Fields
 pub mod FirstBytes
 pub mod Inputs
 pub mod KeptCircuits

@@ -1,21 +1,26 @@
 -- A line spells one command.
-use Rattle.std.proofs.Common.{◌≡◌, ℕ, ◌<◌, ◌^◌, List, [], ◌∷◌, ◌++◌, map, refl, sym, ap, ◌∙◌, arith}
+use Rattle.std.proofs.Common.{◌≡◌, ◌≢◌, ℕ, ◌<◌, ◌^◌, List, [], ◌∷◌, ◌++◌, All, map, refl, sym, ap, ◌∙◌, arith}
 use Rattle.std.specs.Fmt.{decimal}
 use Rattle.std.proofs.lemmas.Fmt.{decimal_injective}
+use Rattle.aig_bytes.proofs.Decimals.{decimal_lacks}
+use Rattle.aig_bytes.proofs.Cuts.{split_once}
 use Rattle.aig_parts.specs.declared.ternary.Tern.{Tern}
 use Rattle.aig_values.specs.Characters.{character}
 use Rattle.aig_sim.proofs.OneText.{same_row}
 use Rattle.aig_bench.specs.Edit.{Edit, rewire, set_reset, set_bit, add_frame, drop_frame, append_gate, set_output}
 use Rattle.aig_script.specs.Command.{Command, edit, value, trace, unroll, number_field, edit_text, command_text}
 use Rattle.aig_script.specs.Command.{IsNumber, HasNumbers, IsCommand}
-use Rattle.aig_script.proofs.Fields.{no_space-decimal, split_once}
 
 one_number : (m n : ℕ) → IsNumber m → IsNumber n → decimal m ≡ decimal n → m ≡ n
 one_number m n p q e = decimal_injective m n (omega arith) (omega arith) e
 
+-- no space is in a number
+no_space : (n : ℕ) → All (λ b. b ≢ 32) (decimal n)
+no_space n = decimal_lacks 32 (λ h. omega (arith, h.0)) n
+
 one_field : (m n : ℕ) (xs ys : List ℕ) → IsNumber m → IsNumber n → number_field m xs ≡ number_field n ys → (m ≡ n) × (xs ≡ ys)
 one_field m n xs ys p q e =
-    let s = split_once (decimal m) xs (decimal n) ys (no_space-decimal m p) (no_space-decimal n q) e in
+    let s = split_once 32 (decimal m) (decimal n) xs ys (no_space m) (no_space n) e in
     (one_number m n p q s.0, s.1)
 
 one_value : (v w : Tern) → character v ∷ [] ≡ character w ∷ [] → v ≡ w

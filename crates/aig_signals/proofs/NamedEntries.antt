@@ -8,6 +8,7 @@ use Rattle.std.proofs.lemmas.List.{append-nil, length-append, map-append}
 use Rattle.std.proofs.lemmas.List.Concat.{flat_map-append}
 use Rattle.std.proofs.lemmas.List.Elements.{All-nil, All-cons, All-append, All-filter, Contains-append_cases}
 use Rattle.std.proofs.lemmas.List.Elements.{filter-append}
+use Rattle.aig_bytes.proofs.Cuts.{no_split}
 use Rattle.aig_parts.specs.declared.raw.Raw.{Raw}
 use Rattle.aig_parts.specs.declared.symbols.Kind.{Kind}
 use Rattle.aig_parts.specs.declared.symbols.Kind.TheVariants as kinds
@@ -20,7 +21,7 @@ use Rattle.aig_base.proofs.selections.Distinct.{not_before}
 use Rattle.aig_signals.specs.Named.{AreLines, is_other, symbol_of, symbols_from}
 use Rattle.aig_signals.specs.state.PropertyNaming.{IsFreeFor, RefusesLines, other_symbols}
 use Rattle.aig_signals.specs.declared.property.fault.NamesFault.TheVariants as faults
-use Rattle.aig_signals.proofs.Lines.{IsLine, ended, Left, lines_left, no_split}
+use Rattle.aig_signals.proofs.Lines.{IsLine, ended, Left, lines_left}
 
 -- ---- the symbols of the other sections
 
@@ -194,7 +195,7 @@ module _ (kind : Kind) (text : List ℕ) (old : List (Key × List ℕ)) where
     where
       go : (lines : List (List ℕ)) → rest ≡ flat_map ended lines → length w.names + length lines ≡ length names → ⊥
       go [] e c = absurd (omega (arith, c, w.count, count, lt))
-      go (line ∷ lines) e c = no_split line rest (flat_map ended lines) is_line
+      go (line ∷ lines) e c = no_split 10 line rest (flat_map ended lines) is_line
           (sym (e ∙ append_assoc line (10 ∷ []) (flat_map ended lines)))
 
   -- there is more than the lines

@@ -4,6 +4,7 @@ use Rattle.std.proofs.Common.{ap, ◌∙◌, subst, arith, append_assoc}
 use Rattle.std.specs.List.{flat_map}
 use Rattle.std.proofs.lemmas.List.{append-nil, length-map}
 use Rattle.std.proofs.lemmas.List.Elements.{All-head, All-tail, All-map}
+use Rattle.aig_bytes.proofs.Cuts.{split_once, no_split}
 use Rattle.aig_parts.specs.declared.ternary.Tern.{Tern}
 use Rattle.aig_parts.specs.declared.ternary.Tern.TheVariants.{Zero, One, X}
 use Rattle.aig_sim.specs.declared.stimulus.fault.StimFault.{StimFault}
@@ -13,24 +14,6 @@ use Rattle.aig_values.specs.Characters.{character}
 use Rattle.aig_values.specs.InputRows.{HaveWidth}
 use Rattle.aig_sim.specs.StimulusText.{row_line, IsCharacter, EndsLine, HasFault, HasFaultyLine, SpellsRows}
 use Rattle.aig_sim.proofs.LineLemmas.{characters, no_end_in_character}
-
--- a line that LF ends begins with the bytes of no other
-pub split_once : (a b m n : List ℕ) → All (λ x. x ≢ 10) a → All (λ x. x ≢ 10) b → a ++ (10 ∷ m) ≡ b ++ (10 ∷ n) → (a ≡ b)
-    × (m ≡ n)
-split_once [] [] m n p q e = (refl, cc)
-split_once [] (y ∷ b) m n p q e = let is : 10 ≡ y = cc in absurd (All-head (λ x. x ≢ 10) y b q (sym is))
-split_once (x ∷ a) [] m n p q e = let is : x ≡ 10 = cc in absurd (All-head (λ x. x ≢ 10) x a p is)
-split_once (x ∷ a) (y ∷ b) m n p q e =
-    let same : x ≡ y = cc in
-    let more : a ++ (10 ∷ m) ≡ b ++ (10 ∷ n) = cc in
-    let r = split_once a b m n (All-tail (λ x. x ≢ 10) x a p) (All-tail (λ x. x ≢ 10) y b q) more in
-    (ap (λ (z : ℕ). z ∷ a) same ∙ ap (λ (zs : List ℕ). y ∷ zs) r.0, r.1)
-
-pub no_split : (a b m : List ℕ) → All (λ x. x ≢ 10) b → a ++ (10 ∷ m) ≡ b → ⊥
-no_split [] [] m q e = cc
-no_split [] (y ∷ b) m q e = let is : 10 ≡ y = cc in All-head (λ x. x ≢ 10) y b q (sym is)
-no_split (x ∷ a) [] m q e = cc
-no_split (x ∷ a) (y ∷ b) m q e = let more : a ++ (10 ∷ m) ≡ b = cc in no_split a b m (All-tail (λ x. x ≢ 10) y b q) more
 
 same_character : (v w : Tern) → character v ≡ character w → v ≡ w
 same_character Zero Zero e = refl
@@ -88,7 +71,7 @@ rows_twice width (r ∷ rows) [] rest rest' p q e =
 rows_twice width (r ∷ rows) (s ∷ rows') rest rest' p q e =
     let t = flat_map row_line rows ++ rest in
     let t' = flat_map row_line rows' ++ rest' in
-    let (same, more) = split_once (map character r) (map character s) t t' (no_end_in_row r) (no_end_in_row s)
+    let (same, more) = split_once 10 (map character r) (map character s) t t' (no_end_in_row r) (no_end_in_row s)
     (sym (row_ends r t) ∙ sym (append_assoc (row_line r) (flat_map row_line rows) rest) ∙ e
     ∙ append_assoc (row_line s) (flat_map row_line rows') rest' ∙ row_ends s t') in
     elim (rows_twice width rows rows' rest rest' (All-tail (λ row. length row ≡ width) r rows p)
@@ -102,20 +85,20 @@ rows_twice width (r ∷ rows) (s ∷ rows') rest rest' p q e =
     ]
 
 no_row_in_nothing : (width : ℕ) → BeginsWithRow width [] → ⊥
-no_row_in_nothing width (r, more, len, e) = no_split (map character r) [] more (λ i d h. absurd (omega arith)) (sym e)
+no_row_in_nothing width (r, more, len, e) = no_split 10 (map character r) [] more (λ i d h. absurd (omega arith)) (sym e)
 
 -- a faulty line is no row, unless it is one too many
 fault_is_no_row : (width before : ℕ) (line rest : List ℕ) (f : StimFault) → All (λ x. x ≢ 10) line
     → HasFault width before line rest f
     → BeginsWithRow width (line ++ rest) → before ≡ 65536
 fault_is_no_row width before line rest fault.Unfinished p h (r, more, len, e) =
-    absurd (no_split (map character r) line more p (sym e ∙ ap (λ (t : List ℕ). line ++ t) h.0 ∙ append-nil line))
+    absurd (no_split 10 (map character r) line more p (sym e ∙ ap (λ (t : List ℕ). line ++ t) h.0 ∙ append-nil line))
 fault_is_no_row width before line rest (fault.Char n) p h (r, more, len, e) =
-    let same = split_once line (map character r) h.1.0 more p (no_end_in_row r)
+    let same = split_once 10 line (map character r) h.1.0 more p (no_end_in_row r)
     (ap (λ (t : List ℕ). line ++ t) (sym h.1.1) ∙ e) in
     absurd (h.2 (subst (All IsCharacter) (sym same.0) (characters r)))
 fault_is_no_row width before line rest (fault.Length n) p h (r, more, len, e) =
-    let same = split_once line (map character r) h.1.0 more p (no_end_in_row r)
+    let same = split_once 10 line (map character r) h.1.0 more p (no_end_in_row r)
     (ap (λ (t : List ℕ). line ++ t) (sym h.1.1) ∙ e) in
     absurd (h.3 (ap length same.0 ∙ length-map r character ∙ len))
 fault_is_no_row width before line rest fault.Limit p h s = h.0
@@ -172,17 +155,17 @@ one_fault width before line rest line' rest' f f' p p' h h' e =
       | inl (is, none) ↦ elim (ends_or_not width before line' rest' f' h') [
         | inl (is', none') ↦ is ∙ sym is'
         | inr (more, ends) ↦
-            absurd (no_split line' line more p
+            absurd (no_split 10 line' line more p
             (ap (λ (t : List ℕ). line' ++ t) (sym ends) ∙ sym e ∙ ap (λ (t : List ℕ). line ++ t) none
             ∙ append-nil line))
       ]
       | inr (more, ends) ↦ elim (ends_or_not width before line' rest' f' h') [
         | inl (is', none') ↦
-            absurd (no_split line line' more p'
+            absurd (no_split 10 line line' more p'
             (ap (λ (t : List ℕ). line ++ t) (sym ends) ∙ e ∙ ap (λ (t : List ℕ). line' ++ t) none'
             ∙ append-nil line'))
         | inr (more', ends') ↦
-            let (same, rests) = split_once line line' more more' p p'
+            let (same, rests) = split_once 10 line line' more more' p p'
             (ap (λ (t : List ℕ). line ++ t) (sym ends) ∙ e ∙ ap (λ (t : List ℕ). line' ++ t) ends') in
             let same_rest : rest' ≡ rest = ends' ∙ ap (λ (t : List ℕ). 10 ∷ t) (sym rests) ∙ sym ends in
             ended_fault width before line rest f f' (more, ends) h

@@ -22,10 +22,11 @@ use Rattle.std.proofs.lemmas.Bool.Decides.{Decides-eqb}
 use Rattle.std.proofs.lemmas.Slice.Eq.{strip_prefix_is}
 use Rattle.std.specs.Cmp.Lexicographic.{pointwise}
 use Rattle.std.specs.Option.{MatchOption}
+use Rattle.aig_bytes.proofs.Cuts.{split_once, no_split}
 use denote.Ref.{Bor}
 use lib.Dec.{eqb}
 use Rattle.aig_sim.proofs.LineLemmas.{characters, flat_map_push}
-use Rattle.aig_sim.proofs.OneText.{rows_twice, row_ends, split_once, no_split, no_end_in_row, same_row}
+use Rattle.aig_sim.proofs.OneText.{rows_twice, row_ends, no_end_in_row, same_row}
 
 -- ---- a line of values
 
@@ -163,7 +164,7 @@ rows_more width text rest rest' rows row n widths len is wide begins = (
 pub same_line : (text : List ℕ) (row start : List Tern) (rest more : List ℕ) → text ≡ map character row ++ (10 ∷ rest)
     → text ≡ row_line start ++ more → (row ≡ start) × (rest ≡ more)
 same_line text row start rest more e f =
-    let (line, same) = split_once (map character row) (map character start) rest more (no_end_in_row row) (no_end_in_row start)
+    let (line, same) = split_once 10 (map character row) (map character start) rest more (no_end_in_row row) (no_end_in_row start)
     (sym e ∙ f ∙ row_ends start more) in
     (same_row row start line, same)
 
@@ -189,7 +190,7 @@ module _ (raw : Raw) (text position : List ℕ) (head : text ≡ 49 ∷ (10 ∷ 
 
   -- the position's line has to end
   pub no_line : All (λ b. b ≢ 10) position → (w : Witness) → SpellsWitness raw text w → ⊥
-  no_line none w h = no_split h.digits position (row_line w.start ++ witness_rows_text w.rows) none (sym (position_is w h))
+  no_line none w h = no_split 10 h.digits position (row_line w.start ++ witness_rows_text w.rows) none (sym (position_is w h))
 
   module _ (size : ℕ) (lt : size < length position) (end : get_or position size 0 ≡ 10)
       (none : All (λ b. b ≢ 10) (take size position)) where
@@ -202,7 +203,7 @@ module _ (raw : Raw) (text position : List ℕ) (head : text ≡ 49 ∷ (10 ∷ 
     pub spelled_by : (w : Witness) (h : SpellsWitness raw text w) → (take size position ≡ h.digits)
         × (drop (size + 1) position ≡ row_line w.start ++ witness_rows_text w.rows)
     spelled_by w h =
-        split_once (take size position) h.digits (drop (size + 1) position) (row_line w.start ++ witness_rows_text w.rows) none
+        split_once 10 (take size position) h.digits (drop (size + 1) position) (row_line w.start ++ witness_rows_text w.rows) none
         (no_end_in_digits h.position) (sym line_is ∙ position_is w h)
 
     pub no_position : ((n : ℕ) → IsDecimal (take size position) n → ⊥) → (w : Witness) → SpellsWitness raw text w → ⊥
@@ -276,7 +277,7 @@ one_number digits m n h k = sym (decimal_value h) ∙ decimal_value k
 -- a text is one witness
 pub one_witness : (raw : Raw) (text : List ℕ) (w v : Witness) → SpellsWitness raw text w → SpellsWitness raw text v → w ≡ v
 one_witness raw text w v h k =
-    let (digits, body) = split_once h.digits k.digits (row_line w.start ++ witness_rows_text w.rows) (row_line v.start ++ witness_rows_text v.rows)
+    let (digits, body) = split_once 10 h.digits k.digits (row_line w.start ++ witness_rows_text w.rows) (row_line v.start ++ witness_rows_text v.rows)
     (no_end_in_digits h.position) (no_end_in_digits k.position) (after_head (sym h.text_is ∙ k.text_is)) in
     let (start, rows) = same_line (row_line w.start ++ witness_rows_text w.rows) w.start v.start (witness_rows_text w.rows) (witness_rows_text v.rows)
     (row_ends w.start (witness_rows_text w.rows)) body in

@@ -2,13 +2,14 @@
 use Rattle.std.proofs.Common.{◌≡◌, ◌≢◌, ◌⊎◌, inl, inr, ℕ, ◌+◌, ◌-◌, ◌<◌, ◌≤◌, List, [], ◌∷◌, ◌++◌, length, get_or, All}
 use Rattle.std.proofs.Common.{refl, sym, ap, ◌∙◌, subst, arith, append_assoc}
 use Rattle.std.proofs.lemmas.List.{append-nil, append_cancel_left, length-append}
+use Rattle.aig_bytes.proofs.Cuts.{split_at}
 use Rattle.aig_sat.specs.model.ModelText.{HasStatus, IsSatisfiable, IsUnknown, IsUnsatisfiable, Names, SpellsModel}
 use Rattle.aig_sat.specs.model.ModelText.{number_text}
 use Rattle.aig_sat.specs.declared.model.reader.Phase.{Phase}
 use Rattle.aig_sat.specs.declared.model.reader.Phase.TheVariants.{Before, After}
 use Rattle.aig_sat.specs.model.state.Reading.{IsAnswerByte}
 use Rattle.aig_sat.proofs.models.PieceLemmas.{FirstByte, MayStand, Piece, Word, begins, has_end, no_end}
-use Rattle.aig_sat.proofs.models.PieceLemmas.{no_end_in_status, one_piece, phase_after, piece_text, split_at}
+use Rattle.aig_sat.proofs.models.PieceLemmas.{no_end_in_status, one_piece, phase_after, piece_text}
 use Rattle.aig_sat.proofs.models.PieceLemmas.{with_named}
 
 -- ---- the pieces that are left

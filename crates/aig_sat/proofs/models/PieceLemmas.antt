@@ -7,7 +7,8 @@ use Rattle.std.proofs.lemmas.Bool.{false≢true}
 use Rattle.std.proofs.lemmas.Bool.Decides.{eqb_tells}
 use Rattle.std.proofs.lemmas.Fmt.{decimal_injective}
 use Rattle.std.proofs.lemmas.List.{take_all}
-use Rattle.std.proofs.lemmas.List.Elements.{All-nil, All-cons, All-head, All-tail, All-weaker}
+use Rattle.std.proofs.lemmas.List.Elements.{All-nil, All-cons, All-weaker}
+use Rattle.aig_bytes.proofs.Cuts.{split_at}
 use Rattle.aig_parts.specs.Literal.{variable}
 use Rattle.aig_sat.specs.model.ModelText.{BeginsLine, IsSatisfiable, IsSpace, number_text}
 use Rattle.aig_sat.specs.declared.model.reader.Phase.{Phase}
@@ -67,21 +68,6 @@ with_named literals (Piece.status line) = literals
 with_named literals (Piece.word Word.mark b) = literals
 with_named literals (Piece.word (Word.literal l) b) = literals ++ l ∷ []
 with_named literals (Piece.word Word.end b) = literals
-
--- ---- lists that end at the first such byte
-
-pub split_at : (P : ℕ → Type 0) (a c b d : List ℕ) (x y : ℕ) → All (λ z. P z → ⊥) a → All (λ z. P z → ⊥) c → P x → P y
-    → a ++ x ∷ b ≡ c ++ y ∷ d → (a ≡ c) × (x ∷ b ≡ y ∷ d)
-split_at P [] [] b d x y p q s t e = (refl, e)
-split_at P [] (z ∷ c) b d x y p q s t e =
-    let is : x ≡ z = cc in absurd (All-head (λ z. P z → ⊥) z c q (subst P is s))
-split_at P (z ∷ a) [] b d x y p q s t e =
-    let is : y ≡ z = cc in absurd (All-head (λ z. P z → ⊥) z a p (subst P is t))
-split_at P (z ∷ a) (u ∷ c) b d x y p q s t e =
-    let same : z ≡ u = cc in
-    let more : a ++ x ∷ b ≡ c ++ y ∷ d = cc in
-    let r = split_at P a c b d x y (All-tail (λ z. P z → ⊥) z a p) (All-tail (λ z. P z → ⊥) u c q) s t more in
-    (ap (λ (v : ℕ). v ∷ a) same ∙ ap (λ (vs : List ℕ). u ∷ vs) r.0, r.1)
 
 -- ---- the bytes of pieces
 

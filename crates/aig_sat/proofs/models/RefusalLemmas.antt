@@ -7,6 +7,7 @@ use Rattle.std.proofs.lemmas.Bool.{false≢true}
 use Rattle.std.proofs.lemmas.List.{append-nil, append_cancel_left, drop_all, length-drop, length-take-le, length_push}
 use Rattle.std.proofs.lemmas.List.{take-append-drop}
 use Rattle.std.proofs.lemmas.List.Elements.{All-nil, Contains-append_left, Contains-push}
+use Rattle.aig_bytes.proofs.Cuts.{split_at}
 use Rattle.aig_parts.specs.Literal.{negation, variable}
 use Rattle.aig_parts.specs.declared.ternary.Tern.{Tern}
 use Rattle.aig_sat.specs.model.ModelText.{BeginsLine, IsModelOf, IsSatisfiable, IsSpace, Names, number_text}
@@ -18,7 +19,7 @@ use Rattle.aig_sat.proofs.models.ModelLemmas.{line_stands}
 use Rattle.aig_sat.proofs.models.NamedLemmas.{both_signs}
 use Rattle.aig_sat.proofs.models.OneModel.{Goes, Next, ended, next_piece, only_answer, passed, turned}
 use Rattle.aig_sat.proofs.models.PieceLemmas.{FirstByte, MayBe, MayStand, Piece, Word, begins, no_space_in_word}
-use Rattle.aig_sat.proofs.models.PieceLemmas.{piece_text, split_at, with_named, word_text}
+use Rattle.aig_sat.proofs.models.PieceLemmas.{piece_text, with_named, word_text}
 
 -- the first byte that is left stands at the place
 there : (xs : List ℕ) (at x : ℕ) (rest : List ℕ) → drop at xs ≡ x ∷ rest → slice_get xs at ≡ Some x

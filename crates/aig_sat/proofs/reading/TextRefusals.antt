@@ -10,6 +10,7 @@ use Rattle.std.proofs.lemmas.Bool.{cases_lt}
 use Rattle.std.proofs.lemmas.Fmt.{decimal_digit, decimal_injective, decimal_step}
 use Rattle.std.proofs.lemmas.List.{append-nil, length_push}
 use Rattle.std.proofs.lemmas.List.Elements.{All-cons, All-head, All-nil, All-push, All-tail}
+use Rattle.aig_bytes.proofs.Cuts.{split_at}
 use Rattle.aig_bytes.specs.Bytes.{before}
 use Rattle.aig_bytes.specs.Term.{minus}
 use Rattle.aig_parts.specs.Literal.{variable}
@@ -22,7 +23,7 @@ use Rattle.aig_sat.specs.proof.state.Taking.{IsNumber, IsUnfinished, LeadsWord, 
 use Rattle.aig_sat.proofs.reading.TakingLemmas.{after, before_none, digits_more}
 use Rattle.aig_sat.proofs.models.DigitLemmas.{decimal_head}
 use Rattle.aig_bytes.proofs.Decimals.{digit_joins, digits-decimal}
-use Rattle.aig_sat.proofs.models.PieceLemmas.{Word, no_space_in_word, split_at}
+use Rattle.aig_sat.proofs.models.PieceLemmas.{Word, no_space_in_word}
 
 -- ---- lists
 
