@@ -4,11 +4,10 @@ use Rattle.std.proofs.Common.{subst, List, [], ◌∷◌, ◌++◌, length, get_
 use Rattle.std.proofs.Common.{append_assoc, arith}
 use Rattle.std.specs.Prelude.{All}
 use Rattle.std.specs.Fmt.{decimal}
-use Rattle.std.proofs.lemmas.Bool.{eqb-true}
+use Rattle.std.proofs.lemmas.Bool.{eqb-true, and_parts}
 use Rattle.std.proofs.lemmas.Bool.Decides.{nat_tests}
 use Rattle.std.proofs.lemmas.List.Elements.{All-nil, All-cons, All-head, All-tail}
 use Rattle.aig_parts.specs.Formed as formed
-use Rattle.aig_parts.proofs.SymbolKeys.{and_both}
 use Rattle.aig_format.specs.declared.reader.header.Format.{Format}
 use Rattle.aig_format.specs.declared.reader.header.Format.TheVariants.{Ascii, Binary}
 use Rattle.aig_format.specs.declared.reader.header.Counts.{Counts}
@@ -114,7 +113,7 @@ over_again : (ns rest : List ℕ) → all_zero ns ≡ true → tail_at (length n
 unfolding tail_at count_at line_end_at all_zero
 over_again [] rest zeros = refl
 over_again (n ∷ ns) rest zeros =
-    let p = and_both (n == 0) (all_zero ns) zeros in
+    let p = and_parts (n == 0) (all_zero ns) zeros in
     let none : n ≡ 0 = eqb-true n 0 p.0 in
     rw (over_again ns rest p.1) (ap (λ (k : ℕ). done (k ∷ ns) rest) (sym none))
 
@@ -229,7 +228,7 @@ tail_again k (n ∷ ns) rest small = by_test (λ j s. tail_again j ns rest s) (k
         → tail_at (suc (length ns)) false (cond b (line_end ∷ []) (space ∷ (decimal n ++ tail (k - 1) ns)) ++ rest)
         ≡ Ok (n ∷ ns, rest)
     by_test again true e =
-        let zeros = (and_both (k == 0) (all_zero (n ∷ ns)) e).1 in
+        let zeros = (and_parts (k == 0) (all_zero (n ∷ ns)) e).1 in
         rw (more_line rest) (over_again (n ∷ ns) rest zeros)
     by_test again false e =
         let head = All-head (λ (n : ℕ). n ≤ formed.limit) n ns small in

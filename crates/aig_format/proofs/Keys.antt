@@ -1,20 +1,19 @@
 -- What a symbol names, by its letter and its position.
 use Rattle.std.proofs.Common.{◌≡◌, ℕ, Bool, true, false, ◌==◌, eqb, eq-eqb, List}
 use Rattle.std.proofs.Common.{refl, sym, ap, Contains}
-use Rattle.std.proofs.lemmas.Bool.{eqb-true, false_from_ne_true}
+use Rattle.std.proofs.lemmas.Bool.{eqb-true, false_from_ne_true, and_parts}
 use Rattle.std.proofs.lemmas.Map.Views.{list_any-from_Contains, Contains-from_any}
 use Rattle.std.specs.Cmp.{IsEquivalence}
 use Rattle.std.specs.Map.{keys_of}
 use Rattle.aig_parts.specs.declared.symbols.Kind.{Kind}
 use Rattle.aig_parts.specs.Letters.{letter}
 use Rattle.aig_parts.proofs.LetterLemmas.{same_kind}
-use Rattle.aig_parts.proofs.SymbolKeys.{and_both}
 use Rattle.aig_format.specs.Spelling.{Entry}
 use Rattle.aig_format.specs.state.ReadingNames.{same_key, is_named}
 
 pub same_is : (a b : Kind × ℕ) → same_key a b ≡ true → a ≡ b
 same_is a b h =
-    let p = and_both (letter a.0 == letter b.0) (a.1 == b.1) h in
+    let p = and_parts (letter a.0 == letter b.0) (a.1 == b.1) h in
     let k : a.0 ≡ b.0 = same_kind a.0 b.0 (eqb-true (letter a.0) (letter b.0) p.0) in
     let n : a.1 ≡ b.1 = eqb-true a.1 b.1 p.1 in
     (λ i. (k i, n i))

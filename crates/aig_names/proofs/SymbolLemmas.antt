@@ -3,13 +3,12 @@ use Rattle.std.proofs.Common.{◌≡◌, ◌≢◌, ℕ, zero, suc, ◌<◌, Boo
 use Rattle.std.proofs.Common.{Contains, AllPairs, refl, sym, ap, ◌∙◌, arith}
 use Rattle.std.specs.Prelude.{◌==◌}
 use Rattle.std.specs.Map.{keys_of}
-use Rattle.std.proofs.lemmas.Bool.{eqb-true, eq-eqb, cond-true, cond-false}
+use Rattle.std.proofs.lemmas.Bool.{eqb-true, eq-eqb, cond-true, cond-false, and_parts}
 use Rattle.std.proofs.lemmas.List.{get_or-map, length-map}
 use Rattle.aig_parts.specs.declared.symbols.Kind.{Kind}
 use Rattle.aig_parts.specs.Letters.{letter}
 use Rattle.aig_parts.specs.SymbolPlaces.{Key}
 use Rattle.aig_parts.proofs.LetterLemmas.{same_kind}
-use Rattle.aig_parts.proofs.SymbolKeys.{and_both}
 use Rattle.aig_names.specs.Names.{symbol_of}
 
 -- the test of an entry
@@ -18,7 +17,7 @@ is_entry k kind p = letter k.0 == letter kind && k.1 == p
 
 same_entry : (k : Key) (kind : Kind) (p : ℕ) → is_entry k kind p ≡ true → k ≡ (kind, p)
 same_entry k kind p h =
-    let (a, b) = and_both (letter k.0 == letter kind) (k.1 == p) h in
+    let (a, b) = and_parts (letter k.0 == letter kind) (k.1 == p) h in
     let e = same_kind k.0 kind (eqb-true (letter k.0) (letter kind) a) in
     let q = eqb-true k.1 p b in
     λ i. (e i, q i)

@@ -1,5 +1,5 @@
 -- The derived `==` on the keys of symbols is equality.
-use Rattle.std.proofs.Common.{◌≡◌, ℕ, Bool, true, false, ◌&&◌, nat_eq, refl, sym, ap, rules, Contains}
+use Rattle.std.proofs.Common.{◌≡◌, ℕ, Bool, ◌&&◌, nat_eq, refl, sym, ap, rules, Contains}
 use Rattle.std.specs.Bool.{Decides}
 use Rattle.std.specs.Cmp.{IsEquivalence}
 use Rattle.std.proofs.lemmas.Bool.Decides.{Decides-eqb, same_from_decides}
@@ -7,6 +7,7 @@ use denote.Enum.Bare.{sameb, same_true, true_same}
 use Rattle.std.proofs.Common.{◌∷◌, ◌++◌, [], Option, Some, None, IsSome}
 use Rattle.std.specs.Map.{keys_of}
 use Rattle.std.proofs.lemmas.Map.Views.{hash_map_contains_key_iff}
+use Rattle.std.proofs.lemmas.Bool.{and_parts, and_from}
 use Rattle.indexmap.specs.IndexMap.{IndexMap, get, insert_entry}
 use Rattle.indexmap.proofs.CallerLemmas.{insert_entry-new}
 use Rattle.aig_parts.specs.declared.symbols.Kind.{Kind}
@@ -16,19 +17,11 @@ use Rattle.aig_parts.specs.contracts.symbols.Kind.{the_type}
 abbrev pub key_eq : Kind × ℕ → Kind × ℕ → Bool
 key_eq x y = sameb the_type x.0 y.0 && nat_eq x.1 y.1
 
-pub and_both : (a b : Bool) → a && b ≡ true → (a ≡ true) × (b ≡ true)
-and_both true true h = (refl, refl)
-and_both true false h = (refl, h)
-and_both false b h = (h, absurd (cc))
-
-both_and : (a b : Bool) → a ≡ true → b ≡ true → a && b ≡ true
-both_and a b p q = rw (p, q) refl
-
 pub key_same : (x y : Kind × ℕ) → Decides (key_eq x y) (x ≡ y)
 key_same x y = (
-  λ h. let both = and_both (sameb the_type x.0 y.0) (nat_eq x.1 y.1) h in
+  λ h. let both = and_parts (sameb the_type x.0 y.0) (nat_eq x.1 y.1) h in
       (λ i. (same_true the_type (search rules) x.0 y.0 both.0 i, (Decides-eqb x.1 y.1).0 both.1 i)),
-  λ e. both_and _ _ (true_same the_type x.0 y.0 (ap (λ p. p.0) e)) ((Decides-eqb x.1 y.1).1 (ap (λ p. p.1) e)),
+  λ e. and_from _ _ (true_same the_type x.0 y.0 (ap (λ p. p.0) e)) ((Decides-eqb x.1 y.1).1 (ap (λ p. p.1) e)),
 )
 
 module _ {K : Type 0} {eq : K → K → Bool} (same : (x y : K) → Decides (eq x y) (x ≡ y)) where
