@@ -10,6 +10,7 @@ ghost use Rattle.aig_values.specs.Cells.{literal_value};
 ghost use Rattle.aig_values.specs.state.Frame.{AreStates, Renews, PutsInputs, HoldsLatches, HoldsSources, HoldsAll};
 ghost use Rattle.aig_values.specs.Contiguous.{AreContiguous};
 ghost use Rattle.aig_values.specs.GateOrder.{IsGateOrder};
+ghost use Rattle.aig_sim.specs.state.Machine.{Steps};
 
 use aig_base::{Circuit, Gate, Tern};
 use aig_values::code::{Code, code_in};
@@ -107,31 +108,8 @@ fn evaluate_frame(cells: &mut [Code], gates: &[Gate])
     }
 }
 
-/// Gives the cells of a frame their values, by its row of input values and the latches' values. The inputs may be
-/// known to be neighbours from some variable on.
-pub fn evaluate_row(
-    cells: &mut [Code],
-    circuit: &Circuit,
-    gates: &[Gate],
-    row: &[Tern],
-    first: Option<usize>,
-    states: &[Code],
-)
-    requires circuit { IsCircuit circuit.now }
-    requires gates { IsGateOrder circuit.now gates.now }
-    requires cells { length cells.old ≡ circuit.now.max_var + 1 }
-    requires row { length row.now ≡ length circuit.now.inputs }
-    requires first { IfSome first (λ v. AreContiguous v circuit.now.inputs) }
-    requires states { length states.now ≡ length circuit.now.latches }
-    ensures { (start : List Tern) (rows : List (List Tern)) (t : ℕ) → slice_get rows t ≡ Some row.now →
-        AreStates circuit.now start rows t states.now → HoldsAll circuit.now start rows t cells.new }
-{
-    put_sources(cells, circuit, row, first, states);
-    evaluate_frame(cells, gates);
-}
-
-/// Replaces the latches' values by those of the next frame.
-pub fn renew_states(states: &mut [Code], circuit: &Circuit, cells: &[Code])
+// Replaces the latches' values by those of the next frame.
+fn renew_states(states: &mut [Code], circuit: &Circuit, cells: &[Code])
     requires circuit { IsCircuit circuit.now }
     requires cells { length cells.now ≡ circuit.now.max_var + 1 }
     requires states { length states.old ≡ length circuit.now.latches }
@@ -139,5 +117,49 @@ pub fn renew_states(states: &mut [Code], circuit: &Circuit, cells: &[Code])
 {
     for (position, latch) in circuit.latches().iter().enumerate() {
         states[position] = code_in(cells, latch.next);
+    }
+}
+
+/// By what a frame is evaluated.
+#[derive(Clone, Copy)]
+pub struct FramePlan<'a> {
+    pub circuit: &'a Circuit,
+    /// The gates in the order of their evaluation.
+    pub gates: &'a [Gate],
+    /// The first input's variable, where the inputs are known to be neighbours.
+    pub first: Option<usize>,
+}
+
+impl FramePlan<'_> {
+    // Gives the cells of a frame their values, by its row of input values and the latches' values.
+    fn evaluate_row(&self, cells: &mut [Code], row: &[Tern], states: &[Code])
+        requires circuit { IsCircuit self.now.circuit.now }
+        requires gates { IsGateOrder self.now.circuit.now self.now.gates.now }
+        requires first { IfSome self.now.first (λ v. AreContiguous v self.now.circuit.now.inputs) }
+        requires cells { length cells.old ≡ self.now.circuit.now.max_var + 1 }
+        requires row { length row.now ≡ length self.now.circuit.now.inputs }
+        requires states { length states.now ≡ length self.now.circuit.now.latches }
+        ensures { (start : List Tern) (rows : List (List Tern)) (t : ℕ) → slice_get rows t ≡ Some row.now →
+            AreStates self.now.circuit.now start rows t states.now →
+            HoldsAll self.now.circuit.now start rows t cells.new }
+    {
+        put_sources(cells, self.circuit, row, self.first, states);
+        evaluate_frame(cells, self.gates);
+    }
+
+    /// Gives the cells the values of a frame, and the latches those after it.
+    pub fn run_row(&self, cells: &mut [Code], states: &mut [Code], row: &[Tern])
+        requires circuit { IsCircuit self.now.circuit.now }
+        requires gates { IsGateOrder self.now.circuit.now self.now.gates.now }
+        requires first { IfSome self.now.first (λ v. AreContiguous v self.now.circuit.now.inputs) }
+        requires cells { length cells.old ≡ self.now.circuit.now.max_var + 1 }
+        requires states { length states.old ≡ length self.now.circuit.now.latches }
+        requires row { length row.now ≡ length self.now.circuit.now.inputs }
+        ensures { (start : List Tern) (rows : List (List Tern)) →
+            AreStates self.now.circuit.now start rows (length rows) states.old →
+            Steps self.now.circuit.now start rows row.now cells.new states.new }
+    {
+        self.evaluate_row(cells, row, states);
+        renew_states(states, self.circuit, cells);
     }
 }

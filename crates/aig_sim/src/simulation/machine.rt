@@ -1,14 +1,12 @@
 //! A circuit that is simulated row by row: three-valued simulation in a topological order.
-ghost use Rattle.std.specs.Prelude.{◌≡◌, ◌+◌, ◌≤◌, List, length, map, unwrap_or, IfOk, IfSome};
+ghost use Rattle.std.specs.Prelude.{◌≡◌, ◌+◌, ◌≤◌, List, length, map, unwrap_or, IfOk};
 ghost use Rattle.aig_parts.specs.declared.ternary.Tern.{Tern};
 ghost use Rattle.aig_base.specs.Circuit.{IsCircuit};
 ghost use Rattle.aig_base.specs.Value.{start_of};
 ghost use Rattle.aig_values.specs.state.Frame.{AreStates};
-ghost use Rattle.aig_values.specs.GateOrder.{IsGateOrder};
 ghost use Rattle.aig_sim.specs.state.Machine.{Steps};
-ghost use Rattle.aig_values.specs.Contiguous.{AreContiguous};
 
-use crate::simulation::frame_cells::{evaluate_row, renew_states};
+use crate::simulation::frame_cells::FramePlan;
 use aig_base::{Circuit, Gate, List, Lit, Memory, Tern};
 use aig_values::code::{Code, character_in, spell_in};
 use aig_values::first_value;
@@ -98,29 +96,6 @@ fn gates_in_turn<'a>(circuit: &'a Circuit, order: &'a Option<List<Gate>>) -> &'a
     }
 }
 
-// Gives the cells the values of a frame, and the latches those after it.
-fn run_row(
-    cells: &mut [Code],
-    states: &mut [Code],
-    circuit: &Circuit,
-    gates: &[Gate],
-    row: &[Tern],
-    first: Option<usize>,
-)
-    requires circuit { IsCircuit circuit.now }
-    requires gates { IsGateOrder circuit.now gates.now }
-    requires cells { length cells.old ≡ circuit.now.max_var + 1 }
-    requires states { length states.old ≡ length circuit.now.latches }
-    requires row { length row.now ≡ length circuit.now.inputs }
-    requires first { IfSome first (λ v. AreContiguous v circuit.now.inputs) }
-    ensures { (start : List Tern) (rows : List (List Tern)) →
-        AreStates circuit.now start rows (length rows) states.old →
-        Steps circuit.now start rows row.now cells.new states.new }
-{
-    evaluate_row(cells, circuit, gates, row, first, states);
-    renew_states(states, circuit, cells);
-}
-
 impl<'a> Machine<'a> {
     /// The circuit before its first frame, where the latches start at these values. All memory that rows take is
     /// reserved here.
@@ -166,14 +141,12 @@ impl<'a> Machine<'a> {
             AreStates self.old.circuit start rows (length rows) self.old.states →
             Steps self.old.circuit start rows row.now self.new.cells self.new.states }
     {
-        run_row(
-            &mut self.cells,
-            &mut self.states,
-            self.circuit,
-            gates_in_turn(self.circuit, &self.order),
-            row,
-            self.first,
-        );
+        let plan = FramePlan {
+            circuit: self.circuit,
+            gates: gates_in_turn(self.circuit, &self.order),
+            first: self.first,
+        };
+        plan.run_row(&mut self.cells, &mut self.states, row);
     }
 }
 

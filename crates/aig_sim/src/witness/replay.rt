@@ -1,9 +1,8 @@
 //! Runs of witnesses, as traces and as value change dumps.
-ghost use Rattle.std.specs.Prelude.{◌≡◌, length, replicate};
+ghost use Rattle.std.specs.Prelude.{◌≡◌, length};
 ghost use Rattle.aig_parts.specs.declared.raw.Raw.{Raw};
 ghost use Rattle.aig_parts.specs.declared.ternary.Tern.{Tern};
-ghost use Rattle.aig_sim.specs.Dump.{signals, IsDump};
-ghost use Rattle.aig_sim.specs.DumpHeader.{header};
+ghost use Rattle.aig_sim.specs.Dump.{IsDump};
 ghost use Rattle.aig_bytes.specs.Flow.{flow};
 ghost use Rattle.aig_sim.specs.Replayed.{Replays};
 ghost use Rattle.aig_values.specs.Trace.{IsTrace};
@@ -13,84 +12,48 @@ ghost use Rattle.aig_sim.specs.state.Replaying.{BeginsRun, NoneReported, WritesF
 use crate::dumps::dumping::write_end;
 use crate::dumps::header::circuit_header;
 use crate::dumps::recorder::DumpRecorder;
-use crate::simulation::machine::Machine;
 use crate::simulation::recorder::{Recorder, TraceRecorder};
 use crate::witness::replay_fault::ReplayFault;
 use crate::witness::{WitnessRun, admitted_parts, read_values};
-use aig_base::{Circuit, Io, Tern, Write, write_all};
+use aig_base::{Circuit, Io, Write, write_all};
 use std::alloc::Global;
 
-// Simulates so many frames, and writes the text of each.
-fn write_frames<T: Recorder, W: Write>(
-    machine: &mut Machine<'_>,
-    row: &mut [Tern],
-    recorder: &mut T,
-    rows: &[u8],
-    frames: u32,
-    out: &mut W,
-) -> Result<(), Io>
-    requires ready { (w : Witness) × BeginsRun machine.old.circuit w machine.old.states rows.now frames }
-    requires row { length row.old ≡ length machine.old.circuit.inputs }
-    requires fits { T.fits recorder.old machine.old.circuit }
-    ensures { (w : Witness) → BeginsRun machine.old.circuit w machine.old.states rows.now frames →
-        NoneReported T.is_text T.has_recorded machine.old.circuit w recorder.old →
-        WritesFrames T.is_text machine.old.circuit w W.written W.failures out.old out.new result }
-{
-    let mut rest = rows;
-    for frame in 0..frames {
-        rest = read_values(row, rest);
-        machine.step(row);
-        recorder.record(out, machine, frame as u64)?;
+impl WitnessRun<'_> {
+    // Simulates so many frames, and writes the text of each.
+    fn write_frames<T: Recorder, W: Write>(
+        &mut self,
+        rows: &[u8],
+        frames: u32,
+        recorder: &mut T,
+        out: &mut W,
+    ) -> Result<(), Io>
+        requires ready { (w : Witness) × BeginsRun self.old.machine.circuit w self.old.machine.states rows.now frames }
+        requires row { length self.old.row.items ≡ length self.old.machine.circuit.inputs }
+        requires fits { T.fits recorder.old self.old.machine.circuit }
+        ensures { (w : Witness) → BeginsRun self.old.machine.circuit w self.old.machine.states rows.now frames →
+            NoneReported T.is_text T.has_recorded self.old.machine.circuit w recorder.old →
+            WritesFrames T.is_text self.old.machine.circuit w W.written W.failures out.old out.new result }
+    {
+        let mut rest = rows;
+        for frame in 0..frames {
+            rest = read_values(&mut self.row, rest);
+            self.machine.step(&self.row);
+            recorder.record(out, &self.machine, frame as u64)?;
+        }
+        Ok(())
     }
-    Ok(())
-}
 
-// Writes the trace of so many frames.
-fn write_trace<W: Write>(
-    run: &mut WitnessRun<'_>,
-    rows: &[u8],
-    frames: u32,
-    out: &mut W,
-) -> Result<(), Io>
-    requires ready { (w : Witness) × BeginsRun run.old.machine.circuit w run.old.machine.states rows.now frames }
-    requires row { length run.old.row.items ≡ length run.old.machine.circuit.inputs }
-    ensures { (w : Witness) → BeginsRun run.old.machine.circuit w run.old.machine.states rows.now frames →
-        WritesRun (λ raw start rows text. IsTrace raw start rows text) run.old.machine.circuit w W.written W.failures
-        out.old out.new result }
-{
-    let mut recorder = TraceRecorder::new();
-    write_frames(
-        &mut run.machine,
-        &mut run.row,
-        &mut recorder,
-        rows,
-        frames,
-        out,
-    )
-}
-
-// Writes the dump of so many frames.
-fn write_dump<W: Write>(
-    run: &mut WitnessRun<'_>,
-    recorder: &mut DumpRecorder,
-    head: &[u8],
-    rows: &[u8],
-    frames: u32,
-    out: &mut W,
-) -> Result<(), Io>
-    requires ready { (w : Witness) × BeginsRun run.old.machine.circuit w run.old.machine.states rows.now frames }
-    requires row { length run.old.row.items ≡ length run.old.machine.circuit.inputs }
-    requires literals { recorder.old.literals.items ≡ signals run.old.machine.circuit }
-    requires last { recorder.old.last.items ≡ replicate (length (signals run.old.machine.circuit)) 0 }
-    requires size { length recorder.old.characters.items ≡ length (signals run.old.machine.circuit) }
-    requires head { head.now ≡ header run.old.machine.circuit }
-    ensures { (w : Witness) → BeginsRun run.old.machine.circuit w run.old.machine.states rows.now frames →
-        WritesRun (λ raw start rows text. IsDump raw start rows text) run.old.machine.circuit w W.written W.failures
-        out.old out.new result }
-{
-    write_all(out, head)?;
-    write_frames(&mut run.machine, &mut run.row, recorder, rows, frames, out)?;
-    write_end(out, frames as u64)
+    // Writes the trace of so many frames.
+    fn write_trace<W: Write>(&mut self, rows: &[u8], frames: u32, out: &mut W) -> Result<(), Io>
+        requires ready { (w : Witness) × BeginsRun self.old.machine.circuit w self.old.machine.states rows.now frames }
+        requires row { length self.old.row.items ≡ length self.old.machine.circuit.inputs }
+        ensures { (w : Witness) → BeginsRun self.old.machine.circuit w self.old.machine.states rows.now frames →
+            WritesRun (λ raw start rows text. IsTrace raw start rows text) self.old.machine.circuit w W.written
+            W.failures out.old out.new result }
+    {
+        let mut recorder = TraceRecorder::new();
+        self.write_frames(rows, frames, &mut recorder, out)
+    }
 }
 
 /// Writes the trace of the run that a witness describes, as `simulate` writes traces: from the witness's own start,
@@ -108,7 +71,7 @@ pub fn trace_witness<W: Write>(
 {
     let parts = admitted_parts(circuit, text)?;
     let mut run = WitnessRun::new(alloc, circuit, &parts)?;
-    write_trace(&mut run, parts.rows, parts.frames as u32, out)?;
+    run.write_trace(parts.rows, parts.frames as u32, out)?;
     Ok(())
 }
 
@@ -129,13 +92,9 @@ pub fn dump_witness<W: Write>(
     let header = circuit_header(alloc, circuit)?;
     let mut recorder = DumpRecorder::new(alloc, circuit)?;
     let mut run = WitnessRun::new(alloc, circuit, &parts)?;
-    write_dump(
-        &mut run,
-        &mut recorder,
-        header.as_slice(),
-        parts.rows,
-        parts.frames as u32,
-        out,
-    )?;
+    let frames = parts.frames as u32;
+    write_all(out, header.as_slice())?;
+    run.write_frames(parts.rows, frames, &mut recorder, out)?;
+    write_end(out, frames as u64)?;
     Ok(())
 }

@@ -1,12 +1,14 @@
-use Rattle.std.proofs.Common.{◌≡◌, ℕ, ◌-◌, ◌^◌, min, List, [], ◌∷◌, ◌++◌, length, sym, ◌∙◌, refl, subst, arith}
+use Rattle.std.proofs.Common.{◌≡◌, ℕ, ◌-◌, ◌^◌, min, List, [], ◌∷◌, ◌++◌, length, map, sym, ap, ◌∙◌, refl, subst, arith}
+use Rattle.std.proofs.lemmas.List.{with_items_is}
 use Rattle.aig_parts.specs.declared.ternary.Tern.{Tern}
 use Rattle.aig_parts.specs.declared.raw.Raw.{Raw}
+use Rattle.aig_values.specs.Characters.{character}
 use Rattle.aig_sim.specs.state.Checking.{BeginsWithRow}
 use Rattle.aig_values.specs.state.Frame.{HoldsAll, AreStates}
 use Rattle.aig_sim.specs.state.Machine.{Steps}
 use Rattle.aig_sim.proofs.ReplayLemmas.{replay_begins, replay_more, replay_stops}
 use Rattle.aig_sim.proofs.VerdictLemmas.{begins_with_row, row_was_read}
-use Rattle.aig_sim.proofs.witness.replay.write_frames.Goals as goal
+use Rattle.aig_sim.proofs.witness.WitnessRun.write_frames.Goals as goal
 
 pub loop-frame-init : goal.loop-frame-init
 loop-frame-init g c =
@@ -23,21 +25,34 @@ pub read_values-rest-requires : goal.read_values-rest-requires
 read_values-rest-requires g c =
     let i = c.loop-frame.invariant in
     let (given, len, widths, is) = i.rows in
-    subst (λ (n : ℕ). BeginsWithRow n c.loop-frame.rest.now) (sym i.row)
-    (begins_with_row (length c.args.machine.now.circuit.inputs) c.loop-frame.rest.now given c.loop-frame.frame widths is
+    subst (λ (n : ℕ). BeginsWithRow n c.loop-frame.rest.now) (sym (ap length c.deref_mut.ensures.value ∙ i.row))
+    (begins_with_row (length c.args.self.now.machine.circuit.inputs) c.loop-frame.rest.now given c.loop-frame.frame widths is
     (omega (arith, len, c.loop-frame-test.true)))
+
+pub step-requires : goal.step-requires
+step-requires g c =
+    let i = c.loop-frame.invariant in
+    let new = c.read_values-rest.new.values in
+    let same = with_items_is c.loop-frame.self.row new (omega (arith, c.read_values-rest.auto.values, c.deref_mut.ensures.len)) in
+    ap length (c.deref.ensures.value ∙ same) ∙ c.read_values-rest.auto.values ∙ ap length c.deref_mut.ensures.value ∙ i.row
+    ∙ ap (λ (r : Raw). length r.inputs) (sym i.circuit)
 
 pub returns-in_err-record : goal.returns-in_err-record
 returns-in_err-record g c = λ w ready none.
     let i = c.loop-frame.invariant in
-    let circuit : c.step.new.self.circuit ≡ c.args.machine.now.circuit = c.step.ensures.circuit ∙ i.circuit in
-    let row = c.read_values-rest.new.values in
+    let circuit : c.step.new.self.circuit ≡ c.args.self.now.machine.circuit = c.step.ensures.circuit ∙ i.circuit in
+    let new = c.read_values-rest.new.values in
+    let same = with_items_is c.loop-frame.self.row new (omega (arith, c.read_values-rest.auto.values, c.deref_mut.ensures.len)) in
+    let row = c.deref.result.now in
+    let rest = c.read_values-rest.result.now in
+    let read = subst (λ (r : List Tern). c.loop-frame.rest.now ≡ map character r ++ (10 ∷ rest))
+    (sym (c.deref.ensures.value ∙ same)) c.read_values-rest.ensures in
     let e = c.in_err-record.ensures in
     replay_stops (i.so_far w ready none) (omega (arith, ready.frames_are, c.loop-frame-test.true))
-    c.read_values-rest.result.now row c.step.new.self.cells c.step.new.self.states c.read_values-rest.ensures
+    rest row c.step.new.self.cells c.step.new.self.states read
     (λ start rows are. subst (λ (r : Raw). Steps r start rows row c.step.new.self.cells c.step.new.self.states) i.circuit
     (c.step.ensures.step start rows
-    (subst (λ (r : Raw). AreStates r start rows (length rows) c.loop-frame.machine.states) (sym i.circuit) are)))
+    (subst (λ (r : Raw). AreStates r start rows (length rows) c.loop-frame.self.machine.states) (sym i.circuit) are)))
     _
     (subst (λ (r : Raw). (start : List Tern) (rows : List (List Tern)) (row : List Tern) (text : List ℕ)
     → g.T.Recorder.is_text r start rows text → g.T.Recorder.has_recorded c.loop-frame.recorder r start rows
@@ -54,27 +69,26 @@ loop-frame-preserved g c =
     let t = c.loop-frame.frame in
     let lt = c.loop-frame-test.true in
     let (given, len, widths, is) = i.rows in
-    let raw = c.args.machine.now.circuit in
+    let raw = c.args.self.now.machine.circuit in
     let circuit : c.step.new.self.circuit ≡ raw = c.step.ensures.circuit ∙ i.circuit in
-    let row = c.read_values-rest.new.values in
+    let new = c.read_values-rest.new.values in
+    let same = with_items_is c.loop-frame.self.row new (omega (arith, c.read_values-rest.auto.values, c.deref_mut.ensures.len)) in
+    let row = c.deref.result.now in
+    let rest = c.read_values-rest.result.now in
+    let read = subst (λ (r : List Tern). c.loop-frame.rest.now ≡ map character r ++ (10 ∷ rest))
+    (sym (c.deref.ensures.value ∙ same)) c.read_values-rest.ensures in
     let e = c.in_ok-record.ensures in
     record {
       circuit = circuit;
-      row = omega (arith, i.row);
+      row = ap length same ∙ c.read_values-rest.auto.values ∙ ap length c.deref_mut.ensures.value ∙ i.row;
       fits = subst (λ (r : Raw). g.T.Recorder.fits c.record.new.self r) circuit e.can;
-      rows = (
-        given,
-        len,
-        widths,
-        (row_was_read c.loop-frame.rest.now c.read_values-rest.result.now given t row is (omega (arith, len, lt))
-            c.read_values-rest.ensures).1,
-      );
+      rows = (given, len, widths, (row_was_read c.loop-frame.rest.now rest given t row is (omega (arith, len, lt)) read).1);
       so_far = λ w ready none.
           replay_more (i.so_far w ready none) (omega (arith, ready.frames_are, lt))
-          c.read_values-rest.result.now row c.step.new.self.cells c.step.new.self.states c.read_values-rest.ensures
+          rest row c.step.new.self.cells c.step.new.self.states read
           (λ start rows are. subst (λ (r : Raw). Steps r start rows row c.step.new.self.cells c.step.new.self.states) i.circuit
           (c.step.ensures.step start rows
-          (subst (λ (r : Raw). AreStates r start rows (length rows) c.loop-frame.machine.states) (sym i.circuit) are)))
+          (subst (λ (r : Raw). AreStates r start rows (length rows) c.loop-frame.self.machine.states) (sym i.circuit) are)))
           _
           (subst (λ (r : Raw). (start : List Tern) (rows : List (List Tern)) (row : List Tern) (text : List ℕ)
           → g.T.Recorder.is_text r start rows text → g.T.Recorder.has_recorded c.loop-frame.recorder r start rows

@@ -1,6 +1,6 @@
 use Rattle.std.proofs.Common.{refl}
 use Rattle.aig_sim.proofs.ReplayLemmas.{trace_written}
-use Rattle.aig_sim.proofs.witness.replay.write_trace.Goals as goal
+use Rattle.aig_sim.proofs.witness.WitnessRun.write_trace.Goals as goal
 
 pub returns : goal.returns
 returns g c = λ w ready.
