@@ -143,32 +143,41 @@ impl<'a> Places<'a> {
     }
 }
 
-/// Adds what is left of a symbol, or fails and may have added some.
-fn push_kept(
-    list: &mut SymbolList,
-    places: &Places<'_>,
+/// Properties of one section that are kept in another, at the positions in the list that have their numbers.
+#[derive(Drop)]
+struct KeptProperties<'a> {
     from: PropertySection,
     into: PropertySection,
-    entry: (Kind, u32),
-    name: &[u8],
-) -> Result<(), AllocError>
-    requires places { ArePlaces places.now.numbers.now places.now.first.items places.now.next.items }
-    requires number { entry.0 ≡ spec.kind_of from → entry.1 < length places.now.first.items }
-    requires fresh { AllPairs (λ x y. x ≢ y)
-        (keys_of list.old ++ kept_entries from into places.now.numbers.now entry.0 entry.1) }
-    ensures { OnOk result (list.new ≡ list.old ++ kept_symbols from into places.now.numbers.now (entry, name.now)) }
-{
-    match entry.0 {
-        Kind::Input | Kind::Latch | Kind::Constraint => list.push(entry.0, entry.1, name),
-        Kind::Bad => match from {
-            PropertySection::Bad => places.push_each(list, into, entry.1, name),
-            PropertySection::Outputs => Ok(()),
-        },
-        Kind::Output => match from {
-            PropertySection::Bad => Ok(()),
-            PropertySection::Outputs => places.push_each(list, into, entry.1, name),
-        },
-        Kind::Justice | Kind::Fairness => Ok(()),
+    places: Places<'a>,
+}
+
+impl KeptProperties<'_> {
+    /// Adds what is left of a symbol, or fails and may have added some.
+    fn push_symbol(
+        &self,
+        list: &mut SymbolList,
+        entry: (Kind, u32),
+        name: &[u8],
+    ) -> Result<(), AllocError>
+        requires places { ArePlaces self.now.places.numbers.now self.now.places.first.items self.now.places.next.items }
+        requires number { entry.0 ≡ spec.kind_of self.now.from → entry.1 < length self.now.places.first.items }
+        requires fresh { AllPairs (λ x y. x ≢ y) (keys_of list.old
+            ++ kept_entries self.now.from self.now.into self.now.places.numbers.now entry.0 entry.1) }
+        ensures { OnOk result (list.new ≡ list.old
+            ++ kept_symbols self.now.from self.now.into self.now.places.numbers.now (entry, name.now)) }
+    {
+        match entry.0 {
+            Kind::Input | Kind::Latch | Kind::Constraint => list.push(entry.0, entry.1, name),
+            Kind::Bad => match self.from {
+                PropertySection::Bad => self.places.push_each(list, self.into, entry.1, name),
+                PropertySection::Outputs => Ok(()),
+            },
+            Kind::Output => match self.from {
+                PropertySection::Bad => Ok(()),
+                PropertySection::Outputs => self.places.push_each(list, self.into, entry.1, name),
+            },
+            Kind::Justice | Kind::Fairness => Ok(()),
+        }
     }
 }
 
@@ -188,9 +197,10 @@ fn selected_symbols(
     let _max_var = circuit.max_var();
     let count = properties_in(circuit, from).len();
     let places = Places::of(alloc, count, positions)?;
+    let kept = KeptProperties { from, into, places };
     let mut list = SymbolList::new(alloc);
     for (entry, name) in circuit.symbols().iter() {
-        push_kept(&mut list, &places, from, into, *entry, name)?;
+        kept.push_symbol(&mut list, *entry, name)?;
     }
     Ok(list.into_symbols()?)
 }

@@ -7,8 +7,8 @@ use Rattle.aig_base.specs.Selected.{kept_entries, kept_symbols}
 use Rattle.aig_base.proofs.selections.Walks.{sort_fresh, sort_more}
 use Rattle.aig_base.proofs.select.selected_symbols.Goals as goal
 
-pub push_kept-requires-clause-fresh : goal.push_kept-requires-clause-fresh
-push_kept-requires-clause-fresh c =
+pub push_symbol-requires-clause-fresh : goal.push_symbol-requires-clause-fresh
+push_symbol-requires-clause-fresh c =
     let from = c.args.from in
     let into = c.args.into in
     let next = rest_more (deref_pair {K = Kind × ℕ} {X = List ℕ}) c.loop-entry.entry-iterator c.next.new.self c.next.result
@@ -26,10 +26,10 @@ loop-entry-preserved c =
     let into = c.args.into in
     let next = rest_more (deref_pair {K = Kind × ℕ} {X = List ℕ}) c.loop-entry.entry-iterator c.next.new.self c.next.result
     (c.in-Some.entry, c.in-Some.name) c.in-Some.is c.next.ensures.steps in
-    let added : c.push_kept.new.list ≡ c.loop-entry.list
+    let added : c.push_symbol.new.list ≡ c.loop-entry.list
     ++ kept_symbols from into c.args.positions.now (c.in-Some.entry.now, c.in-Some.name.now) =
-    c.in_ok-push_kept.ensures
+    c.in_ok-push_symbol.ensures
     ∙ ap (λ (ps : List ℕ). c.loop-entry.list ++ kept_symbols from into ps (c.in-Some.entry.now, c.in-Some.name.now))
     c.in_ok-places.ensures.numbers in
-    sort_more from into c.args.positions.now c.args.circuit.now.symbols c.loop-entry.list c.push_kept.new.list
+    sort_more from into c.args.positions.now c.args.circuit.now.symbols c.loop-entry.list c.push_symbol.new.list
     c.loop-entry.entry-iterator c.next.new.self (c.in-Some.entry.now, c.in-Some.name.now) next added c.loop-entry.invariant
