@@ -10,8 +10,7 @@ ghost use Rattle.aig_base.specs.Sections.{IsDefined, IsLeftSide};
 use crate::circuit::Circuit;
 use crate::level::Levels;
 use crate::level::level_copy::{LevelCopy, NoCopy};
-use crate::level::renewal::renew;
-use crate::level::transitive_fan_out::is_in_fan_out;
+use crate::level::transitive_fan_out::FanOutGraph;
 use crate::readers::Readers;
 use aig_parts::{Gate, Lit, WouldCycle};
 
@@ -71,25 +70,11 @@ impl Levels {
             rhs0: r0,
             rhs1: r1,
         };
-        if is_in_fan_out(
-            circuit,
-            readers,
-            &self.levels,
-            &mut self.worklist.visits,
-            gate.var(),
-            r0.var(),
-            r1.var(),
-        ) {
+        let graph = FanOutGraph { circuit, readers };
+        if graph.closes_cycle(&changed, &self.levels, &mut self.worklist.visits) {
             return Err(WouldCycle);
         }
-        renew(
-            circuit,
-            readers,
-            &changed,
-            &mut self.levels,
-            copy,
-            &mut self.worklist,
-        );
+        graph.renew(&changed, &mut self.levels, copy, &mut self.worklist);
         Ok(())
     }
 }

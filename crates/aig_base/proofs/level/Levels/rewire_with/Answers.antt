@@ -1,4 +1,4 @@
-use Rattle.std.proofs.Common.{◌∙◌, ap, subst, sym}
+use Rattle.std.proofs.Common.{ap, subst}
 use Rattle.aig_parts.specs.Literal.{variable}
 use Rattle.aig_base.specs.Sections.{IsGate}
 use Rattle.aig_base.proofs.rewires.FanOutLemmas.{acyclic_from_before, cycle_from_fan_out}
@@ -6,27 +6,27 @@ use Rattle.aig_base.proofs.circuits.Gates.{IsGate-of_gate}
 use Rattle.aig_base.proofs.checks.Walks.{the_gate}
 use Rattle.aig_base.proofs.level.Levels.rewire_with.Goals as goal
 
-pub is_in_fan_out-requires-clause-gate : goal.is_in_fan_out-requires-clause-gate
-is_in_fan_out-requires-clause-gate g c =
+pub closes_cycle-requires-clause-gate : goal.closes_cycle-requires-clause-gate
+closes_cycle-requires-clause-gate g c =
     let raw = c.args.circuit.now in
     let (g, q, at, is) = the_gate raw c.facts.ensures.sound c.args.gate c.args.r0 c.args.r1 c.requires.gate in
-    subst (IsGate raw) (ap variable is ∙ sym c.var.ensures) (IsGate-of_gate raw q g at)
+    subst (IsGate raw) (ap variable is) (IsGate-of_gate raw q g at)
 
-pub returns-then-is_in_fan_out-clause-cycle : goal.returns-then-is_in_fan_out-clause-cycle
-returns-then-is_in_fan_out-clause-cycle g c =
+pub returns-then-closes_cycle-clause-cycle : goal.returns-then-closes_cycle-clause-cycle
+returns-then-closes_cycle-clause-cycle g c =
     cycle_from_fan_out c.args.circuit.now c.facts.ensures.sound c.args.gate c.args.r0 c.args.r1 c.requires.gate
-    (rw (c.var.ensures, c.var-2.ensures, c.var-3.ensures) at c.if-is_in_fan_out.ensures.reached)
+    c.if-closes_cycle.ensures.reached
 
 pub returns-clause-acyclic : goal.returns-clause-acyclic
 returns-clause-acyclic g c =
-    let apart = rw (c.var.ensures, c.var-2.ensures, c.var-3.ensures) at c.if-is_in_fan_out.ensures.none in
+    let apart = c.if-closes_cycle.ensures.none in
     acyclic_from_before c.args.circuit.now c.facts.ensures.sound c.args.gate c.args.r0 c.args.r1
     c.requires.gate
     c.facts.ensures.acyclic c.requires.defined0 c.requires.defined1 apart.0 apart.1
 
 pub renew-requires-clause-changed : goal.renew-requires-clause-changed
 renew-requires-clause-changed g c =
-    let apart = rw (c.var.ensures, c.var-2.ensures, c.var-3.ensures) at c.if-is_in_fan_out.ensures.none in
+    let apart = c.if-closes_cycle.ensures.none in
     record {
       gate = c.requires.gate;
       defined0 = c.requires.defined0;

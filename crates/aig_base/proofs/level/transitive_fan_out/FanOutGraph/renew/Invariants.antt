@@ -1,10 +1,10 @@
 use Rattle.std.proofs.Common.{◌≡◌, ◌+◌, length, not, count_by}
 use Rattle.aig_base.proofs.rewires.Passes.{IsPass}
-use Rattle.aig_base.proofs.level.renewal.renew.Given as goal
+use Rattle.aig_base.proofs.level.transitive_fan_out.FanOutGraph.renew.Given as goal
 
 abbrev pub invariant-loop-variable : goal.invariant-loop-variable
 invariant-loop-variable g l = record {
-  pass : IsPass l.circuit l.changed.lhs l.changed.rhs0 l.changed.rhs1 l.fn.levels l.levels l.worklist.visits l.worklist.queue;
+  pass : IsPass l.self.circuit.now l.changed.lhs l.changed.rhs0 l.changed.rhs1 l.fn.levels l.levels l.worklist.visits l.worklist.queue;
   copy : g.C.LevelCopy.has l.copy l.levels;
   rest : g.C.LevelCopy.rest l.copy ≡ g.C.LevelCopy.rest l.fn.copy;
 }
