@@ -9,7 +9,7 @@ use crate::kept::{Failure, keep_texts};
 use aig_base::Std;
 use aig_command::{Given, RunFault};
 use aig_files::{Exit, Kept, Part, Terminal, Unwritten, output, read_whole};
-use aig_shell::{FileText, Keep, Reason, Unkept, run_shell};
+use aig_shell::{FileText, Keep, Opening, Reason, Unkept, run_shell};
 use std::fs::Files;
 use std::io::{ErrorKind, Read};
 use std::os::fd::AsFd;
@@ -127,14 +127,11 @@ where
     };
     let mut lines = Std::new(terminal.runtime().reader());
     let mut out = output(terminal);
-    let done = run_shell(
-        terminal.alloc(),
+    let opening = Opening {
         circuit,
         given,
-        terminal.has_person(),
-        &mut files,
-        &mut lines,
-        &mut out,
-    );
+        has_prompt: terminal.has_person(),
+    };
+    let done = run_shell(terminal.alloc(), opening, &mut files, &mut lines, &mut out);
     ended(done, &mut out, RunFault::Shell)
 }

@@ -9,7 +9,7 @@ use crate::ended::ended;
 use crate::given_file::{read_given_file, text_of_given};
 use aig_command::{Given, RunFault};
 use aig_files::{Exit, Part, output, read_whole};
-use aig_why::Span;
+use aig_why::{Asked, Span};
 use std::io::Read;
 
 /// Writes why the literals that a name means have their values in the run that is given; without a name, those of the
@@ -28,8 +28,12 @@ pub fn why<R: AllocGlobal + Print, F: Read + Drop>(
     let given = read_given_file(rt.alloc(), given)?;
     let file = circuit.as_slice();
     let run = text_of_given(&given);
+    let asked = Asked {
+        name: bytes_of(name),
+        span,
+    };
     let mut out = output(rt);
-    let done = aig_why::why(rt.alloc(), file, run, bytes_of(name), span, &mut out);
+    let done = aig_why::why(rt.alloc(), file, run, asked, &mut out);
     ended(done, &mut out, RunFault::Output)
 }
 

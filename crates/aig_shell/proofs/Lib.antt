@@ -1,29 +1,7 @@
-mod Allowed
-mod Answering
-mod Asking
-mod Checking
-mod Columns
-mod Commands
-mod Differences
-mod Differing
-mod Dumps
-mod Entries
-mod Explained
-mod FirstRuns
-mod Impossible
-mod Kept
-mod Leading
-mod Lines
-mod Literals
-mod Meanings
-mod OneCell
-mod Reaching
-mod Results
-mod Saved
-mod Sessions
-mod Shells
-mod Shown
-mod Spans
-mod Starting
-mod Talks
-mod Zips
+pub mod editing
+pub mod explained
+pub mod lines
+pub mod reached
+pub mod saved
+pub mod tables
+pub mod words

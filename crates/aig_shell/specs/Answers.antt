@@ -24,7 +24,7 @@ use Rattle.aig_shell.specs.Request.{IsNoRequest}
 use Rattle.aig_shell.specs.Standing.{IsStanding, standing_text}
 use Rattle.aig_shell.specs.State.{SessionState, circuit_of}
 use Rattle.aig_shell.specs.Tables.{IsShown, IsDifference}
-use Rattle.aig_shell.specs.declared.check.Standing.{Standing}
+use Rattle.aig_shell.specs.declared.answers.check.Standing.{Standing}
 
 -- ---- frames that are shown where none are named
 

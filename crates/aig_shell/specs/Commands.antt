@@ -1,17 +1,17 @@
 -- What a command asks for, and the words of its line (our own choice).
 use Rattle.std.specs.Prelude.{◌≡◌, ◌≢◌, ℕ, List, map, codes, option_map, Result, Ok, Err}
-use Rattle.aig_shell.specs.declared.command.Command.{Command}
-use Rattle.aig_shell.specs.declared.command.Command.TheVariants as commands
-use Rattle.aig_shell.specs.declared.command.Edit.{Edit}
-use Rattle.aig_shell.specs.declared.command.Edit.TheVariants as edits
-use Rattle.aig_shell.specs.declared.command.Export.{Export}
-use Rattle.aig_shell.specs.declared.command.Export.TheVariants as exports
-use Rattle.aig_shell.specs.declared.command.Query.{Query}
-use Rattle.aig_shell.specs.declared.command.Query.TheVariants as queries
+use Rattle.aig_shell.specs.declared.request.command.Command.{Command}
+use Rattle.aig_shell.specs.declared.request.command.Command.TheVariants as commands
+use Rattle.aig_shell.specs.declared.request.command.Edit.{Edit}
+use Rattle.aig_shell.specs.declared.request.command.Edit.TheVariants as edits
+use Rattle.aig_shell.specs.declared.request.command.Export.{Export}
+use Rattle.aig_shell.specs.declared.request.command.Export.TheVariants as exports
+use Rattle.aig_shell.specs.declared.request.command.Query.{Query}
+use Rattle.aig_shell.specs.declared.request.command.Query.TheVariants as queries
 use Rattle.aig_shell.specs.declared.refusal.Refusal.{Refusal}
 use Rattle.aig_shell.specs.declared.refusal.Refusal.TheVariants as refusals
-use Rattle.aig_shell.specs.declared.topic.Topic.{Topic}
-use Rattle.aig_shell.specs.declared.topic.Topic.TheVariants as topics
+use Rattle.aig_shell.specs.declared.request.topic.Topic.{Topic}
+use Rattle.aig_shell.specs.declared.request.topic.Topic.TheVariants as topics
 use Rattle.aig_shell.specs.Ends.{asks_why}
 use Rattle.aig_shell.specs.Request as request
 use Rattle.aig_shell.specs.Request.{Request, IsRequest, IsNoRequest, request_words}

@@ -6,8 +6,8 @@ use Rattle.aig_signals.specs.Lookup.{signal_literals}
 use Rattle.aig_signals.specs.declared.signal.Signal.{Signal}
 use Rattle.aig_shell.specs.Session.{IsFirst}
 use Rattle.aig_shell.specs.Tables.{Differs, IsDifference, IsSignalCell}
-use Rattle.aig_shell.specs.declared.diff.Cells.{Cells}
-use Rattle.aig_shell.specs.declared.diff.Literals.{Literals}
+use Rattle.aig_shell.specs.declared.answers.diff.Cells.{Cells}
+use Rattle.aig_shell.specs.declared.answers.diff.Literals.{Literals}
 use Rattle.aig_shell.specs.declared.session.Session.{Session}
 
 -- the literals are those of the signal, now and in the run that was read

@@ -16,9 +16,9 @@ use Rattle.aig_command.specs.Given.{IsGiven, ReadRun, RefusesGiven}
 use Rattle.aig_command.specs.declared.given.Given.{Given}
 use Rattle.aig_command.specs.declared.run_fault.RunFault.{RunFault}
 use Rattle.aig_command.specs.declared.run_fault.RunFault.TheVariants as run_faults
-use Rattle.aig_shell.specs.declared.conversation.Conversation.{Conversation}
-use Rattle.aig_shell.specs.declared.conversation.Next.{Next}
-use Rattle.aig_shell.specs.declared.conversation.Next.TheVariants as next
+use Rattle.aig_shell.specs.declared.talk.conversation.Conversation.{Conversation}
+use Rattle.aig_shell.specs.declared.talk.conversation.Next.{Next}
+use Rattle.aig_shell.specs.declared.talk.conversation.Next.TheVariants as next
 use Rattle.aig_shell.specs.declared.session.Session.{Session}
 use Rattle.aig_shell.specs.declared.refusal.Refusal.{Refusal}
 use Rattle.aig_shell.specs.declared.refusal.Refusal.TheVariants as refusals

@@ -6,6 +6,7 @@ pub mod Edits
 pub mod Ends
 pub mod Explained
 pub mod Files
+pub mod Pieces
 pub mod Request
 pub mod Session
 pub mod Standing

@@ -16,8 +16,8 @@ use Rattle.aig_bench.specs.BenchState.{CircuitAndRows, HasValue}
 use Rattle.aig_signals.specs.Names.{literals_of}
 use Rattle.aig_values.specs.InputRows.{HaveWidth}
 use Rattle.aig_why.specs.Why.{run_of}
-use Rattle.aig_shell.specs.declared.run_kept.FirstRun.{FirstRun}
-use Rattle.aig_shell.specs.declared.run_kept.KeptRun.{KeptRun}
+use Rattle.aig_shell.specs.declared.session.run_kept.FirstRun.{FirstRun}
+use Rattle.aig_shell.specs.declared.session.run_kept.KeptRun.{KeptRun}
 use Rattle.aig_shell.specs.declared.session.Session.{Session}
 use Rattle.aig_shell.specs.State.{SessionState}
 

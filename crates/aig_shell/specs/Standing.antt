@@ -8,8 +8,8 @@ use Rattle.aig_base.specs.Value.{start_of}
 use Rattle.aig_bench.specs.BenchState.{CircuitAndRows, HasValue}
 use Rattle.aig_sim.specs.Reached.{IsFirstReached, ReachesNone}
 use Rattle.aig_sim.specs.Verdict.{StartsWrong}
-use Rattle.aig_shell.specs.declared.check.Standing.{Standing}
-use Rattle.aig_shell.specs.declared.check.Standing.TheVariants.{Reached, NoRun, Unknown, Never}
+use Rattle.aig_shell.specs.declared.answers.check.Standing.{Standing}
+use Rattle.aig_shell.specs.declared.answers.check.Standing.TheVariants.{Reached, NoRun, Unknown, Never}
 
 -- the literal has the value at this frame, and at none before
 pub record IsFirstAt (p : CircuitAndRows) (l : ℕ) (w : Tern) (t : ℕ) : Type 0 where

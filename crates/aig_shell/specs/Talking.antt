@@ -3,9 +3,9 @@
 use Rattle.std.specs.Prelude.{◌≡◌, ◌≢◌, ◌⊎◌, ◌<◌, ℕ, Bool, true, false, if◌then◌else◌, List, [], ◌∷◌, ◌++◌, Option}
 use Rattle.std.specs.Prelude.{Result, Ok, Err, IfOk}
 use Rattle.aig_bytes.specs.Bytes.{after, IsBeginning, Writes}
-use Rattle.aig_shell.specs.declared.conversation.Conversation.{Conversation}
-use Rattle.aig_shell.specs.declared.conversation.Next.{Next}
-use Rattle.aig_shell.specs.declared.conversation.Next.TheVariants as next
+use Rattle.aig_shell.specs.declared.talk.conversation.Conversation.{Conversation}
+use Rattle.aig_shell.specs.declared.talk.conversation.Next.{Next}
+use Rattle.aig_shell.specs.declared.talk.conversation.Next.TheVariants as next
 use Rattle.aig_shell.specs.declared.talk.Line.{Line}
 use Rattle.aig_shell.specs.declared.talk.Talker.{Talker}
 use Rattle.aig_shell.specs.Conversation.{IsPiece, Answered, Converses, IsAt, AnswersLine, IsGreeting, Talk, ends_after}

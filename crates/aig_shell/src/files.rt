@@ -11,16 +11,19 @@ ghost use Rattle.aig_shell.specs.Files.{IsAsked, after_keeping};
 ghost use Rattle.aig_shell.specs.Request as request;
 ghost use Rattle.aig_shell.specs.Session.{IsSession, own_circuit};
 
-use crate::keeper::{FileText, Keep, Unkept};
+pub(crate) mod keeper;
+mod text;
+
+use crate::files::keeper::{FileText, Keep, Unkept};
+use crate::files::text::Text;
+use crate::pieces::{Piece, push_pieces};
 use crate::refusal::Refusal;
-use crate::run_kept::KeptRun;
 use crate::session::Session;
-use crate::written::{Text, push_number};
+use crate::session::run_kept::KeptRun;
 use aig_base::{Kind, MemReader, Memory};
 use aig_format::write_ascii_with;
 use aig_names::push_position;
 use aig_sim::{Reached, dump, first_states, write_stimulus, write_witness};
-use std::alloc::Global;
 
 /// Gives texts to the files, and says of which none was written.
 fn keep<'a, K: Keep>(files: &mut K, texts: &[FileText<'a, '_>]) -> Result<(), Refusal<'a>>
@@ -44,29 +47,33 @@ fn keep<'a, K: Keep>(files: &mut K, texts: &[FileText<'a, '_>]) -> Result<(), Re
 
 /// Adds that a file of rows does not say how the latches start.
 fn push_no_start(text: &mut Vec<u8>, stimulus: &[u8]) -> Result<(), Memory> {
-    text.extend_from_slice(stimulus)?;
-    text.extend_from_slice(b" has no start of latches; witness FILE has\n")?;
-    Ok(())
+    let line = [
+        Piece::Text(stimulus),
+        Piece::Text(b" has no start of latches; witness FILE has\n"),
+    ];
+    push_pieces(text, &line)
 }
 
 /// Adds which property a witness reaches at which frame.
 fn push_reached(text: &mut Vec<u8>, reached: Reached, file: &[u8]) -> Result<(), Memory> {
     push_position(text, Kind::Bad, reached.property)?;
-    text.extend_from_slice(b" at ")?;
-    push_number(text, u64::from(reached.frame))?;
-    text.extend_from_slice(b": ")?;
-    text.extend_from_slice(file)?;
-    text.push(b'\n')?;
-    Ok(())
+    let rest = [
+        Piece::Text(b" at "),
+        Piece::Number(u64::from(reached.frame)),
+        Piece::Text(b": "),
+        Piece::Text(file),
+        Piece::Text(b"\n"),
+    ];
+    push_pieces(text, &rest)
 }
 
 impl Session {
     /// The text of the circuit as it is now, with the resets of the file.
-    fn saved_circuit(&self, alloc: Global) -> Result<Vec<u8>, Memory>
+    fn saved_circuit(&self) -> Result<Vec<u8>, Memory>
         requires session { IsSession self.now }
         ensures { IfOk result (λ text. text.items ≡ short_ascii (own_circuit self.now)) }
     {
-        let mut out = Text::new(alloc);
+        let mut out = Text::new(self.alloc);
         match write_ascii_with(self.circuit(), self.run.latches.as_slice(), &mut out) {
             Ok(()) => Ok(out.into_bytes()),
             Err(_) => Err(Memory),
@@ -74,11 +81,11 @@ impl Session {
     }
 
     /// The text of the rows.
-    fn saved_rows(&self, alloc: Global) -> Result<Vec<u8>, Memory>
+    fn saved_rows(&self) -> Result<Vec<u8>, Memory>
         ensures { IfOk result (λ text. SpellsRows (length self.now.run.bench.pair.circuit.inputs) text.items
             self.now.run.bench.pair.rows) }
     {
-        let mut out = Text::new(alloc);
+        let mut out = Text::new(self.alloc);
         match write_stimulus(&mut out, self.bench().stimulus()) {
             Ok(()) => Ok(out.into_bytes()),
             Err(_) => Err(Memory),
@@ -88,7 +95,6 @@ impl Session {
     /// Writes the circuit alone.
     fn save_circuit<'a, K: Keep>(
         &mut self,
-        alloc: Global,
         files: &mut K,
         name: &'a [u8],
     ) -> Result<(), Refusal<'a>>
@@ -97,7 +103,7 @@ impl Session {
         ensures files { EndsFiles self.old (request.save name.now None) result [] (K.calls files.old)
             (K.calls files.new) self.new }
     {
-        let circuit = self.saved_circuit(alloc)?;
+        let circuit = self.saved_circuit()?;
         keep(
             files,
             &[FileText {
@@ -113,7 +119,6 @@ impl Session {
     /// before the files: a line that is refused has written nothing.
     fn save_both<'a, K: Keep>(
         &mut self,
-        alloc: Global,
         files: &mut K,
         text: &mut Vec<u8>,
         name: &'a [u8],
@@ -124,8 +129,8 @@ impl Session {
         ensures files { EndsFiles self.old (request.save name.now (Some stimulus.now)) result text.new.items
             (K.calls files.old) (K.calls files.new) self.new }
     {
-        let circuit = self.saved_circuit(alloc)?;
-        let rows = self.saved_rows(alloc)?;
+        let circuit = self.saved_circuit()?;
+        let rows = self.saved_rows()?;
         let texts = [
             FileText {
                 name,
@@ -142,7 +147,7 @@ impl Session {
             self.has_edited_circuit = false;
             return Ok(());
         }
-        let run = KeptRun::of(alloc, self.bench())?;
+        let run = KeptRun::of(self.alloc, self.bench())?;
         keep(files, &texts)?;
         self.has_edited_circuit = false;
         self.kept = run;
@@ -152,7 +157,6 @@ impl Session {
     /// Writes the circuit, and the rows where a file is named for them.
     pub(crate) fn save<'a, K: Keep>(
         &mut self,
-        alloc: Global,
         files: &mut K,
         text: &mut Vec<u8>,
         circuit: &'a [u8],
@@ -165,19 +169,19 @@ impl Session {
             text.new.items (K.calls files.old) (K.calls files.new) self.new }
     {
         match stimulus {
-            Some(stimulus) => self.save_both(alloc, files, text, circuit, stimulus),
-            None => self.save_circuit(alloc, files, circuit),
+            Some(stimulus) => self.save_both(files, text, circuit, stimulus),
+            None => self.save_circuit(files, circuit),
         }
     }
 
     /// The text of the witness of a property that is reached.
-    fn witness_text(&self, alloc: Global, reached: Reached) -> Result<Vec<u8>, Memory>
+    fn witness_text(&self, reached: Reached) -> Result<Vec<u8>, Memory>
         requires { reached.frame < length self.now.run.bench.pair.rows }
         ensures { IfOk result (λ text. text.items ≡ witness_text (decimal reached.property)
             (start_of self.now.run.bench.pair.circuit) (take (reached.frame + 1) self.now.run.bench.pair.rows)) }
     {
-        let start = first_states(alloc, self.circuit())?;
-        let mut out = Text::new(alloc);
+        let start = first_states(self.alloc, self.circuit())?;
+        let mut out = Text::new(self.alloc);
         let written = write_witness(
             &mut out,
             reached.property,
@@ -192,11 +196,7 @@ impl Session {
     }
 
     /// The property that is asked for, where a word names one.
-    fn asked<'a>(
-        &self,
-        alloc: Global,
-        property: Option<&'a [u8]>,
-    ) -> Result<Option<u32>, Refusal<'a>>
+    fn asked<'a>(&self, property: Option<&'a [u8]>) -> Result<Option<u32>, Refusal<'a>>
         requires session { IsSession self.now }
         ensures asked { IfOk result (IsAsked self.now.run.bench.pair.circuit (option_map (λ w. w.now) property.entry)) }
         ensures within { IfOk result (λ asked. IfSome asked (λ k. k < length self.now.run.bench.pair.circuit.bad)) }
@@ -204,7 +204,7 @@ impl Session {
             IsAsked self.now.run.bench.pair.circuit (option_map (λ w. w.now) property.entry) asked → ⊥) }
     {
         match property {
-            Some(word) => Ok(Some(self.property(alloc, word)?)),
+            Some(word) => Ok(Some(self.property(word)?)),
             None => Ok(None),
         }
     }
@@ -212,7 +212,6 @@ impl Session {
     /// Writes the run up to a property as a witness: up to the one that is named, or to the first.
     pub(crate) fn witness<'a, K: Keep>(
         &mut self,
-        alloc: Global,
         files: &mut K,
         text: &mut Vec<u8>,
         name: &'a [u8],
@@ -224,11 +223,11 @@ impl Session {
         ensures files { EndsFiles self.old (request.witness name.now (option_map (λ w. w.now) property.entry)) result
             text.new.items (K.calls files.old) (K.calls files.new) self.new }
     {
-        let asked = self.asked(alloc, property)?;
-        let reached = self.reached(alloc, asked)?;
+        let asked = self.asked(property)?;
+        let reached = self.reached(asked)?;
         push_reached(text, reached, name)?;
-        let witness = self.witness_text(alloc, reached)?;
-        let run = KeptRun::of(alloc, self.bench())?;
+        let witness = self.witness_text(reached)?;
+        let run = KeptRun::of(self.alloc, self.bench())?;
         keep(
             files,
             &[FileText {
@@ -241,32 +240,27 @@ impl Session {
     }
 
     /// The dump of the run.
-    fn wave_text(&self, alloc: Global) -> Result<Vec<u8>, Memory>
+    fn wave_text(&self) -> Result<Vec<u8>, Memory>
         requires { IsSession self.now }
         ensures { IfOk result (λ text. IsDump (own_circuit self.now) (start_of self.now.run.bench.pair.circuit)
             self.now.run.bench.pair.rows text.items) }
     {
-        let rows = self.saved_rows(alloc)?;
+        let rows = self.saved_rows()?;
         let mut reader = MemReader::new(rows.as_slice());
-        let mut out = Text::new(alloc);
-        match dump(alloc, self.circuit(), &mut reader, &mut out) {
+        let mut out = Text::new(self.alloc);
+        match dump(self.alloc, self.circuit(), &mut reader, &mut out) {
             Ok(_frames) => Ok(out.into_bytes()),
             Err(_) => Err(Memory),
         }
     }
 
     /// Writes the run as a dump.
-    pub(crate) fn wave<'a, K: Keep>(
-        &self,
-        alloc: Global,
-        files: &mut K,
-        name: &'a [u8],
-    ) -> Result<(), Refusal<'a>>
+    pub(crate) fn wave<'a, K: Keep>(&self, files: &mut K, name: &'a [u8]) -> Result<(), Refusal<'a>>
         requires session { IsSession self.now }
         ensures files { EndsFiles self.now (request.wave name.now) result [] (K.calls files.old) (K.calls files.new)
             self.now }
     {
-        let text = self.wave_text(alloc)?;
+        let text = self.wave_text()?;
         keep(
             files,
             &[FileText {

@@ -2,28 +2,14 @@
 //! a reader, and files are written by what the caller gives.
 #![tactic(auto)]
 
-mod check;
-mod command;
-mod conversation;
-mod diff;
-mod edits;
-mod explain;
+mod answers;
 mod files;
-mod frames;
-mod gate;
-mod help;
-mod keeper;
-mod names;
+mod pieces;
 mod refusal;
-mod refused;
-mod requests;
-mod run_kept;
+mod request;
 mod session;
 mod shell;
-mod show;
 mod talk;
-mod topic;
-mod written;
 
-pub use keeper::{FileText, Keep, Reason, Unkept};
-pub use shell::run_shell;
+pub use files::keeper::{FileText, Keep, Reason, Unkept};
+pub use shell::{Opening, run_shell};

@@ -1,13 +1,15 @@
 //! Why a line does nothing.
 
-use crate::keeper::Reason;
-use crate::topic::Topic;
+pub(crate) mod words;
+
+use crate::files::keeper::Reason;
+use crate::request::topic::Topic;
 use aig_base::{Memory, Tern};
 use aig_bench::EditFault;
 use std::alloc::{AllocError, AllocFailed};
 
 /// What a name has to be that of.
-#[derive(Clone, Copy, PartialEq, Eq, Debug, Drop)]
+#[derive(Clone, Copy, Drop)]
 pub(crate) enum Wanted {
     Input,
     Latch,

@@ -14,8 +14,13 @@ ghost use Rattle.aig_shell.specs.Standing.{StartsRight};
 ghost use Rattle.aig_shell.specs.Conversation.{RefusesRows};
 ghost use Rattle.aig_shell.specs.Session.{BeginsAt, IsIn, IsSession, KeepsRun, first_state, own_circuit};
 
+pub(crate) mod edits;
+pub(crate) mod frames;
+pub(crate) mod requests;
+pub(crate) mod run_kept;
+
 use crate::refusal::{Refusal, Wanted};
-use crate::run_kept::{FirstRun, KeptRun};
+use crate::session::run_kept::{FirstRun, KeptRun};
 use aig_base::{Circuit, Definition, Latch, List, Lit, Memory, Tern};
 use aig_bench::{Bench, BenchFault};
 use aig_command::RunFault;
@@ -25,8 +30,8 @@ use aig_why::Run;
 use std::alloc::Global;
 
 /// A circuit with a start and rows, as they are now, and what is known of them.
-#[derive(Drop)]
 pub(crate) struct Session {
+    pub(crate) alloc: Global,
     /// The bench, whose circuit starts by its resets as the run does; and the latches with the resets of the file.
     pub(crate) run: Run<PlaneGrid>,
     /// The signals of the circuit.
@@ -37,6 +42,20 @@ pub(crate) struct Session {
     pub(crate) kept: KeptRun,
     /// Whether a gate or an output was edited since the circuit was read or written.
     pub(crate) has_edited_circuit: bool,
+}
+
+// By hand: a value then ends in one call, which is one step of a proof (docs/PROOFS.md, Habits).
+impl Drop for Session {
+    fn drop(self) {
+        let Session {
+            alloc: _,
+            run: _,
+            signals: _,
+            first: _,
+            kept: _,
+            has_edited_circuit: _,
+        } = self;
+    }
 }
 
 /// A word without a `!` in front.
@@ -152,6 +171,7 @@ impl Session {
         let first = FirstRun::of(alloc, &run.bench)?;
         let kept = KeptRun::of(alloc, &run.bench)?;
         Ok(Session {
+            alloc,
             run,
             signals,
             first,
@@ -205,11 +225,7 @@ impl Session {
     }
 
     /// The literals that a word means, from bit 0 up.
-    pub(crate) fn literals<'a>(
-        &self,
-        alloc: Global,
-        word: &'a [u8],
-    ) -> Result<List<Lit>, Refusal<'a>>
+    pub(crate) fn literals<'a>(&self, word: &'a [u8]) -> Result<List<Lit>, Refusal<'a>>
         requires session { IsSession self.now }
         ensures ok { IfOk result (Means self.now.run.bench.pair.circuit word.now) }
         ensures range { IfOk result (All (λ l. variable l ≤ self.now.run.bench.pair.circuit.max_var)) }
@@ -217,7 +233,7 @@ impl Session {
         ensures err { IfErr result (λ refusal. refusal ≢ Refusal.Memory →
             Unknown self.now.run.bench.pair.circuit word.now) }
     {
-        let found = look_up(alloc, self.circuit(), self.signals.as_slice(), word)?;
+        let found = look_up(self.alloc, self.circuit(), self.signals.as_slice(), word)?;
         match found {
             Some(literals) => Ok(literals),
             None => Err(self.unknown(word)),
@@ -225,13 +241,13 @@ impl Session {
     }
 
     /// The literal that a word means.
-    pub(crate) fn literal<'a>(&self, alloc: Global, word: &'a [u8]) -> Result<Lit, Refusal<'a>>
+    pub(crate) fn literal<'a>(&self, word: &'a [u8]) -> Result<Lit, Refusal<'a>>
         requires session { IsSession self.now }
         ensures ok { IfOk result (λ literal. Means self.now.run.bench.pair.circuit word.now (alone literal)) }
         ensures err { IfErr result (λ refusal. refusal ≢ Refusal.Memory → (literal : ℕ) →
             Means self.now.run.bench.pair.circuit word.now (alone literal) → ⊥) }
     {
-        let literals = self.literals(alloc, word)?;
+        let literals = self.literals(word)?;
         // Its contract says that it is a circuit.
         self.circuit().facts();
         match literals.as_slice() {
@@ -244,16 +260,16 @@ impl Session {
     }
 
     /// The positions of the inputs that a word means, from bit 0 up.
-    pub(crate) fn inputs<'a>(&self, alloc: Global, word: &'a [u8]) -> Result<Vec<u32>, Refusal<'a>>
+    pub(crate) fn inputs<'a>(&self, word: &'a [u8]) -> Result<Vec<u32>, Refusal<'a>>
         requires session { IsSession self.now }
         ensures ok { IfOk result (λ positions. MeansInputs self.now.run.bench.pair.circuit word.now positions.items) }
         ensures err { IfErr result (λ refusal. refusal ≢ Refusal.Memory → (positions : List ℕ) →
             MeansInputs self.now.run.bench.pair.circuit word.now positions → ⊥) }
     {
-        let literals = self.literals(alloc, word)?;
+        let literals = self.literals(word)?;
         // Its contract says that it is a circuit.
         self.circuit().facts();
-        let found = positions_of(alloc, self.circuit(), literals.as_slice())?;
+        let found = positions_of(self.alloc, self.circuit(), literals.as_slice())?;
         let Some(positions) = found else {
             return Err(Refusal::No {
                 word,
@@ -264,17 +280,13 @@ impl Session {
     }
 
     /// The literals of the latches that a word means, from bit 0 up.
-    pub(crate) fn latches<'a>(
-        &self,
-        alloc: Global,
-        word: &'a [u8],
-    ) -> Result<List<Lit>, Refusal<'a>>
+    pub(crate) fn latches<'a>(&self, word: &'a [u8]) -> Result<List<Lit>, Refusal<'a>>
         requires session { IsSession self.now }
         ensures ok { IfOk result (MeansLatches self.now.run.bench.pair.circuit word.now) }
         ensures err { IfErr result (λ refusal. refusal ≢ Refusal.Memory → (latches : List ℕ) →
             MeansLatches self.now.run.bench.pair.circuit word.now latches → ⊥) }
     {
-        let literals = self.literals(alloc, word)?;
+        let literals = self.literals(word)?;
         // Its contract says that it is a circuit.
         self.circuit().facts();
         if !are_latches(self.circuit(), literals.as_slice()) {

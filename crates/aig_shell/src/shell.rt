@@ -1,16 +1,24 @@
 //! The command `shell`.
-ghost use Rattle.std.specs.Prelude.{◌≡◌, IfErr, IfOk};
+ghost use Rattle.std.specs.Prelude.{IfErr, IfOk};
 ghost use Rattle.aig_bytes.specs.Flow.{flow};
 ghost use Rattle.aig_command.specs.Given.{given_text};
 ghost use Rattle.aig_shell.specs.Conversation.{EndsShell, OpensSession, RefusesFiles};
 
-use crate::conversation::Conversation;
-use crate::keeper::Keep;
+use crate::files::keeper::Keep;
 use crate::session::Session;
 use crate::talk::Talker;
+use crate::talk::conversation::Conversation;
 use aig_base::{Io, Read, Write};
 use aig_command::{Given, GivenRun, RunFault, read_circuit, read_given};
 use std::alloc::Global;
+
+/// What a session begins with: a circuit's file and the run that is given with it. A person sees a prompt.
+#[derive(Clone, Copy)]
+pub struct Opening<'a> {
+    pub circuit: &'a [u8],
+    pub given: Given<&'a [u8]>,
+    pub has_prompt: bool,
+}
 
 /// The session of the files.
 fn open_session(alloc: Global, file: &[u8], given: Given<&[u8]>) -> Result<Session, RunFault>
@@ -30,9 +38,7 @@ fn open_session(alloc: Global, file: &[u8], given: Given<&[u8]>) -> Result<Sessi
 /// lines edit. It flushes the writer before it reads on.
 pub fn run_shell<K: Keep, R: Read, W: Write>(
     alloc: Global,
-    circuit: &[u8],
-    given: Given<&[u8]>,
-    has_prompt: bool,
+    opening: Opening<'_>,
     files: &mut K,
     reader: &mut R,
     out: &mut W,
@@ -43,12 +49,12 @@ pub fn run_shell<K: Keep, R: Read, W: Write>(
       calls = K.calls;
       files = files.old;
       files_after = files.new;
-    }) has_prompt circuit.now (given_text given.entry) result }
+    }) opening.entry.has_prompt opening.entry.circuit.now (given_text opening.entry.given) result }
 {
-    let session = open_session(alloc, circuit, given)?;
-    let conversation = Conversation::new(alloc, session);
-    let mut talker = Talker::new(alloc, conversation, has_prompt);
-    match talker.run(alloc, files, reader, out) {
+    let session = open_session(alloc, opening.circuit, opening.given)?;
+    let conversation = Conversation::new(session);
+    let mut talker = Talker::new(conversation, opening.has_prompt);
+    match talker.run(files, reader, out) {
         Ok(()) => Ok(()),
         Err(Io) => Err(RunFault::Shell),
     }

@@ -9,10 +9,12 @@ ghost use Rattle.aig_shell.specs.State.{SessionState};
 ghost use Rattle.aig_shell.specs.Talking.{EndsInput, Feeds, Finishes, HoldsLine, Moment, Replies, Stands, moment};
 ghost use Rattle.aig_shell.specs.Talking.{newline};
 
-use crate::conversation::{Conversation, Next};
-use crate::keeper::Keep;
+pub(crate) mod conversation;
+
+use crate::files::keeper::Keep;
+use crate::pieces::{Piece, push_pieces};
 use crate::session::Session;
-use crate::written::push_number;
+use crate::talk::conversation::{Conversation, Next};
 use aig_base::{Circuit, Io, Memory, Read, Write, line_length, write_all};
 use std::alloc::Global;
 
@@ -66,7 +68,6 @@ impl Conversation {
     /// Answers a line.
     fn answer<K: Keep, W: Write>(
         &mut self,
-        alloc: Global,
         files: &mut K,
         line: &[u8],
         out: &mut W,
@@ -76,7 +77,7 @@ impl Conversation {
             (moment W.written W.failures K.calls out.new files.new) result self.new }
         ensures session { IsSession self.new.session }
     {
-        match self.make_answer(alloc, files, line) {
+        match self.make_answer(files, line) {
             Ok(next) => {
                 write_all(out, self.text.as_slice())?;
                 Ok(next)
@@ -105,17 +106,19 @@ impl Conversation {
 /// Adds the first line that a person sees.
 fn push_greeting(text: &mut Vec<u8>, session: &Session) -> Result<(), Memory> {
     let circuit: &Circuit = session.circuit();
-    push_number(text, u64::from(session.bench().frames()))?;
-    text.extend_from_slice(b" frames, ")?;
-    push_number(text, circuit.inputs().len() as u64)?;
-    text.extend_from_slice(b" inputs, ")?;
-    push_number(text, circuit.latches().len() as u64)?;
-    text.extend_from_slice(b" latches, ")?;
-    push_number(text, circuit.gates().len() as u64)?;
-    text.extend_from_slice(b" gates, ")?;
-    push_number(text, circuit.bad().len() as u64)?;
-    text.extend_from_slice(b" properties; try help\n")?;
-    Ok(())
+    let line = [
+        Piece::Number(u64::from(session.bench().frames())),
+        Piece::Text(b" frames, "),
+        Piece::Number(circuit.inputs().len() as u64),
+        Piece::Text(b" inputs, "),
+        Piece::Number(circuit.latches().len() as u64),
+        Piece::Text(b" latches, "),
+        Piece::Number(circuit.gates().len() as u64),
+        Piece::Text(b" gates, "),
+        Piece::Number(circuit.bad().len() as u64),
+        Piece::Text(b" properties; try help\n"),
+    ];
+    push_pieces(text, &line)
 }
 
 /// A conversation with the line that is being read.
@@ -129,14 +132,15 @@ pub(crate) struct Talker {
 
 impl Talker {
     /// Before the first line.
-    pub(crate) fn new(alloc: Global, conversation: Conversation, has_prompt: bool) -> Talker
+    pub(crate) fn new(conversation: Conversation, has_prompt: bool) -> Talker
         ensures conversation { result.conversation ≡ conversation }
         ensures line { HoldsLine [] result.line }
         ensures prompt { result.has_prompt ≡ has_prompt }
     {
+        let line = Line::new(conversation.session.alloc);
         Talker {
             conversation,
-            line: Line::new(alloc),
+            line,
             has_prompt,
         }
     }
@@ -152,14 +156,14 @@ impl Talker {
     }
 
     /// Writes the first line and the first prompt, where a person sees them.
-    fn begin<W: Write>(&self, alloc: Global, out: &mut W) -> Result<(), Io>
+    fn begin<W: Write>(&self, out: &mut W) -> Result<(), Io>
         ensures { (text : List ℕ) × IsGreeting self.now.has_prompt text
             × Writes W.written W.failures out.old out.new text result }
     {
         if !self.has_prompt {
             return Ok(());
         }
-        let mut text = Vec::new(alloc);
+        let mut text = Vec::new(self.conversation.session.alloc);
         // Without memory there is no first line.
         if push_greeting(&mut text, &self.conversation.session).is_err() {
             text.clear();
@@ -171,7 +175,6 @@ impl Talker {
     /// Answers the line that ends with these bytes, and begins the next.
     fn end_line<K: Keep, W: Write>(
         &mut self,
-        alloc: Global,
         files: &mut K,
         piece: &[u8],
         out: &mut W,
@@ -187,22 +190,21 @@ impl Talker {
         ensures prompt { self.new.has_prompt ≡ self.old.has_prompt }
     {
         if self.line.is_empty() {
-            return self.conversation.answer(alloc, files, piece, out);
+            return self.conversation.answer(files, piece, out);
         }
         self.line.extend(piece);
-        let Line { bytes, is_cut } = std::mem::replace(&mut self.line, Line::new(alloc));
+        let next = Line::new(self.conversation.session.alloc);
+        let Line { bytes, is_cut } = std::mem::replace(&mut self.line, next);
         if is_cut {
             write_all(out, NO_MEMORY)?;
             return Ok(Next::GoesOn);
         }
-        self.conversation
-            .answer(alloc, files, bytes.as_slice(), out)
+        self.conversation.answer(files, bytes.as_slice(), out)
     }
 
     /// Answers each line that these bytes end.
     fn feed<K: Keep, W: Write>(
         &mut self,
-        alloc: Global,
         files: &mut K,
         bytes: &[u8],
         out: &mut W,
@@ -221,7 +223,7 @@ impl Talker {
                 self.line.extend(rest);
                 return Ok(Next::GoesOn);
             }
-            match self.end_line(alloc, files, &rest[..size], out)? {
+            match self.end_line(files, &rest[..size], out)? {
                 Next::Ends => return Ok(Next::Ends),
                 Next::GoesOn => self.write_prompt(out)?,
             }
@@ -240,12 +242,7 @@ impl Talker {
     }
 
     /// Answers a last line without an LF, if there is one.
-    fn end_last_line<K: Keep, W: Write>(
-        &mut self,
-        alloc: Global,
-        files: &mut K,
-        out: &mut W,
-    ) -> Result<Next, Io>
+    fn end_last_line<K: Keep, W: Write>(&mut self, files: &mut K, out: &mut W) -> Result<Next, Io>
         requires session { IsSession self.old.conversation.session }
         ensures { (start : Moment) (person : Bool) (s : SessionState) (input : List ℕ)
             → Stands start (moment W.written W.failures K.calls out.old files.old) person s input self.old
@@ -254,22 +251,17 @@ impl Talker {
         if self.line.is_empty() {
             return Ok(Next::GoesOn);
         }
-        self.end_line(alloc, files, b"", out)
+        self.end_line(files, b"", out)
     }
 
     /// Answers a last line without an LF, and says what is unsaved.
-    fn end<K: Keep, W: Write>(
-        &mut self,
-        alloc: Global,
-        files: &mut K,
-        out: &mut W,
-    ) -> Result<(), Io>
+    fn end<K: Keep, W: Write>(&mut self, files: &mut K, out: &mut W) -> Result<(), Io>
         requires session { IsSession self.old.conversation.session }
         ensures { (start : Moment) (person : Bool) (s : SessionState) (input : List ℕ)
             → Stands start (moment W.written W.failures K.calls out.old files.old) person s input self.old
             → EndsInput start (moment W.written W.failures K.calls out.new files.new) person s input result }
     {
-        match self.end_last_line(alloc, files, out)? {
+        match self.end_last_line(files, out)? {
             Next::Ends => Ok(()),
             Next::GoesOn => {
                 self.write_newline(out)?;
@@ -281,7 +273,6 @@ impl Talker {
     /// Reads lines to their end, or to a `quit`, and answers each. It flushes the answers before it reads on.
     pub(crate) fn run<K: Keep, R: Read, W: Write>(
         &mut self,
-        alloc: Global,
         files: &mut K,
         reader: &mut R,
         out: &mut W,
@@ -304,15 +295,15 @@ impl Talker {
               files_after = files.new;
             }) self.old.has_prompt s) }
     {
-        self.begin(alloc, out)?;
+        self.begin(out)?;
         let mut buffer = [0u8; 4096];
         loop {
             out.flush()?;
             let size = reader.read(&mut buffer)?;
             if size == 0 {
-                return self.end(alloc, files, out);
+                return self.end(files, out);
             }
-            match self.feed(alloc, files, &buffer[..size], out)? {
+            match self.feed(files, &buffer[..size], out)? {
                 Next::Ends => return Ok(()),
                 Next::GoesOn => {}
             }

@@ -16,10 +16,10 @@ ghost use Rattle.aig_why.specs.Named.{IsNamingOf, NamesNothing};
 use crate::lines::text_of;
 use crate::question::Question;
 use crate::run::{Frames, Run};
-use aig_base::{Circuit, Io, Tern, Write, write_all};
+use aig_base::{Circuit, Io, Write, write_all};
 use aig_command::{Given, GivenRun, RunFault, WhyFault, read_circuit, read_given};
 use aig_signals::Naming;
-use aig_sim::{PlaneGrid, Stimulus};
+use aig_sim::PlaneGrid;
 use std::alloc::Global;
 
 /// Which frames are explained: one of them, the last where none is named, and so many frames before it, all where no
@@ -51,11 +51,19 @@ impl Span {
     }
 }
 
+/// What is asked of a run: why the literals that a name means are what they are, or without a name why its property is
+/// reached, and at which frames.
+#[derive(Clone, Copy)]
+pub struct Asked<'a> {
+    pub name: Option<&'a [u8]>,
+    pub span: Span,
+}
+
 /// The lines that explain what is asked for in a run.
 fn explain_run(
     alloc: Global,
     run: &Run<PlaneGrid>,
-    naming: &mut Naming,
+    naming: Naming,
     question: Option<&Question>,
     span: Span,
 ) -> Result<Vec<u8>, RunFault>
@@ -65,12 +73,12 @@ fn explain_run(
     requires defined { IfSome (option_copied question)
         (λ q. All (λ l. IsDefined run.now.bench.pair.circuit (variable l)) q.literals) }
     requires size { length run.now.latches.items ≡ length run.now.bench.pair.circuit.latches }
-    requires none { NamesNothing run.now.bench.pair.circuit naming.old }
-    requires of { (raw : Raw) × IsNamingOf raw run.now.bench.pair naming.old }
-    ensures text { (raw : Raw) → IsNamingOf raw run.now.bench.pair naming.old → raw.latches ≡ run.now.latches.items →
+    requires none { NamesNothing run.now.bench.pair.circuit naming }
+    requires of { (raw : Raw) × IsNamingOf raw run.now.bench.pair naming }
+    ensures text { (raw : Raw) → IsNamingOf raw run.now.bench.pair naming → raw.latches ≡ run.now.latches.items →
         (property : Option ℕ) (name : Option (List ℕ)) → IsAskedAs raw name property (option_copied question.entry) →
         IfOk result (λ text. ExplainsRun raw (run_of run.now.bench.pair) property name span text.items) }
-    ensures fault { (raw : Raw) → IsNamingOf raw run.now.bench.pair naming.old →
+    ensures fault { (raw : Raw) → IsNamingOf raw run.now.bench.pair naming →
         (property : Option ℕ) (name : Option (List ℕ)) → IsAskedAs raw name property (option_copied question.entry) →
         IfErr result (RefusesRun raw (run_of run.now.bench.pair) property name span) }
 {
@@ -83,30 +91,35 @@ fn explain_run(
     Ok(text_of(alloc, run, naming, question, frames)?)
 }
 
-/// The lines that explain what is asked for in the run of a circuit from a start over some rows.
+/// The lines that explain what is asked for in a run that was read with its circuit.
 fn explain(
     alloc: Global,
     circuit: Circuit,
-    start: &[Tern],
-    rows: Stimulus,
+    given: GivenRun,
     question: Option<&Question>,
     span: Span,
 ) -> Result<Vec<u8>, RunFault>
-    requires start { length start.now ≡ length circuit.latches }
-    requires width { rows.width ≡ length circuit.inputs }
+    requires start { length given.start.items ≡ length circuit.latches }
+    requires width { given.rows.width ≡ length circuit.inputs }
     requires range { IfSome (option_copied question) (λ q. All (λ l. variable l ≤ circuit.max_var) q.literals) }
     requires defined { IfSome (option_copied question) (λ q. All (λ l. IsDefined circuit (variable l)) q.literals) }
     ensures text { (property : Option ℕ) (name : Option (List ℕ))
         → IsAskedAs circuit name property (option_copied question.entry) →
-        IfOk result (λ text. ExplainsRun circuit (record { start = start.now; rows = rows.rows }) property name span
-        text.items) }
+        IfOk result (λ text. ExplainsRun circuit (record { start = given.start.items; rows = given.rows.rows }) property
+        name span text.items) }
     ensures fault { (property : Option ℕ) (name : Option (List ℕ))
         → IsAskedAs circuit name property (option_copied question.entry) →
-        IfErr result (RefusesRun circuit (record { start = start.now; rows = rows.rows }) property name span) }
+        IfErr result (RefusesRun circuit (record { start = given.start.items; rows = given.rows.rows }) property name
+        span) }
 {
-    let mut naming = Naming::new(alloc, &circuit)?;
-    let run = Run::new(alloc, circuit, start, rows)?;
-    explain_run(alloc, &run, &mut naming, question, span)
+    let GivenRun {
+        property: _,
+        start,
+        rows,
+    } = given;
+    let naming = Naming::new(alloc, &circuit)?;
+    let run = Run::new(alloc, circuit, &start, rows)?;
+    explain_run(alloc, &run, naming, question, span)
 }
 
 /// The lines for the run that is given with a circuit.
@@ -114,21 +127,16 @@ fn explain_given(
     alloc: Global,
     circuit: Circuit,
     given: Given<&[u8]>,
-    name: Option<&[u8]>,
-    span: Span,
+    asked: Asked<'_>,
 ) -> Result<Vec<u8>, RunFault>
-    ensures text { IfOk result (λ text. WritesWhy (given_text given.entry) (option_copied name.entry) span circuit
-        (Ok tt) text.items) }
-    ensures fault { IfErr result (λ fault. WritesWhy (given_text given.entry) (option_copied name.entry) span circuit
-        (Err fault) []) }
+    ensures text { IfOk result (λ text. WritesWhy (given_text given.entry) (option_copied asked.entry.name)
+        asked.entry.span circuit (Ok tt) text.items) }
+    ensures fault { IfErr result (λ fault. WritesWhy (given_text given.entry) (option_copied asked.entry.name)
+        asked.entry.span circuit (Err fault) []) }
 {
-    let GivenRun {
-        property,
-        start,
-        rows,
-    } = read_given(alloc, &circuit, given)?;
-    let question = Question::new(alloc, &circuit, name, property)?;
-    explain(alloc, circuit, &start, rows, question.as_ref(), span)
+    let given = read_given(alloc, &circuit, given)?;
+    let question = Question::new(alloc, &circuit, asked.name, given.property)?;
+    explain(alloc, circuit, given, question.as_ref(), asked.span)
 }
 
 /// Writes what was explained.
@@ -149,14 +157,14 @@ pub fn why<W: Write>(
     alloc: Global,
     circuit: &[u8],
     given: Given<&[u8]>,
-    name: Option<&[u8]>,
-    span: Span,
+    asked: Asked<'_>,
     out: &mut W,
 ) -> Result<(), RunFault>
     ensures ends { CommandEnds (flow W.written W.failures out.old out.new) RunFault.Output
-        (OfFile circuit.now (WritesWhy (given_text given.entry) (option_copied name.entry) span)) result }
+        (OfFile circuit.now (WritesWhy (given_text given.entry) (option_copied asked.entry.name) asked.entry.span))
+        result }
 {
     let circuit = read_circuit(alloc, circuit)?;
-    let text = explain_given(alloc, circuit, given, name, span)?;
+    let text = explain_given(alloc, circuit, given, asked)?;
     write_text(&text, out)
 }

@@ -7,7 +7,7 @@ mod lines;
 mod question;
 mod run;
 
-pub use command::{Span, why};
+pub use command::{Asked, Span, why};
 pub use lines::text_of;
 pub use question::Question;
 pub use run::{Frames, Run};

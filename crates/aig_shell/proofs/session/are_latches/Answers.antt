@@ -1,5 +1,5 @@
 use Rattle.std.proofs.Common.{arith}
-use Rattle.aig_shell.proofs.Zips.{latches_more, no_latches, latches_all}
+use Rattle.aig_shell.proofs.words.Zips.{latches_more, no_latches, latches_all}
 use Rattle.aig_shell.proofs.session.are_latches.Goals as goal
 
 pub returns-then-not-is_latch : goal.returns-then-not-is_latch

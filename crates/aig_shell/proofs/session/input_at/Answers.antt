@@ -1,4 +1,4 @@
-use Rattle.aig_shell.proofs.Literals.{no_input_other, no_input_odd, input_here}
+use Rattle.aig_shell.proofs.words.Literals.{no_input_other, no_input_odd, input_here}
 use Rattle.aig_shell.proofs.session.input_at.Goals as goal
 
 pub returns-then-is_neg-clause-none : goal.returns-then-is_neg-clause-none

@@ -1,4 +1,4 @@
-use Rattle.aig_shell.proofs.Literals.{latch_other, latch_here}
+use Rattle.aig_shell.proofs.words.Literals.{latch_other, latch_here}
 use Rattle.aig_shell.proofs.session.is_latch.Goals as goal
 
 pub returns-in-Some-Latch : goal.returns-in-Some-Latch

@@ -1,6 +1,6 @@
 use Rattle.std.proofs.Common.{◌+◌, take, sym, subst}
 use Rattle.aig_shell.specs.Edits.{ArePositions}
-use Rattle.aig_shell.proofs.Zips.{positions_more, no_positions}
+use Rattle.aig_shell.proofs.words.Zips.{positions_more, no_positions}
 use Rattle.aig_shell.proofs.session.positions_of.Goals as goal
 
 pub returns-in-None-clause-none : goal.returns-in-None-clause-none

@@ -1,8 +1,8 @@
 use Rattle.std.proofs.Common.{inl, inr, sym, ◌∙◌}
 use Rattle.std.proofs.lemmas.Bool.{cases_Bool, false≢true}
 use Rattle.aig_base.specs.Value.{reset_value}
-use Rattle.aig_shell.proofs.FirstRuns.{is_value, no_value, other_value, same_value}
-use Rattle.aig_shell.proofs.Reaching.{allows_all, forbids_other}
+use Rattle.aig_shell.proofs.tables.FirstRuns.{is_value, no_value, other_value, same_value}
+use Rattle.aig_shell.proofs.reached.Reaching.{allows_all, forbids_other}
 use Rattle.aig_shell.proofs.session.starts_elsewhere.Goals as goal
 
 pub returns-then-eq : goal.returns-then-eq

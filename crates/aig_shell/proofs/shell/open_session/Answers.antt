@@ -1,7 +1,7 @@
 use Rattle.std.proofs.Common.{ap, length, ◌∙◌}
 use Rattle.aig_command.proofs.GivenRuns.{given_start}
 use Rattle.aig_command.specs.Given.{given_text, read_run}
-use Rattle.aig_shell.proofs.Shells.{begins_session, opens, refuses}
+use Rattle.aig_shell.proofs.lines.Shells.{begins_session, opens, refuses}
 use Rattle.aig_shell.proofs.shell.open_session.Goals as goal
 
 pub new-requires-clause-start : goal.new-requires-clause-start

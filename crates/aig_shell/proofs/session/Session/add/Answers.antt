@@ -1,8 +1,8 @@
 use Rattle.std.proofs.Common.{length, ap, refl, ◌∙◌}
 use Rattle.std.specs.Prelude.{option_map}
 use Rattle.aig_bench.specs.BenchState.{BenchState}
-use Rattle.aig_shell.proofs.Impossible.{no_add, no_room}
-use Rattle.aig_shell.proofs.Sessions.{session_kept}
+use Rattle.aig_shell.proofs.editing.Impossible.{no_add, no_room}
+use Rattle.aig_shell.proofs.editing.Sessions.{session_kept}
 use Rattle.aig_shell.proofs.session.Session.add.Goals as goal
 
 pub returns-then-not-fits-clause-edits : goal.returns-then-not-fits-clause-edits

@@ -1,5 +1,5 @@
 use Rattle.std.proofs.Common.{option_map}
-use Rattle.aig_shell.proofs.Answering.{help_answered, query_is}
+use Rattle.aig_shell.proofs.lines.Answering.{help_answered, query_is}
 use Rattle.aig_shell.proofs.session.Session.ask.Goals as goal
 
 pub returns-in-Help : goal.returns-in-Help

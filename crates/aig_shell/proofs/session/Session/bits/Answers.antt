@@ -1,7 +1,7 @@
 use Rattle.std.proofs.Common.{sym, subst}
 use Rattle.aig_parts.specs.Literal.{variable}
 use Rattle.aig_base.specs.Sections.{IsDefined}
-use Rattle.aig_shell.proofs.Shown.{bits_more}
+use Rattle.aig_shell.proofs.tables.Shown.{bits_more}
 use Rattle.aig_shell.proofs.session.Session.bits.Goals as goal
 
 pub value-requires-clause-defined : goal.value-requires-clause-defined

@@ -1,7 +1,7 @@
 use Rattle.std.proofs.Common.{length, sym, ap, ◌∙◌, subst, arith}
 use Rattle.aig_bench.specs.BenchState.{BenchState}
 use Rattle.aig_shell.specs.Standing.{HoldBefore, IsBroken}
-use Rattle.aig_shell.proofs.Reaching.{hold_more}
+use Rattle.aig_shell.proofs.reached.Reaching.{hold_more}
 use Rattle.aig_shell.proofs.session.Session.broken.Goals as goal
 
 pub returns-in-Some-clause-some : goal.returns-in-Some-clause-some

@@ -7,7 +7,7 @@ use Rattle.aig_bench.specs.BenchState.{HasValue}
 use Rattle.aig_sim.proofs.VerdictLemmas.{constraint_defined}
 use Rattle.aig_values.proofs.Evaluation.{items_more}
 use Rattle.aig_base.proofs.lists.Items.{item_at}
-use Rattle.aig_shell.proofs.FirstRuns.{other_value, same_value}
+use Rattle.aig_shell.proofs.tables.FirstRuns.{other_value, same_value}
 use Rattle.aig_shell.proofs.session.Session.broken_at.Goals as goal
 
 pub value-found-requires-clause-defined : goal.value-found-requires-clause-defined

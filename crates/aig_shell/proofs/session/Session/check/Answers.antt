@@ -1,4 +1,4 @@
-use Rattle.aig_shell.proofs.Checking.{checked, finished, grown}
+use Rattle.aig_shell.proofs.reached.Checking.{checked, finished, grown}
 use Rattle.aig_shell.proofs.session.Session.check.Goals as goal
 
 pub returns : goal.returns

@@ -1,5 +1,5 @@
 use Rattle.std.proofs.Common.{◌-◌, ◌+◌, arith}
-use Rattle.aig_shell.proofs.Differing.{none_found, none_outside, one_inside, some_found}
+use Rattle.aig_shell.proofs.tables.Differing.{none_found, none_outside, one_inside, some_found}
 use Rattle.aig_shell.proofs.session.Session.differing_frames.Goals as goal
 
 pub returns-in_default-clause-outside : goal.returns-in_default-clause-outside

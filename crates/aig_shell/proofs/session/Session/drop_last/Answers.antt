@@ -1,7 +1,7 @@
 use Rattle.std.proofs.Common.{◌<◌, length, refl, arith, ap}
 use Rattle.std.specs.Prelude.{option_map}
 use Rattle.aig_bench.specs.BenchState.{BenchState}
-use Rattle.aig_shell.proofs.Impossible.{no_drop}
+use Rattle.aig_shell.proofs.editing.Impossible.{no_drop}
 use Rattle.aig_shell.proofs.session.Session.drop_last.Goals as goal
 
 pub returns-then-count-frames-clause-edits : goal.returns-then-count-frames-clause-edits

@@ -1,5 +1,5 @@
-use Rattle.aig_shell.proofs.Answering.{edit_is, set_ends, start_ends, add_ends, drop_ends, rewire_ends, append_ends}
-use Rattle.aig_shell.proofs.Answering.{out_ends}
+use Rattle.aig_shell.proofs.lines.Answering.{edit_is, set_ends, start_ends, add_ends, drop_ends, rewire_ends, append_ends}
+use Rattle.aig_shell.proofs.lines.Answering.{out_ends}
 use Rattle.aig_shell.proofs.session.Session.edit.Goals as goal
 
 pub returns-in-Set-clause-change : goal.returns-in-Set-clause-change

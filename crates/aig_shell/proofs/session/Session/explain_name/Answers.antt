@@ -5,7 +5,7 @@ use Rattle.aig_why.specs.Why.{run_of}
 use Rattle.aig_shell.specs.Explained.{Explains}
 use Rattle.aig_shell.specs.Request.{why}
 use Rattle.aig_shell.specs.Session.{own_circuit}
-use Rattle.aig_shell.proofs.Asking.{name_answered, no_frame, no_name, query_err, query_memory}
+use Rattle.aig_shell.proofs.explained.Asking.{name_answered, no_frame, no_name, query_err, query_memory}
 use Rattle.aig_shell.proofs.session.Session.explain_name.Goals as goal
 
 pub returns-in_err-literals : goal.returns-in_err-literals

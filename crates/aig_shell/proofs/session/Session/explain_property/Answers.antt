@@ -3,7 +3,7 @@ use Rattle.aig_parts.specs.Literal.{variable}
 use Rattle.aig_parts.specs.declared.raw.Raw.{Raw}
 use Rattle.aig_base.specs.Sections.{IsDefined}
 use Rattle.aig_shell.specs.Request.{why_first}
-use Rattle.aig_shell.proofs.Asking.{none_reached, property_answered, query_err, query_memory}
+use Rattle.aig_shell.proofs.explained.Asking.{none_reached, property_answered, query_err, query_memory}
 use Rattle.aig_shell.proofs.session.Session.explain_property.Goals as goal
 
 pub returns-in_err-reached : goal.returns-in_err-reached

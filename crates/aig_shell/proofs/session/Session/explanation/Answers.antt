@@ -1,7 +1,7 @@
 use Rattle.std.proofs.Common.{refl}
 use Rattle.aig_shell.specs.Session.{own_circuit}
-use Rattle.aig_shell.proofs.Asking.{names_nothing, names_own}
-use Rattle.aig_shell.proofs.Saved.{own_size}
+use Rattle.aig_shell.proofs.explained.Asking.{names_nothing, names_own}
+use Rattle.aig_shell.proofs.saved.Saved.{own_size}
 use Rattle.aig_shell.proofs.session.Session.explanation.Goals as goal
 
 pub text_of-requires-clause-size : goal.text_of-requires-clause-size

@@ -1,4 +1,4 @@
-use Rattle.aig_shell.proofs.Answering.{wave_is}
+use Rattle.aig_shell.proofs.lines.Answering.{wave_is}
 use Rattle.aig_shell.proofs.session.Session.export.Goals as goal
 
 pub returns-in-Wave-clause-files : goal.returns-in-Wave-clause-files

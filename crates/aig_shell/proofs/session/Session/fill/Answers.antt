@@ -2,7 +2,7 @@ use Rattle.std.proofs.Common.{All, sym, subst, ◌∙◌}
 use Rattle.aig_parts.specs.Literal.{variable}
 use Rattle.aig_base.specs.Sections.{IsDefined}
 use Rattle.aig_shell.specs.Tables.{IsCellOrDot}
-use Rattle.aig_shell.proofs.Differences.{signal_known}
+use Rattle.aig_shell.proofs.tables.Differences.{signal_known}
 use Rattle.aig_shell.proofs.session.Session.fill.Goals as goal
 
 pub fill_now-requires : goal.fill_now-requires

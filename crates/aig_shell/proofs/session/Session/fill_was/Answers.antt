@@ -1,7 +1,7 @@
 use Rattle.std.proofs.Common.{◌≡◌, ◌<◌, ◌≤◌, ◌++◌, List, ℕ, Option, length, ap, subst, ◌∙◌}
 use Rattle.aig_parts.specs.declared.ternary.Tern.{Tern}
 use Rattle.aig_signals.specs.Value.{table_text}
-use Rattle.aig_shell.proofs.Differences.{cell_there, cell_past}
+use Rattle.aig_shell.proofs.tables.Differences.{cell_there, cell_past}
 use Rattle.aig_shell.proofs.session.Session.fill_was.Goals as goal
 
 pub returns-then-frame-count : goal.returns-then-frame-count

@@ -4,7 +4,7 @@ use Rattle.aig_base.specs.Value.{start_of}
 use Rattle.aig_base.proofs.values.UniqueValue.{unique}
 use Rattle.aig_bench.specs.BenchState.{BenchState, HasValue}
 use Rattle.aig_sim.proofs.VerdictLemmas.{right_more}
-use Rattle.aig_shell.proofs.FirstRuns.{is_value, no_value}
+use Rattle.aig_shell.proofs.tables.FirstRuns.{is_value, no_value}
 use Rattle.aig_shell.proofs.session.Session.first_at.Goals as goal
 
 pub loop-frame-preserved : goal.loop-frame-preserved

@@ -1,7 +1,7 @@
 use Rattle.std.proofs.Common.{sym, subst}
 use Rattle.aig_parts.specs.Literal.{variable}
 use Rattle.aig_base.specs.Sections.{IsDefined}
-use Rattle.aig_shell.proofs.Differences.{first_more}
+use Rattle.aig_shell.proofs.tables.Differences.{first_more}
 use Rattle.aig_shell.proofs.session.Session.first_bits.Goals as goal
 
 pub loop-literal-preserved : goal.loop-literal-preserved

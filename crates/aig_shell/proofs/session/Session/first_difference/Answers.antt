@@ -1,6 +1,6 @@
 use Rattle.std.proofs.Common.{arith, subst}
 use Rattle.aig_base.specs.Circuit.{IsCircuit}
-use Rattle.aig_shell.proofs.OneCell.{texts_same, texts_differ, same_more}
+use Rattle.aig_shell.proofs.tables.OneCell.{texts_same, texts_differ, same_more}
 use Rattle.aig_shell.proofs.session.Session.first_difference.Goals as goal
 
 pub loop-frame-init : goal.loop-frame-init

@@ -1,8 +1,8 @@
 use Rattle.std.proofs.Common.{sym, subst, ◌+◌, ◌∙◌, arith}
 use Rattle.aig_signals.specs.Signals.{signals_of}
-use Rattle.aig_shell.proofs.Differences.{signal_within}
-use Rattle.aig_shell.proofs.Differing.{IsLeast, end_less, end_same, least_differs, least_none, least_same, least_some}
-use Rattle.aig_shell.proofs.Differing.{none_found, some_found}
+use Rattle.aig_shell.proofs.tables.Differences.{signal_within}
+use Rattle.aig_shell.proofs.tables.Differing.{IsLeast, end_less, end_same, least_differs, least_none, least_same, least_some}
+use Rattle.aig_shell.proofs.tables.Differing.{none_found, some_found}
 use Rattle.aig_shell.proofs.session.Session.first_frame.Goals.{in-Some, in_default}
 use Rattle.aig_shell.proofs.session.Session.first_frame.Goals as goal
 

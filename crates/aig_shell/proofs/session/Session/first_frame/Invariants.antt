@@ -1,6 +1,6 @@
 use Rattle.aig_bench.specs.BenchState.{CircuitAndRows}
 use Rattle.aig_shell.specs.Session.{IsFirst}
-use Rattle.aig_shell.proofs.Differing.{IsEndSoFar, IsLeast}
+use Rattle.aig_shell.proofs.tables.Differing.{IsEndSoFar, IsLeast}
 use Rattle.aig_shell.proofs.session.Session.first_frame.Given as goal
 
 abbrev pub invariant-loop-signal : goal.invariant-loop-signal

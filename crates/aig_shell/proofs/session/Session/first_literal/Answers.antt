@@ -1,4 +1,4 @@
-use Rattle.aig_shell.proofs.Differences.{output_some, output_none, other_literal}
+use Rattle.aig_shell.proofs.tables.Differences.{output_some, output_none, other_literal}
 use Rattle.aig_shell.proofs.session.Session.first_literal.Goals as goal
 
 pub returns-in-Some : goal.returns-in-Some

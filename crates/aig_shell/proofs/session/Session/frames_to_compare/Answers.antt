@@ -1,7 +1,7 @@
 use Rattle.std.proofs.Common.{◌≡◌, ◌+◌, ◌-◌, ℕ, List, Option, Bor, option_map, ap, subst}
 use Rattle.aig_shell.specs.Answers.{DiffersFrames}
 use Rattle.aig_shell.specs.Edits.{AreFrames}
-use Rattle.aig_shell.proofs.Shown.{handed_on}
+use Rattle.aig_shell.proofs.tables.Shown.{handed_on}
 use Rattle.aig_shell.proofs.session.Session.frames_to_compare.Goals as goal
 
 pub returns-in_err-named-in-Some-clause-err : goal.returns-in_err-named-in-Some-clause-err

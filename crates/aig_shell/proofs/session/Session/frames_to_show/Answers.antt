@@ -1,5 +1,5 @@
 use Rattle.std.proofs.Common.{ℕ, List, Bor, length, option_map, ap}
-use Rattle.aig_shell.proofs.Shown.{frames_refused}
+use Rattle.aig_shell.proofs.tables.Shown.{frames_refused}
 use Rattle.aig_shell.proofs.session.Session.frames_to_show.Goals as goal
 
 pub returns-in-Some-clause-err : goal.returns-in-Some-clause-err

@@ -1,4 +1,4 @@
-use Rattle.aig_shell.proofs.Answering.{gate_answered, gate_refused, query_lacking}
+use Rattle.aig_shell.proofs.lines.Answering.{gate_answered, gate_refused, query_lacking}
 use Rattle.aig_shell.specs.Request as request
 use Rattle.aig_shell.proofs.session.Session.gate.Goals as goal
 

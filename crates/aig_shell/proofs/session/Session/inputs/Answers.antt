@@ -1,6 +1,6 @@
 use Rattle.std.proofs.Common.{subst}
 use Rattle.aig_base.specs.Circuit.{IsCircuit}
-use Rattle.aig_shell.proofs.Impossible.{inputs_refused}
+use Rattle.aig_shell.proofs.editing.Impossible.{inputs_refused}
 use Rattle.aig_shell.proofs.session.Session.inputs.Goals as goal
 
 pub returns-in_default-clause-err : goal.returns-in_default-clause-err

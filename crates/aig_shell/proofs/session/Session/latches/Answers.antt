@@ -1,6 +1,6 @@
 use Rattle.std.proofs.Common.{subst}
 use Rattle.aig_base.specs.Circuit.{IsCircuit}
-use Rattle.aig_shell.proofs.Impossible.{latches_refused, latches_found}
+use Rattle.aig_shell.proofs.editing.Impossible.{latches_refused, latches_found}
 use Rattle.aig_shell.proofs.session.Session.latches.Goals as goal
 
 pub returns-then-not-are_latches-clause-err : goal.returns-then-not-are_latches-clause-err

@@ -3,7 +3,7 @@ use Rattle.aig_parts.specs.Literal.{variable}
 use Rattle.aig_base.specs.Circuit.{IsCircuit}
 use Rattle.aig_base.specs.Sections.{IsDefined}
 use Rattle.aig_signals.proofs.Defined.{meant_known}
-use Rattle.aig_shell.proofs.Shown.{handed_on, no_row}
+use Rattle.aig_shell.proofs.tables.Shown.{handed_on, no_row}
 use Rattle.aig_shell.proofs.session.Session.named_row.Goals as goal
 
 pub row-requires-clause-defined : goal.row-requires-clause-defined

@@ -4,10 +4,10 @@ use Rattle.aig_bytes.proofs.Results.{known_err}
 use Rattle.aig_parts.specs.declared.latch.Latch.{Latch}
 use Rattle.aig_base.specs.Sound.{IsReset}
 use Rattle.aig_base.specs.Resets.{IsSameLatch}
-use Rattle.aig_shell.proofs.Kept.{alike_signals}
+use Rattle.aig_shell.proofs.editing.Kept.{alike_signals}
 use Rattle.aig_command.specs.declared.run_fault.RunFault.TheVariants as run_faults
 use Rattle.aig_shell.specs.Conversation.{RefusesRows}
-use Rattle.aig_shell.proofs.Shells.{rows_refused}
+use Rattle.aig_shell.proofs.lines.Shells.{rows_refused}
 use Rattle.aig_shell.proofs.session.Session.new.Goals as goal
 
 pub returns-clause-session : goal.returns-clause-session

@@ -2,10 +2,10 @@ use Rattle.std.proofs.Common.{refl, rules, subst}
 use Rattle.aig_base.specs.Circuit.{IsCircuit}
 use Rattle.aig_bench.specs.Edit.{append_gate}
 use Rattle.aig_shell.specs.Request.{append}
-use Rattle.aig_shell.proofs.Impossible.{no_side0, no_side1, no_append, append_done}
-use Rattle.aig_shell.proofs.Leading.{leads_one}
-use Rattle.aig_shell.proofs.Results.{ends_err, ends_fault}
-use Rattle.aig_shell.proofs.Sessions.{session_kept}
+use Rattle.aig_shell.proofs.editing.Impossible.{no_side0, no_side1, no_append, append_done}
+use Rattle.aig_shell.proofs.editing.Leading.{leads_one}
+use Rattle.aig_shell.proofs.editing.Results.{ends_err, ends_fault}
+use Rattle.aig_shell.proofs.editing.Sessions.{session_kept}
 use Rattle.aig_shell.proofs.session.Session.new_gate.Goals as goal
 
 pub returns-in_err-side0-clause-edits : goal.returns-in_err-side0-clause-edits

@@ -8,7 +8,7 @@ use Rattle.aig_sim.specs.Verdict.{StartsWrong}
 use Rattle.aig_sim.proofs.VerdictLemmas.{no_latch_after, right_more}
 use Rattle.aig_base.proofs.lists.Items.{item_at}
 use Rattle.aig_shell.specs.Session.{own_circuit}
-use Rattle.aig_shell.proofs.Starting.{own_over, own_reset, right_start, same_size, wrong_start}
+use Rattle.aig_shell.proofs.reached.Starting.{own_over, own_reset, right_start, same_size, wrong_start}
 use Rattle.aig_shell.proofs.session.Session.other_start.Goals as goal
 
 pub starts_elsewhere-requires-clause-literal : goal.starts_elsewhere-requires-clause-literal

@@ -1,8 +1,8 @@
-use Rattle.aig_shell.proofs.Checking.{grown}
+use Rattle.std.proofs.lemmas.Result.{on_ok_weaker}
+use Rattle.aig_shell.proofs.reached.Checking.{grown}
 use Rattle.aig_shell.proofs.session.Session.push_broken.Goals as goal
 
 pub returns : goal.returns
 returns c =
-    grown _ _ _ (grown _ _ _ (grown _ _ _ (grown _ _ _ (grown _ _ _ (_, c.in_ok-push_first_name.ensures)
-    (_, c.in_ok-extend_from_slice.ensures.items)) (_, c.in_ok-push.ensures.items)) (_, c.in_ok-extend_from_slice-2.ensures.items))
-    (_, c.in_ok-push_number.ensures)) (_, c.in_ok-push-2.ensures.items)
+    on_ok_weaker c.push_pieces.result (λ more. grown _ _ _ (_, c.in_ok-push_first_name.ensures) (_, more))
+    c.push_pieces.ensures

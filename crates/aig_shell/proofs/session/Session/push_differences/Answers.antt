@@ -2,9 +2,9 @@ use Rattle.std.proofs.Common.{codes, inl, refl, sym, ap, subst, ◌+◌, ◌-◌
 use Rattle.std.specs.Prelude.{◌==◌}
 use Rattle.aig_prompt.specs.Table.{row_of}
 use Rattle.aig_prompt.specs.declared.table.Table.{Table}
-use Rattle.aig_shell.proofs.Differences.{signal_within}
-use Rattle.aig_shell.proofs.Differing.{AreRowsBefore, difference_shown, is_none, is_one, no_row, rows_begin}
-use Rattle.aig_shell.proofs.Differing.{rows_differ, rows_end, rows_same, some_found, some_row}
+use Rattle.aig_shell.proofs.tables.Differences.{signal_within}
+use Rattle.aig_shell.proofs.tables.Differing.{AreRowsBefore, difference_shown, is_none, is_one, no_row, rows_begin}
+use Rattle.aig_shell.proofs.tables.Differing.{rows_differ, rows_end, rows_same, some_found, some_row}
 use Rattle.aig_shell.proofs.session.Session.push_differences.Goals.{then-is_some+in_ok-above+in_ok-push+in_ok-push-2}
 use Rattle.aig_shell.proofs.session.Session.push_differences.Goals.{else-is_some}
 use Rattle.aig_shell.proofs.session.Session.push_differences.Goals as goal

@@ -1,7 +1,7 @@
 use Rattle.std.proofs.Common.{◌≡◌, ◌-◌}
 use Rattle.aig_bench.specs.BenchState.{CircuitAndRows}
 use Rattle.aig_shell.specs.Session.{IsFirst}
-use Rattle.aig_shell.proofs.Differing.{AreRowsBefore}
+use Rattle.aig_shell.proofs.tables.Differing.{AreRowsBefore}
 use Rattle.aig_shell.proofs.session.Session.push_differences.Given as goal
 
 abbrev pub invariant-loop-signal : goal.invariant-loop-signal

@@ -3,7 +3,7 @@ use Rattle.std.specs.Prelude.{◌==◌, count_by}
 use Rattle.std.proofs.lemmas.Result.{IfOk-weaker}
 use Rattle.aig_why.specs.Why.{run_of}
 use Rattle.aig_shell.specs.Session.{own_circuit}
-use Rattle.aig_shell.proofs.Explained.{explains_lines}
+use Rattle.aig_shell.proofs.explained.Explained.{explains_lines}
 use Rattle.aig_shell.proofs.session.Session.push_explanation.Goals as goal
 use Rattle.aig_shell.proofs.session.Session.push_explanation.Goals.{then-frames-eq0-via-then-frames-eq0}
 use Rattle.aig_shell.proofs.session.Session.push_explanation.Goals.{then-frames-eq0-via-else-frames-eq0+then-count}

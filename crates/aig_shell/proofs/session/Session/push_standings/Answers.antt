@@ -6,8 +6,8 @@ use Rattle.aig_shell.specs.Answers.{AreStandings, property_name, standings_text}
 use Rattle.aig_shell.specs.Session.{own_circuit}
 use Rattle.aig_shell.specs.Standing.{IsStanding, standing_text}
 use Rattle.aig_base.proofs.lists.Items.{item_at}
-use Rattle.aig_shell.proofs.Checking.{line_added, line_of, no_text, none_yet, standings_more, standings_push}
-use Rattle.aig_shell.proofs.Checking.{standings_size}
+use Rattle.aig_shell.proofs.reached.Checking.{line_added, line_of, no_text, none_yet, standings_more, standings_push}
+use Rattle.aig_shell.proofs.reached.Checking.{standings_size}
 use Rattle.aig_shell.proofs.session.Session.push_standings.Goals as goal
 
 pub standing-standing-requires-clause-literal : goal.standing-standing-requires-clause-literal

@@ -1,5 +1,5 @@
 use Rattle.std.proofs.Common.{◌≡◌, List, ◌++◌, take}
-use Rattle.aig_shell.specs.declared.check.Standing.{Standing}
+use Rattle.aig_shell.specs.declared.answers.check.Standing.{Standing}
 use Rattle.aig_shell.specs.Answers.{AreStandings, standings_text}
 use Rattle.aig_shell.specs.Session.{own_circuit}
 use Rattle.aig_shell.proofs.session.Session.push_standings.Given as goal

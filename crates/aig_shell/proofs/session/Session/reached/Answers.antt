@@ -3,8 +3,8 @@ use Rattle.aig_base.specs.Value.{start_of}
 use Rattle.aig_bench.specs.BenchState.{BenchState}
 use Rattle.aig_sim.proofs.ReachedLemmas.{reaches_none}
 use Rattle.aig_shell.specs.Session.{own_circuit}
-use Rattle.aig_shell.proofs.Reaching.{found_first, found_none}
-use Rattle.aig_shell.proofs.Starting.{own_resets}
+use Rattle.aig_shell.proofs.reached.Reaching.{found_first, found_none}
+use Rattle.aig_shell.proofs.reached.Starting.{own_resets}
 use Rattle.aig_shell.proofs.session.Session.reached.Goals as goal
 
 pub returns-in-Some-clause-err : goal.returns-in-Some-clause-err

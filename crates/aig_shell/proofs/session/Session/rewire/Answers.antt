@@ -2,10 +2,10 @@ use Rattle.std.proofs.Common.{refl, subst}
 use Rattle.aig_base.specs.Circuit.{IsCircuit}
 use Rattle.aig_bench.specs.Edit as edit
 use Rattle.aig_shell.specs.Request.{rewire}
-use Rattle.aig_shell.proofs.Impossible.{no_gate, no_gate0, no_gate1, no_rewire, rewire_done}
-use Rattle.aig_shell.proofs.Leading.{leads_one}
-use Rattle.aig_shell.proofs.Results.{ends_err, ends_fault}
-use Rattle.aig_shell.proofs.Sessions.{session_kept}
+use Rattle.aig_shell.proofs.editing.Impossible.{no_gate, no_gate0, no_gate1, no_rewire, rewire_done}
+use Rattle.aig_shell.proofs.editing.Leading.{leads_one}
+use Rattle.aig_shell.proofs.editing.Results.{ends_err, ends_fault}
+use Rattle.aig_shell.proofs.editing.Sessions.{session_kept}
 use Rattle.aig_shell.proofs.session.Session.rewire.Goals as goal
 
 pub returns-in_err-literal-clause-edits : goal.returns-in_err-literal-clause-edits

@@ -1,5 +1,5 @@
 use Rattle.aig_shell.specs.Tables.{IsCell}
-use Rattle.aig_shell.proofs.Shown.{cells_more}
+use Rattle.aig_shell.proofs.tables.Shown.{cells_more}
 use Rattle.aig_shell.proofs.session.Session.row.Goals as goal
 
 pub loop-frame-preserved : goal.loop-frame-preserved

@@ -1,7 +1,7 @@
 use Rattle.std.proofs.Common.{[], ◌∷◌, Some, sym, ◌∙◌}
 use Rattle.std.proofs.lemmas.Bool.{false≢true}
 use Rattle.aig_shell.specs.Request.{save}
-use Rattle.aig_shell.proofs.Saved.{files_kept, files_refused, rows_saved, whole_saved}
+use Rattle.aig_shell.proofs.saved.Saved.{files_kept, files_refused, rows_saved, whole_saved}
 use Rattle.aig_shell.proofs.session.Session.save_both.Goals as goal
 
 pub returns-in_err-keep-clause-files : goal.returns-in_err-keep-clause-files

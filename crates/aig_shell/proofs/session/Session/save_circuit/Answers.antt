@@ -1,6 +1,6 @@
 use Rattle.std.proofs.Common.{[], None, ◌∙◌}
 use Rattle.aig_shell.specs.Request.{save}
-use Rattle.aig_shell.proofs.Saved.{circuit_saved, files_kept, files_refused}
+use Rattle.aig_shell.proofs.saved.Saved.{circuit_saved, files_kept, files_refused}
 use Rattle.aig_shell.proofs.session.Session.save_circuit.Goals as goal
 
 pub returns-in_err-keep-clause-files : goal.returns-in_err-keep-clause-files

@@ -3,9 +3,9 @@ use Rattle.aig_parts.specs.declared.ternary.Tern.{Tern}
 use Rattle.aig_base.specs.Circuit.{IsCircuit}
 use Rattle.aig_shell.specs.Edits.{IsValue}
 use Rattle.aig_shell.specs.Request.{set}
-use Rattle.aig_shell.proofs.Impossible.{small_variables}
-use Rattle.aig_shell.proofs.Results.{ends_err}
-use Rattle.aig_shell.proofs.Sessions.{session_kept, positions_within, no_frames, no_inputs, no_bits}
+use Rattle.aig_shell.proofs.editing.Impossible.{small_variables}
+use Rattle.aig_shell.proofs.editing.Results.{ends_err}
+use Rattle.aig_shell.proofs.editing.Sessions.{session_kept, positions_within, no_frames, no_inputs, no_bits}
 use Rattle.aig_shell.proofs.session.Session.set.Goals as goal
 
 pub returns-in_err-frames-clause-edits : goal.returns-in_err-frames-clause-edits

@@ -1,5 +1,5 @@
 use Rattle.std.proofs.Common.{ℕ, List, Bor, map, option_map, ◌+◌, ◌-◌}
-use Rattle.aig_shell.proofs.Shown.{ends_none}
+use Rattle.aig_shell.proofs.tables.Shown.{ends_none}
 use Rattle.aig_shell.proofs.session.Session.show.Goals as goal
 
 pub returns-in_err-rows : goal.returns-in_err-rows

@@ -5,7 +5,7 @@ use Rattle.aig_parts.specs.Literal.{variable}
 use Rattle.aig_base.specs.Circuit.{IsCircuit}
 use Rattle.aig_base.specs.Sections.{IsDefined}
 use Rattle.aig_signals.specs.Names.{literal_of, literals_of}
-use Rattle.aig_shell.proofs.Differences.{literals_more, literals_all, signal_known}
+use Rattle.aig_shell.proofs.tables.Differences.{literals_more, literals_all, signal_known}
 use Rattle.aig_shell.proofs.session.Session.signal_literals.Goals as goal
 
 pub literal_at-literal-requires : goal.literal_at-literal-requires

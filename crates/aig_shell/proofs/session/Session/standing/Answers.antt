@@ -6,8 +6,8 @@ use Rattle.aig_sim.proofs.ReachedLemmas.{reaches_none}
 use Rattle.aig_sim.proofs.VerdictLemmas.{bad_defined}
 use Rattle.aig_values.specs.InputRows.{HaveWidth}
 use Rattle.aig_shell.specs.Session.{own_circuit}
-use Rattle.aig_shell.proofs.Reaching.{first_reached, none_reached}
-use Rattle.aig_shell.proofs.Starting.{own_resets}
+use Rattle.aig_shell.proofs.reached.Reaching.{first_reached, none_reached}
+use Rattle.aig_shell.proofs.reached.Starting.{own_resets}
 use Rattle.aig_shell.proofs.session.Session.standing.Goals as goal
 
 pub first_at-requires : goal.first_at-requires

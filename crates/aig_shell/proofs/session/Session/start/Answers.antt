@@ -2,10 +2,10 @@ use Rattle.std.proofs.Common.{All, refl, sym, subst}
 use Rattle.aig_base.specs.Circuit.{IsCircuit}
 use Rattle.aig_base.specs.Sections.{IsLatchLiteral}
 use Rattle.aig_shell.specs.Edits.{IsValue}
-use Rattle.aig_shell.proofs.Impossible.{small_variables}
+use Rattle.aig_shell.proofs.editing.Impossible.{small_variables}
 use Rattle.aig_shell.specs.Request.{start}
-use Rattle.aig_shell.proofs.Results.{ends_err}
-use Rattle.aig_shell.proofs.Sessions.{session_kept, no_latches, no_start}
+use Rattle.aig_shell.proofs.editing.Results.{ends_err}
+use Rattle.aig_shell.proofs.editing.Sessions.{session_kept, no_latches, no_start}
 use Rattle.aig_shell.proofs.session.Session.start.Goals as goal
 
 pub returns-in_err-latches-clause-edits : goal.returns-in_err-latches-clause-edits

@@ -2,8 +2,8 @@ use Rattle.std.proofs.Common.{◌≤◌, length, refl, sym, ap, ◌∙◌, arith
 use Rattle.std.proofs.lemmas.Bool.{false≢true}
 use Rattle.aig_parts.specs.declared.raw.Raw.{Raw}
 use Rattle.aig_base.proofs.lists.Items.{item_at}
-use Rattle.aig_shell.proofs.FirstRuns.{other_value, same_value}
-use Rattle.aig_shell.proofs.Starting.{same_size, same_start_more, starts_differ, starts_same}
+use Rattle.aig_shell.proofs.tables.FirstRuns.{other_value, same_value}
+use Rattle.aig_shell.proofs.reached.Starting.{same_size, same_start_more, starts_differ, starts_same}
 use Rattle.aig_shell.proofs.session.Session.starts_by_reset.Goals as goal
 
 pub loop-place-preserved : goal.loop-place-preserved

@@ -1,5 +1,5 @@
 use Rattle.std.proofs.Common.{◌∙◌, arith}
-use Rattle.aig_shell.proofs.Columns.{columns_begin, columns_more, two_rows_are}
+use Rattle.aig_shell.proofs.tables.Columns.{columns_begin, columns_more, two_rows_are}
 use Rattle.aig_shell.proofs.session.Session.two_rows.Goals as goal
 
 pub loop-frame-init : goal.loop-frame-init

@@ -3,7 +3,7 @@ use Rattle.std.specs.Global.{Vec}
 use Rattle.aig_bench.specs.BenchState.{CircuitAndRows}
 use Rattle.aig_shell.specs.Compared.{AreLiterals}
 use Rattle.aig_shell.specs.Session.{IsFirst}
-use Rattle.aig_shell.proofs.Columns.{AreColumns}
+use Rattle.aig_shell.proofs.tables.Columns.{AreColumns}
 use Rattle.aig_shell.proofs.session.Session.two_rows.Given as goal
 
 abbrev pub invariant-loop-frame : goal.invariant-loop-frame

@@ -1,4 +1,4 @@
-use Rattle.aig_shell.proofs.Impossible.{value_allowed}
+use Rattle.aig_shell.proofs.editing.Impossible.{value_allowed}
 use Rattle.aig_shell.proofs.session.Session.value.Goals as goal
 
 pub unreachable-requires : goal.unreachable-requires

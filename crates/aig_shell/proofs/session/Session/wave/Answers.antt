@@ -3,7 +3,7 @@ use Rattle.aig_base.specs.Value.{start_of}
 use Rattle.aig_sim.specs.Dump.{IsDump}
 use Rattle.aig_shell.specs.Request as request
 use Rattle.aig_shell.specs.Session.{own_circuit}
-use Rattle.aig_shell.proofs.Saved.{one_file_ends, wave_saved}
+use Rattle.aig_shell.proofs.saved.Saved.{one_file_ends, wave_saved}
 use Rattle.aig_shell.proofs.session.Session.wave.Goals as goal
 
 pub returns : goal.returns

@@ -3,8 +3,8 @@ use Rattle.std.specs.Global.{Vec}
 use Rattle.aig_base.specs.Value.{start_of}
 use Rattle.aig_sim.specs.Dump.{IsDump}
 use Rattle.aig_shell.specs.Session.{own_circuit}
-use Rattle.aig_shell.proofs.Dumps.{dump_with, dumped}
-use Rattle.aig_shell.proofs.Saved.{own_resets}
+use Rattle.aig_shell.proofs.saved.Dumps.{dump_with, dumped}
+use Rattle.aig_shell.proofs.saved.Saved.{own_resets}
 use Rattle.aig_shell.proofs.session.Session.wave_text.Goals as goal
 
 pub returns-in-Ok : goal.returns-in-Ok

@@ -1,8 +1,8 @@
 use Rattle.std.proofs.Common.{[], ◌∙◌}
 use Rattle.std.specs.Prelude.{option_map}
 use Rattle.aig_shell.specs.Request as request
-use Rattle.aig_shell.proofs.Saved.{files_denied, files_kept, files_refused, no_property, no_witness}
-use Rattle.aig_shell.proofs.Saved.{witness_saved}
+use Rattle.aig_shell.proofs.saved.Saved.{files_denied, files_kept, files_refused, no_property, no_witness}
+use Rattle.aig_shell.proofs.saved.Saved.{witness_saved}
 use Rattle.aig_shell.proofs.session.Session.witness.Goals as goal
 
 pub returns-in_err-asked-clause-files : goal.returns-in_err-asked-clause-files

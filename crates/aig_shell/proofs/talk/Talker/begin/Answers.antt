@@ -1,7 +1,7 @@
 use Rattle.std.proofs.Common.{◌++◌}
 use Rattle.aig_bytes.proofs.WriteLemmas.{writes_then, writes_stop}
 use Rattle.aig_shell.specs.Conversation.{prompt}
-use Rattle.aig_shell.proofs.Talks.{is_greeting}
+use Rattle.aig_shell.proofs.lines.Talks.{is_greeting}
 use Rattle.aig_shell.proofs.talk.Talker.begin.Goals as goal
 
 pub returns-in_err-write_all : goal.returns-in_err-write_all

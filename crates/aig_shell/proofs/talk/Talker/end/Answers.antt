@@ -1,7 +1,7 @@
 use Rattle.std.proofs.Common.{true, Ok, refl}
 use Rattle.aig_bytes.specs.declared.fault.Io.{Io}
 use Rattle.aig_shell.specs.Talking.{moment}
-use Rattle.aig_shell.proofs.Talks.{finished_of, done_of, ends_err, ends_finished, part_newline}
+use Rattle.aig_shell.proofs.lines.Talks.{finished_of, done_of, ends_err, ends_finished, part_newline}
 use Rattle.aig_shell.proofs.talk.Talker.end.Goals as goal
 
 pub returns-in_err-write_newline-in-GoesOn : goal.returns-in_err-write_newline-in-GoesOn

@@ -1,6 +1,6 @@
 use Rattle.std.proofs.Common.{sym, ◌∙◌}
 use Rattle.std.proofs.lemmas.Bool.{false≢true}
-use Rattle.aig_shell.proofs.Talks.{finished_stands, finishes}
+use Rattle.aig_shell.proofs.lines.Talks.{finished_stands, finishes}
 use Rattle.aig_shell.proofs.talk.Talker.end_last_line.Goals as goal
 
 pub returns-then-is_empty : goal.returns-then-is_empty

@@ -2,8 +2,8 @@ use Rattle.std.proofs.Common.{◌≡◌, List, ℕ, [], ◌++◌, subst}
 use Rattle.aig_bytes.proofs.Results.{on_ok}
 use Rattle.aig_shell.specs.Conversation.{no_memory}
 use Rattle.aig_shell.specs.Talking.{HoldsLine}
-use Rattle.aig_shell.specs.declared.conversation.Next.TheVariants as next
-use Rattle.aig_shell.proofs.Talks.{reply_written, reply_failed, replies_same, lacks_memory}
+use Rattle.aig_shell.specs.declared.talk.conversation.Next.TheVariants as next
+use Rattle.aig_shell.proofs.lines.Talks.{reply_written, reply_failed, replies_same, lacks_memory}
 use Rattle.aig_shell.proofs.talk.Talker.end_line.Goals as goal
 
 pub returns-then-is_empty-clause-reply : goal.returns-then-is_empty-clause-reply

@@ -1,8 +1,8 @@
 use Rattle.std.proofs.Common.{◌≡◌, ◌≢◌, ℕ, ◌+◌, ◌-◌, ◌<◌, List, [], ◌∷◌, ◌++◌, All, length, take, drop, refl, sym, ap}
 use Rattle.std.proofs.Common.{subst, ◌∙◌, arith}
 use Rattle.std.proofs.lemmas.List.{append-nil, append_assoc, take_all, length-drop}
-use Rattle.aig_shell.proofs.Talks.{split_line, feeds_err, replies_next, stands_at, done_at, part_at, taken_is}
-use Rattle.aig_shell.proofs.Talks.{take_line, stands_line, stands_more, done_line, part_line, part_prompt}
+use Rattle.aig_shell.proofs.lines.Talks.{split_line, feeds_err, replies_next, stands_at, done_at, part_at, taken_is}
+use Rattle.aig_shell.proofs.lines.Talks.{take_line, stands_line, stands_more, done_line, part_line, part_prompt}
 use Rattle.aig_shell.proofs.talk.Talker.feed.Goals as goal
 
 pub loop-rest-init : goal.loop-rest-init

@@ -5,8 +5,8 @@ use Rattle.aig_bytes.specs.Bytes.{before}
 use Rattle.aig_bytes.specs.declared.fault.Io.{Io}
 use Rattle.aig_sim.proofs.SimulationLemmas.{before_nil, before-before}
 use Rattle.aig_shell.specs.Talking.{Moment, moment}
-use Rattle.aig_shell.proofs.Shells.{breaks_part, ended_done, ends_ok, ends_broken}
-use Rattle.aig_shell.proofs.Talks.{stands_begin, part_begin, stands_flushed, part_stands, stands_fed, done_fed}
+use Rattle.aig_shell.proofs.lines.Shells.{breaks_part, ended_done, ends_ok, ends_broken}
+use Rattle.aig_shell.proofs.lines.Talks.{stands_begin, part_begin, stands_flushed, part_stands, stands_fed, done_fed}
 use Rattle.aig_shell.proofs.talk.Talker.run.Goals as goal
 
 pub loop-reader-init : goal.loop-reader-init

@@ -1,7 +1,0 @@
-use Rattle.aig_shell.proofs.Answering.{number_line}
-use Rattle.aig_shell.proofs.gate.push_next.Goals as goal
-
-pub returns : goal.returns
-returns c =
-    number_line c.args.text.now.items c.push_number.new.text.items _ c.next_literal.result _ c.in_ok-push_number.ensures
-    c.in_ok-push.ensures.items c.next_literal.ensures

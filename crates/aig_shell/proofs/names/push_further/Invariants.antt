@@ -1,5 +1,0 @@
-use Rattle.std.proofs.Common.{length}
-use Rattle.aig_shell.proofs.names.push_further.Given as goal
-
-abbrev pub decreases-loop-next : goal.decreases-loop-next
-decreases-loop-next l = length l.rest

@@ -1,5 +1,0 @@
-use Rattle.std.proofs.Common.{◌≡◌, take}
-use Rattle.aig_shell.proofs.run_kept.are_same.Given as goal
-
-abbrev pub invariant-loop-frame : goal.invariant-loop-frame
-invariant-loop-frame l = take l.frame l.one.rows ≡ take l.frame l.other.rows

@@ -1,0 +1,349 @@
+//! Which properties a run reaches.
+ghost use Rattle.std.specs.Prelude.{◌≡◌, ◌≢◌, ◌⊎◌, ◌+◌, ◌<◌, ◌≤◌, ℕ, false, List, [], ◌++◌, IfErr, IfNone, IfOk};
+ghost use Rattle.std.specs.Prelude.{IfSome, IsTrue, None, OnOk, Some, decimal, length, slice_get};
+ghost use Rattle.aig_parts.specs.Literal.{variable};
+ghost use Rattle.aig_base.specs.Sections.{IsDefined};
+ghost use Rattle.aig_base.specs.Value.{start_of};
+ghost use Rattle.aig_parts.specs.declared.symbols.Kind.TheVariants as kinds;
+ghost use Rattle.aig_signals.specs.Lookup.{entry_in};
+ghost use Rattle.aig_sim.specs.Reached.{IsFirstReached, ReachesNone};
+ghost use Rattle.aig_sim.specs.Verdict.{StartsWrong};
+ghost use Rattle.aig_shell.specs.Answers.{AreStandings, IsChecked, property_name, standings_text};
+ghost use Rattle.aig_shell.specs.Session.{IsIn, IsSession, own_circuit};
+ghost use Rattle.aig_shell.specs.Standing.{HoldAt, HoldBefore, IsBroken, IsFirstAt, IsFirstBroken, IsNever, IsStanding};
+ghost use Rattle.aig_shell.specs.Standing.{StartsRight, standing_text};
+ghost use Rattle.aig_shell.specs.State.{SessionState};
+
+use crate::answers::gate::letter;
+use crate::pieces::{Piece, push_pieces};
+use crate::refusal::{Refusal, Wanted};
+use crate::session::Session;
+use aig_base::{Circuit, Kind, Lit, Memory, Tern};
+use aig_names::push_position;
+use aig_signals::{entry_named, push_first_name};
+use aig_sim::{Reached, first_reached, first_states};
+
+/// A frame and a constraint that is not 1 there.
+#[derive(Clone, Copy, Drop)]
+struct Broken {
+    frame: u32,
+    constraint: u32,
+    value: Tern,
+}
+
+/// What a run does to a property.
+#[derive(Clone, Copy, Drop)]
+pub(crate) enum Standing {
+    /// It reaches the property at this frame.
+    Reached(u32),
+    /// The property is 1 there first, but in no run of the circuit.
+    NoRun(u32),
+    /// It is x there first, and nowhere 1.
+    Unknown(u32),
+    /// It is 0 at all frames.
+    Never,
+}
+
+/// Adds `b0 NAME`, or `b0` alone where the property has no name.
+fn push_property(text: &mut Vec<u8>, circuit: &Circuit, position: u32) -> Result<(), Memory>
+    ensures { OnOk result (text.new.items ≡ text.old.items ++ property_name circuit.now position) }
+{
+    let before = text.len();
+    push_position(text, Kind::Bad, position)?;
+    let after = text.len();
+    text.push(b' ')?;
+    push_first_name(text, circuit, Kind::Bad, position)?;
+    let is_same = text[after + 1..] == text[before..after];
+    if is_same {
+        text.truncate(after);
+    }
+    Ok(())
+}
+
+/// Adds a frame between two texts.
+fn push_at<'t>(
+    text: &mut Vec<u8>,
+    before: &'t [u8],
+    frame: u32,
+    after: &'t [u8],
+) -> Result<(), Memory>
+    ensures { OnOk result (text.new.items ≡ text.old.items ++ (before.now ++ (decimal frame ++ after.now))) }
+{
+    let said = [
+        Piece::Text(before),
+        Piece::Number(u64::from(frame)),
+        Piece::Text(after),
+    ];
+    push_pieces(text, &said)
+}
+
+/// Adds what a run does to a property.
+fn push_standing(text: &mut Vec<u8>, standing: Standing) -> Result<(), Memory>
+    ensures { OnOk result (text.new.items ≡ text.old.items ++ standing_text standing) }
+{
+    match standing {
+        Standing::Reached(frame) => push_at(text, b"reached at ", frame, b""),
+        Standing::NoRun(frame) => push_at(text, b"1 at ", frame, b", not a run"),
+        Standing::Unknown(frame) => push_at(text, b"not reached, x at ", frame, b""),
+        Standing::Never => {
+            text.extend_from_slice(b"not reached")?;
+            Ok(())
+        }
+    }
+}
+
+/// Says that there is no property, where nothing was said of one.
+fn push_none(text: &mut Vec<u8>) -> Result<(), Memory>
+    ensures { OnOk result ((reasons : List ℕ) × (text.new.items ≡ text.old.items ++ reasons)) }
+{
+    if text.is_empty() {
+        text.extend_from_slice(b"the circuit has no bad state property\n")?;
+    }
+    Ok(())
+}
+
+impl Session {
+    /// The first frame at which a literal has a value.
+    fn first_at(&self, literal: Lit, value: Tern) -> Option<u32>
+        requires { IsDefined self.now.run.bench.pair.circuit (variable literal) }
+        ensures some { IfSome result (IsFirstAt self.now.run.bench.pair literal value) }
+        ensures none { IfNone result (IsNever self.now.run.bench.pair literal value) }
+    {
+        let bench = self.bench();
+        // Its contract says that the pair is a circuit.
+        bench.width();
+        for frame in 0..bench.frames() {
+            let found = self.value(frame, literal);
+            if found == value {
+                return Some(frame);
+            }
+        }
+        None
+    }
+
+    /// The least constraint that is not 1 at a frame.
+    fn broken_at(&self, frame: u32) -> Option<Broken>
+        requires { frame < length self.now.run.bench.pair.rows }
+        ensures some { IfSome result (λ b. (b.frame ≡ frame)
+            × IsBroken self.now.run.bench.pair frame b.constraint b.value) }
+        ensures none { IfNone result (HoldAt self.now.run.bench.pair frame) }
+    {
+        let circuit = self.circuit();
+        // Its contract says that it is a circuit.
+        circuit.facts();
+        for (position, literal) in circuit.constraints().iter().enumerate() {
+            let found = self.value(frame, *literal);
+            if found != Tern::One {
+                return Some(Broken {
+                    frame,
+                    constraint: position as u32,
+                    value: found,
+                });
+            }
+        }
+        None
+    }
+
+    /// The first frame at which a constraint is not 1, and the least of these constraints.
+    fn broken(&self) -> Option<Broken>
+        ensures some { IfSome result (λ b. IsFirstBroken self.now.run.bench.pair b.frame b.constraint b.value) }
+        ensures none { IfNone result (HoldBefore self.now.run.bench.pair (length self.now.run.bench.pair.rows)) }
+    {
+        let bench = self.bench();
+        for frame in 0..bench.frames() {
+            if let Some(broken) = self.broken_at(frame) {
+                return Some(broken);
+            }
+        }
+        None
+    }
+
+    /// Whether all constraints are 1 up to a frame, which is there.
+    fn holds_to(&self, frame: u32, broken: Option<Broken>) -> bool
+        requires frame { frame < length self.now.run.bench.pair.rows }
+        requires some { IfSome broken (λ b. IsFirstBroken self.now.run.bench.pair b.frame b.constraint b.value) }
+        requires none { IfNone broken (HoldBefore self.now.run.bench.pair (length self.now.run.bench.pair.rows)) }
+        ensures yes { IsTrue result → HoldBefore self.now.run.bench.pair (frame + 1) }
+        ensures no { result ≡ false → (t : ℕ) × (k : ℕ) × (w : Tern) × (t ≤ frame)
+            × IsBroken self.now.run.bench.pair t k w }
+    {
+        match broken {
+            Some(broken) => frame < broken.frame,
+            None => true,
+        }
+    }
+
+    /// Whether the frames up to this one are those of a run of the circuit, which has the resets of its file.
+    fn is_run_to(&self, frame: u32, broken: Option<Broken>) -> bool
+        requires session { IsSession self.now }
+        requires frame { frame < length self.now.run.bench.pair.rows }
+        requires some { IfSome broken (λ b. IsFirstBroken self.now.run.bench.pair b.frame b.constraint b.value) }
+        requires none { IfNone broken (HoldBefore self.now.run.bench.pair (length self.now.run.bench.pair.rows)) }
+        ensures yes { IsTrue result → StartsRight (own_circuit self.now) (start_of self.now.run.bench.pair.circuit)
+            × HoldBefore self.now.run.bench.pair (frame + 1) }
+        ensures no { result ≡ false →
+            ((k : ℕ) × StartsWrong (own_circuit self.now) (start_of self.now.run.bench.pair.circuit) k)
+            ⊎ ((t : ℕ) × (k : ℕ) × (w : Tern) × (t ≤ frame) × IsBroken self.now.run.bench.pair t k w) }
+    {
+        if !self.holds_to(frame, broken) {
+            return false;
+        }
+        match self.other_start() {
+            Some(_) => false,
+            None => true,
+        }
+    }
+
+    /// What the run does to a property with this literal.
+    fn standing(&self, position: u32, literal: Lit, broken: Option<Broken>) -> Standing
+        requires session { IsSession self.now }
+        requires literal { slice_get self.now.run.bench.pair.circuit.bad position ≡ Some literal }
+        requires some { IfSome broken (λ b. IsFirstBroken self.now.run.bench.pair b.frame b.constraint b.value) }
+        requires none { IfNone broken (HoldBefore self.now.run.bench.pair (length self.now.run.bench.pair.rows)) }
+        ensures { IsStanding (own_circuit self.now) self.now.run.bench.pair position literal result }
+    {
+        let bench = self.bench();
+        // Its contract says that the pair is a circuit and rows that fit it.
+        bench.width();
+        match self.first_at(literal, Tern::One) {
+            Some(frame) => {
+                if self.is_run_to(frame, broken) {
+                    Standing::Reached(frame)
+                } else {
+                    Standing::NoRun(frame)
+                }
+            }
+            None => match self.first_at(literal, Tern::X) {
+                Some(frame) => Standing::Unknown(frame),
+                None => Standing::Never,
+            },
+        }
+    }
+
+    /// Adds a line for each property.
+    fn push_standings(&self, text: &mut Vec<u8>, broken: Option<Broken>) -> Result<(), Memory>
+        requires session { IsSession self.now }
+        requires some { IfSome broken (λ b. IsFirstBroken self.now.run.bench.pair b.frame b.constraint b.value) }
+        requires none { IfNone broken (HoldBefore self.now.run.bench.pair (length self.now.run.bench.pair.rows)) }
+        ensures { OnOk result ((standings : List Standing)
+            × AreStandings (own_circuit self.now) self.now.run.bench.pair 0 self.now.run.bench.pair.circuit.bad
+            standings
+            × (text.new.items ≡ text.old.items ++ standings_text self.now.run.bench.pair.circuit 0 standings)) }
+    {
+        let circuit = self.circuit();
+        // Its contract says that it is a circuit.
+        circuit.facts();
+        for (position, literal) in circuit.bad().iter().enumerate() {
+            let standing = self.standing(position as u32, *literal, broken);
+            push_property(text, circuit, position as u32)?;
+            text.extend_from_slice(b": ")?;
+            push_standing(text, standing)?;
+            text.push(b'\n')?;
+        }
+        Ok(())
+    }
+
+    /// Adds `c1 is 0 at 8`.
+    fn push_broken(&self, text: &mut Vec<u8>, broken: Broken) -> Result<(), Memory>
+        ensures { OnOk result ((reasons : List ℕ) × (text.new.items ≡ text.old.items ++ reasons)) }
+    {
+        push_first_name(text, self.circuit(), Kind::Constraint, broken.constraint)?;
+        let rest = [
+            Piece::Text(b" is "),
+            Piece::Text(letter(broken.value)),
+            Piece::Text(b" at "),
+            Piece::Number(u64::from(broken.frame)),
+            Piece::Text(b"\n"),
+        ];
+        push_pieces(text, &rest)
+    }
+
+    /// Adds `LATCH starts at V, not at its reset`.
+    pub(crate) fn push_other_start(
+        &self,
+        text: &mut Vec<u8>,
+        latch: u32,
+        value: Tern,
+    ) -> Result<(), Memory>
+        ensures { OnOk result ((reasons : List ℕ) × (text.new.items ≡ text.old.items ++ reasons)) }
+    {
+        push_first_name(text, self.circuit(), Kind::Latch, latch)?;
+        let rest = [
+            Piece::Text(b" starts at "),
+            Piece::Text(letter(value)),
+            Piece::Text(b", not at its reset\n"),
+        ];
+        push_pieces(text, &rest)
+    }
+
+    /// Adds why the run is none of the circuit, where it is none.
+    fn push_reasons(&self, text: &mut Vec<u8>, broken: Option<Broken>) -> Result<(), Memory>
+        requires session { IsSession self.now }
+        ensures { OnOk result ((reasons : List ℕ) × (text.new.items ≡ text.old.items ++ reasons)) }
+    {
+        if let Some(broken) = broken {
+            self.push_broken(text, broken)?;
+        }
+        if let Some((latch, value)) = self.other_start() {
+            self.push_other_start(text, latch, value)?;
+        }
+        Ok(())
+    }
+
+    /// Adds for each property whether the run reaches it, and why it is no run where it is none.
+    pub(crate) fn check(&self, text: &mut Vec<u8>) -> Result<(), Memory>
+        requires session { IsSession self.now }
+        requires empty { text.old.items ≡ [] }
+        ensures { OnOk result ((s : SessionState) → IsIn self.now s → IsChecked s text.new.items) }
+    {
+        let broken = self.broken();
+        self.push_standings(text, broken)?;
+        push_none(text)?;
+        self.push_reasons(text, broken)?;
+        Ok(())
+    }
+
+    /// The first frame that reaches a property, and which; of those that are asked for.
+    pub(crate) fn reached<'a>(&self, asked: Option<u32>) -> Result<Reached, Refusal<'a>>
+        requires session { IsSession self.now }
+        requires property { IfSome asked (λ k. k < length self.now.run.bench.pair.circuit.bad) }
+        ensures ok { IfOk result (λ found. IsFirstReached (own_circuit self.now)
+            (start_of self.now.run.bench.pair.circuit)
+            self.now.run.bench.pair.rows asked found.frame found.property) }
+        ensures err { IfErr result (λ refusal. refusal ≢ Refusal.Memory →
+            ReachesNone (own_circuit self.now) (start_of self.now.run.bench.pair.circuit) self.now.run.bench.pair.rows
+            asked) }
+    {
+        if let Some((latch, value)) = self.other_start() {
+            return Err(Refusal::OtherStart { latch, value });
+        }
+        let circuit = self.circuit();
+        let start = first_states(self.alloc, circuit)?;
+        let bench = self.bench();
+        let rows = bench.stimulus();
+        match first_reached(self.alloc, circuit, start.as_slice(), rows, asked)? {
+            Some(reached) => Ok(reached),
+            None => Err(Refusal::NotReached),
+        }
+    }
+
+    /// The position of the property that a word names.
+    pub(crate) fn property<'a>(&self, word: &'a [u8]) -> Result<u32, Refusal<'a>>
+        requires session { IsSession self.now }
+        ensures ok { IfOk result (λ k. entry_in self.now.run.bench.pair.circuit word.now kinds.Bad ≡ Some k) }
+        ensures within { IfOk result (λ k. k < length self.now.run.bench.pair.circuit.bad) }
+        ensures err { IfErr result (λ refusal. refusal ≢ Refusal.Memory →
+            entry_in self.now.run.bench.pair.circuit word.now kinds.Bad ≡ None) }
+    {
+        let found = entry_named(self.alloc, self.circuit(), Kind::Bad, word)?;
+        if let Some(position) = found {
+            return Ok(position);
+        }
+        // Its refusal says that there is no such name.
+        self.literals(word)?;
+        Err(Refusal::No {
+            word,
+            wanted: Wanted::Property,
+        })
+    }
+}

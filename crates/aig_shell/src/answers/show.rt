@@ -1,0 +1,180 @@
+//! Tables of values.
+ghost use Rattle.std.specs.Prelude.{◌≡◌, ◌≢◌, ◌+◌, ◌-◌, ◌^◌, ◌<◌, ◌≤◌, List, [], ℕ, All, IfErr, IfOk, None, OnOk};
+ghost use Rattle.std.specs.Prelude.{length, map, option_map};
+ghost use Rattle.aig_parts.specs.Literal.{variable};
+ghost use Rattle.aig_base.specs.Sections.{IsDefined};
+ghost use Rattle.aig_prompt.specs.Table.{TableRow, row_of};
+ghost use Rattle.aig_shell.specs.Answers.{ShowsFrames};
+ghost use Rattle.aig_shell.specs.Ends.{EndsQuery};
+ghost use Rattle.aig_shell.specs.Request as request;
+ghost use Rattle.aig_shell.specs.Session.{IsSession};
+ghost use Rattle.aig_shell.specs.Tables.{AreBits, AreCells, IsCell, IsRowOf, IsShown};
+
+use crate::pieces::{Piece, push_pieces};
+use crate::refusal::Refusal;
+use crate::session::Session;
+use crate::session::frames::{Frames, SHOWN};
+use aig_base::{Lit, Memory, Tern};
+use aig_prompt::{Row, Table};
+use aig_signals::push_table_value;
+
+/// The frames that are shown where none are named: all, or the last ones. Says how many are left out.
+fn shown_frames(text: &mut Vec<u8>, all: Frames) -> Result<Frames, Memory>
+    requires first { all.first ≡ 0 }
+    requires fits { all.last + 1 < 2 ^ 32 }
+    ensures { IfOk result (λ found. ShowsFrames None (all.last + 1) found.first found.last) }
+{
+    if all.count() <= SHOWN {
+        return Ok(all);
+    }
+    let first = all.last.saturating_sub(SHOWN - 1);
+    let note = [
+        Piece::Text(b"frames 0 to "),
+        Piece::Number(u64::from(first.saturating_sub(1))),
+        Piece::Text(b" are left out; @A-B names frames\n"),
+    ];
+    push_pieces(text, &note)?;
+    Ok(Frames {
+        first,
+        last: all.last,
+    })
+}
+
+impl Session {
+    /// The values of literals at a frame.
+    pub(crate) fn bits(
+        &self,
+        bits: &mut Vec<Option<Tern>>,
+        frame: u32,
+        literals: &[Lit],
+    ) -> Result<(), Memory>
+        requires frame { frame < length self.now.run.bench.pair.rows }
+        requires defined { All (λ l. IsDefined self.now.run.bench.pair.circuit (variable l)) literals.now }
+        ensures { OnOk result (AreBits self.now.run.bench.pair frame literals.now bits.new.items) }
+    {
+        bits.clear();
+        for literal in literals {
+            bits.push(Some(self.value(frame, *literal)))?;
+        }
+        Ok(())
+    }
+
+    /// The text of the values of literals at a frame.
+    fn cell(
+        &self,
+        bits: &mut Vec<Option<Tern>>,
+        frame: u32,
+        literals: &[Lit],
+    ) -> Result<Vec<u8>, Memory>
+        requires frame { frame < length self.now.run.bench.pair.rows }
+        requires defined { All (λ l. IsDefined self.now.run.bench.pair.circuit (variable l)) literals.now }
+        ensures { IfOk result (λ cell. IsCell self.now.run.bench.pair literals.now frame cell.items) }
+    {
+        self.bits(bits, frame, literals)?;
+        let mut cell = Vec::new(self.alloc);
+        push_table_value(&mut cell, bits.as_slice())?;
+        Ok(cell)
+    }
+
+    /// The row of the values of literals, at frames up to the end.
+    fn row(&self, name: &[u8], literals: &[Lit], first: u32, end: u32) -> Result<Row, Memory>
+        requires order { first ≤ end }
+        requires within { end ≤ length self.now.run.bench.pair.rows }
+        requires defined { All (λ l. IsDefined self.now.run.bench.pair.circuit (variable l)) literals.now }
+        ensures name { IfOk result (λ row. (row_of row).name ≡ name.now) }
+        ensures cells { IfOk result (λ row.
+            AreCells self.now.run.bench.pair literals.now first (end - first) (row_of row).cells) }
+    {
+        let mut bits = Vec::new(self.alloc);
+        let mut cells = Vec::new(self.alloc);
+        for frame in first..end {
+            let cell = self.cell(&mut bits, frame, literals)?;
+            cells.push(cell)?;
+        }
+        let name = Vec::from_slice(self.alloc, name)?;
+        Ok(Row { name, cells })
+    }
+
+    /// The frames that are named, or all or the last ones.
+    fn frames_to_show<'a>(
+        &self,
+        text: &mut Vec<u8>,
+        frames: Option<&'a [u8]>,
+    ) -> Result<Frames, Refusal<'a>>
+        ensures shown { IfOk result (λ found.
+            ShowsFrames (option_map (λ w. w.now) frames.entry) (length self.now.run.bench.pair.rows) found.first
+            found.last) }
+        ensures order { IfOk result (λ found. found.first ≤ found.last) }
+        ensures within { IfOk result (λ found. found.last < length self.now.run.bench.pair.rows) }
+        ensures fits { IfOk result (λ found. found.last + 1 < 2 ^ 32) }
+        ensures err { IfErr result (λ refusal. refusal ≢ Refusal.Memory → (first last : ℕ) →
+            ShowsFrames (option_map (λ w. w.now) frames.entry) (length self.now.run.bench.pair.rows) first last → ⊥) }
+    {
+        match frames {
+            Some(word) => self.frames(word),
+            None => {
+                let all = self.all_frames()?;
+                let shown = shown_frames(text, all)?;
+                Ok(shown)
+            }
+        }
+    }
+
+    /// The row of a name, at frames up to the end.
+    fn named_row<'a>(&self, name: &'a [u8], first: u32, end: u32) -> Result<Row, Refusal<'a>>
+        requires session { IsSession self.now }
+        requires order { first ≤ end }
+        requires within { end ≤ length self.now.run.bench.pair.rows }
+        ensures ok { IfOk result (λ row. IsRowOf self.now.run.bench.pair first (end - first) name.now (row_of row)) }
+        ensures err { IfErr result (λ refusal. refusal ≢ Refusal.Memory → (t n : ℕ) (row : TableRow) →
+            IsRowOf self.now.run.bench.pair t n name.now row → ⊥) }
+    {
+        // Its contract says that it is a circuit.
+        self.circuit().facts();
+        let literals = self.literals(name)?;
+        let row = self.row(name, literals.as_slice(), first, end)?;
+        Ok(row)
+    }
+
+    /// The rows of names, at frames up to the end.
+    fn rows<'a>(&self, names: &[&'a [u8]], first: u32, end: u32) -> Result<Vec<Row>, Refusal<'a>>
+        requires session { IsSession self.now }
+        requires order { first ≤ end }
+        requires within { end ≤ length self.now.run.bench.pair.rows }
+        ensures ok { IfOk result (λ rows.
+            IsShown self.now.run.bench.pair first (end - first) (map (λ w. w.now) names.now) (map row_of rows.items)) }
+        ensures err { IfErr result (λ refusal. refusal ≢ Refusal.Memory → (t n : ℕ) (rows : List TableRow) →
+            IsShown self.now.run.bench.pair t n (map (λ w. w.now) names.now) rows → ⊥) }
+    {
+        let mut rows = Vec::new(self.alloc);
+        for name in names {
+            let row = self.named_row(*name, first, end)?;
+            rows.push(row)?;
+        }
+        Ok(rows)
+    }
+
+    /// Adds a table of the values of names, at the frames that are named, or at all.
+    pub(crate) fn show<'a>(
+        &self,
+        text: &mut Vec<u8>,
+        names: &[&'a [u8]],
+        frames: Option<&'a [u8]>,
+    ) -> Result<(), Refusal<'a>>
+        requires session { IsSession self.now }
+        requires empty { text.old.items ≡ [] }
+        ensures { EndsQuery self.now (request.show (map (λ w. w.now) names.now) (option_map (λ w. w.now) frames.entry))
+            result
+            text.new.items }
+    {
+        let shown = self.frames_to_show(text, frames)?;
+        let rows = self.rows(names, shown.first, shown.last + 1)?;
+        let table = Table {
+            first: shown.first,
+            frames: shown.count(),
+            rows,
+        };
+        table.push_text(text)?;
+        Ok(())
+    }
+}

@@ -1,0 +1,4 @@
+//! What a line asks for.
+
+pub(crate) mod command;
+pub(crate) mod topic;
