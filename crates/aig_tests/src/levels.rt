@@ -50,30 +50,34 @@ static ORDERS: [(&[u8], u32, u32, [u32; 2]); 9] = [
     ),
 ];
 
-// Whether a variable has this level, and the first two gates of the canonical order are these.
-fn are_ordered(
-    alloc: Global,
-    circuit: &Circuit,
-    levels: &Levels,
+// The level of a variable, and the first two gates of the canonical order.
+#[derive(Clone, Copy)]
+struct Order {
     variable: u32,
     level: u32,
     gates: [u32; 2],
-) -> bool
-    requires { AreLevels circuit.now levels.now }
-{
-    if variable > circuit.max_var() || levels.level(variable) != level {
-        return false;
-    }
-    match canonical_order(alloc, circuit, levels) {
-        Ok(order) => order.as_slice() == gates.as_slice(),
-        Err(_) => false,
-    }
 }
 
-fn has_order(alloc: Global, circuit: &Circuit, variable: u32, level: u32, gates: [u32; 2]) -> bool {
-    match Levels::of(alloc, circuit) {
-        Ok(levels) => are_ordered(alloc, circuit, &levels, variable, level, gates),
-        Err(_) => false,
+impl Order {
+    // Whether the levels say so, and the canonical order by them.
+    fn is_of(self, alloc: Global, circuit: &Circuit, levels: &Levels) -> bool
+        requires { AreLevels circuit.now levels.now }
+    {
+        if self.variable > circuit.max_var() || levels.level(self.variable) != self.level {
+            return false;
+        }
+        match canonical_order(alloc, circuit, levels) {
+            Ok(order) => order.as_slice() == self.gates.as_slice(),
+            Err(_) => false,
+        }
+    }
+
+    // Whether the levels of the circuit say so.
+    fn is_of_circuit(self, alloc: Global, circuit: &Circuit) -> bool {
+        match Levels::of(alloc, circuit) {
+            Ok(levels) => self.is_of(alloc, circuit, &levels),
+            Err(_) => false,
+        }
     }
 }
 
@@ -82,9 +86,16 @@ fn has_order(alloc: Global, circuit: &Circuit, variable: u32, level: u32, gates:
 fn levels_and_orders(rt: HostRuntime) {
     let mut right = true;
     for &(file, variable, level, gates) in &ORDERS {
-        right &= of_file(rt.alloc(), file, |alloc, circuit| {
-            has_order(alloc, circuit, variable, level, gates)
-        });
+        let order = Order {
+            variable,
+            level,
+            gates,
+        };
+        right &= of_file(
+            rt.alloc(),
+            file,
+            |alloc, circuit| order.is_of_circuit(alloc, circuit),
+        );
     }
     assert!(rt; right);
 }

@@ -244,22 +244,27 @@ fn literals(numbers: [u32; 2]) -> [Lit; 2] {
 }
 
 // Clauses of two literals that are added and deleted, and whether that of the last literal follows then.
-static STEPS: [(&[[u32; 2]], &[[u32; 2]], [u32; 2], bool); 12] = [
+type Step = (&'static [[u32; 2]], &'static [[u32; 2]], [u32; 2], bool);
+
+static DELETED: [Step; 7] = [
     (&[[0, 2], [0, 3]], &[], [0, 0], true),
     (&[[0, 2], [0, 3]], &[[2, 0]], [0, 0], false),
     (&[[0, 2], [0, 3]], &[[2, 1]], [0, 0], true),
     (&[[0, 2], [0, 3], [2, 0]], &[[2, 0]], [0, 0], true),
     (&[[0, 2], [0, 3], [2, 0]], &[[0, 2], [2, 0]], [0, 0], false),
     (&[[0, 0]], &[[0, 0]], [0, 2], true),
+    (&[[0, 2], [3, 3]], &[[3, 3]], [0, 0], true),
+];
+
+static KEPT: [Step; 5] = [
     (&[[0, 1]], &[], [0, 0], false),
     (&[], &[], [2, 3], true),
     (&[[4, 4]], &[], [4, 4], false),
     (&[[4, 0], [5, 0]], &[], [0, 0], false),
     (&[[0, 0], [1, 1]], &[], [2, 4], true),
-    (&[[0, 2], [3, 3]], &[[3, 3]], [0, 0], true),
 ];
 
-fn follows(alloc: Global, row: (&[[u32; 2]], &[[u32; 2]], [u32; 2], bool)) -> Option<bool> {
+fn follows(alloc: Global, row: Step) -> Option<bool> {
     let (clauses, deleted, step, _) = row;
     let mut formula = Refutation::new(alloc, 2).ok()?;
     for clause in clauses {
@@ -271,12 +276,25 @@ fn follows(alloc: Global, row: (&[[u32; 2]], &[[u32; 2]], [u32; 2], bool)) -> Op
     formula.add_step(&literals(step)).ok()
 }
 
-// A clause is a set, equal ones are counted, what was found to be true stays so, nothing follows from both signs of a
-// variable, and a variable that the formula does not have is never found to be true.
-#[test]
-fn single_steps(rt: HostRuntime) {
-    for row in &STEPS {
+fn follow(alloc: Global, rows: &[Step]) -> bool {
+    for row in rows {
         let (_, _, _, should) = *row;
-        assert!(rt; follows(rt.alloc(), *row) == Some(should));
+        if follows(alloc, *row) != Some(should) {
+            return false;
+        }
     }
+    true
+}
+
+// A clause is a set, equal ones are counted, and what was found to be true stays so.
+#[test]
+fn steps_after_deletions(rt: HostRuntime) {
+    assert!(rt; follow(rt.alloc(), &DELETED));
+}
+
+// Nothing follows from both signs of a variable, and a variable that the formula does not have is never found to be
+// true.
+#[test]
+fn steps_of_kept_clauses(rt: HostRuntime) {
+    assert!(rt; follow(rt.alloc(), &KEPT));
 }

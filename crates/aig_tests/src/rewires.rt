@@ -5,70 +5,93 @@ ghost use Rattle.aig_base.specs.Readers.{AreReaders};
 ghost use Rattle.aig_base.specs.Sections.{IsDefined, IsLeftSide};
 
 use crate::parts::{TWO_GATES, is_defined, of_file};
-use aig_base::{Circuit, Levels, Lit, Memory, Readers};
+use aig_base::{Circuit, Gate, Levels, Lit, Memory, Readers};
 use std::alloc::Global;
 
-// Whether the gate got the right sides; it does not where they close a cycle.
+// Whether the gate of this left side got these right sides; it does not where they close a cycle.
 fn rewire_parts(
     circuit: &mut Circuit,
     levels: &mut Levels,
     readers: &mut Readers,
-    gate: Lit,
-    r0: Lit,
-    r1: Lit,
+    gate: Gate,
 ) -> Result<bool, Memory>
-    requires gate { IsLeftSide circuit.old gate }
-    requires defined0 { IsDefined circuit.old (variable r0) }
-    requires defined1 { IsDefined circuit.old (variable r1) }
+    requires gate { IsLeftSide circuit.old gate.lhs }
+    requires defined0 { IsDefined circuit.old (variable gate.rhs0) }
+    requires defined1 { IsDefined circuit.old (variable gate.rhs1) }
     requires levels { AreLevels circuit.old levels.old }
     requires readers { AreReaders circuit.old readers.old }
     ensures levels { AreLevels circuit.new levels.new }
     ensures readers { AreReaders circuit.new readers.new }
 {
     circuit.facts();
-    readers.make_room(r0, r1)?;
-    if levels.rewire(circuit, readers, gate, r0, r1).is_err() {
+    let Gate { lhs, rhs0, rhs1 } = gate;
+    readers.make_room(rhs0, rhs1)?;
+    if levels.rewire(circuit, readers, lhs, rhs0, rhs1).is_err() {
         return Ok(false);
     }
-    readers.replace(circuit, gate, r0, r1);
-    circuit.replace_gate(gate, r0, r1);
+    readers.replace(circuit, lhs, rhs0, rhs1);
+    circuit.replace_gate(lhs, rhs0, rhs1);
     Ok(true)
 }
 
-// Whether a rewire is done or refused as it should be, and the last gate has this level then.
-fn goes_well(
-    circuit: &mut Circuit,
-    levels: &mut Levels,
-    readers: &mut Readers,
-    row: [u32; 3],
+// A gate with its new right sides, whether it gets them, and the level that the last gate has then.
+#[derive(Clone, Copy)]
+struct Rewire {
+    gate: [u32; 3],
     done: bool,
     level: u32,
-) -> bool
-    requires levels { AreLevels circuit.old levels.old }
-    requires readers { AreReaders circuit.old readers.old }
-    ensures levels { AreLevels circuit.new levels.new }
-    ensures readers { AreReaders circuit.new readers.new }
-{
-    let [gate, r0, r1] = row;
-    let Some(gate) = circuit.gate_of(gate / 2) else {
-        return false;
-    };
-    let first = Lit::new(r0);
-    let second = Lit::new(r1);
-    if !is_defined(circuit, first) || !is_defined(circuit, second) {
-        return false;
-    }
-    let answer = rewire_parts(circuit, levels, readers, gate.lhs, first, second);
-    answer == Ok(done) && levels.level(circuit.max_var()) == level
 }
+
+impl Rewire {
+    // Whether the rewire goes so.
+    fn goes_well(self, circuit: &mut Circuit, levels: &mut Levels, readers: &mut Readers) -> bool
+        requires levels { AreLevels circuit.old levels.old }
+        requires readers { AreReaders circuit.old readers.old }
+        ensures levels { AreLevels circuit.new levels.new }
+        ensures readers { AreReaders circuit.new readers.new }
+    {
+        let [lhs, rhs0, rhs1] = self.gate;
+        let Some(old) = circuit.gate_of(lhs / 2) else {
+            return false;
+        };
+        let gate = Gate {
+            lhs: old.lhs,
+            rhs0: Lit::new(rhs0),
+            rhs1: Lit::new(rhs1),
+        };
+        if !is_defined(circuit, gate.rhs0) || !is_defined(circuit, gate.rhs1) {
+            return false;
+        }
+        rewire_parts(circuit, levels, readers, gate) == Ok(self.done)
+            && levels.level(circuit.max_var()) == self.level
+    }
+}
+
+const CYCLE: Rewire = Rewire {
+    gate: [6, 8, 2],
+    done: false,
+    level: 2,
+};
+
+const NO_READER: Rewire = Rewire {
+    gate: [8, 2, 4],
+    done: true,
+    level: 1,
+};
+
+const NO_CYCLE: Rewire = Rewire {
+    gate: [6, 8, 2],
+    done: true,
+    level: 1,
+};
 
 fn go_well(circuit: &mut Circuit, levels: &mut Levels, readers: &mut Readers) -> bool
     requires levels { AreLevels circuit.old levels.old }
     requires readers { AreReaders circuit.old readers.old }
 {
-    goes_well(circuit, levels, readers, [6, 8, 2], false, 2)
-        && goes_well(circuit, levels, readers, [8, 2, 4], true, 1)
-        && goes_well(circuit, levels, readers, [6, 8, 2], true, 1)
+    CYCLE.goes_well(circuit, levels, readers)
+        && NO_READER.goes_well(circuit, levels, readers)
+        && NO_CYCLE.goes_well(circuit, levels, readers)
         && readers.list(circuit.max_var()) == [3].as_slice()
 }
 

@@ -26,37 +26,61 @@ $end
 #2
 ";
 
-// Whether a failure ends a trace after this text, where so many reads of a byte are made and there is so much room.
-fn stops(
-    alloc: Global,
-    circuit: &Circuit,
-    rows: &[u8],
+// A run of which a read or a write fails: its rows, how many reads of a byte are made, how much room there is for the
+// trace, and the text that the trace has then.
+#[derive(Clone, Copy)]
+struct FailingRun {
+    rows: &'static [u8],
     reads: usize,
     room: usize,
-    text: &[u8],
-) -> bool {
-    writes(alloc, room, text, |out| {
-        simulate(alloc, circuit, &mut Pieces::new(rows, 1, reads), out) == Err(StimFault::Io)
-    })
+    text: &'static [u8],
 }
+
+impl FailingRun {
+    // Whether the failure ends the trace of the circuit after the text.
+    fn ends(self, alloc: Global, circuit: &Circuit) -> bool {
+        writes(alloc, self.room, self.text, |out| {
+            let mut rows = Pieces::new(self.rows, 1, self.reads);
+            simulate(alloc, circuit, &mut rows, out) == Err(StimFault::Io)
+        })
+    }
+}
+
+const FAILING_READ: FailingRun = FailingRun {
+    rows: b"11\nx0\n1",
+    reads: 7,
+    room: 100,
+    text: b" 11 1 \n x0 0 \n",
+};
 
 // A failing read is reported after the lines of all rows that were read.
 #[test]
 fn a_failing_read_ends_a_trace(rt: HostRuntime) {
     assert!(rt;
-        of_file(rt.alloc(), ONE_GATE, |alloc, circuit| {
-            stops(alloc, circuit, b"11\nx0\n1", 7, 100, b" 11 1 \n x0 0 \n")
-        })
+        of_file(
+            rt.alloc(),
+            ONE_GATE,
+            |alloc, circuit| FAILING_READ.ends(alloc, circuit)
+        )
     );
 }
+
+const FULL_WRITER: FailingRun = FailingRun {
+    rows: b"11\n1z\n",
+    reads: 100,
+    room: 3,
+    text: b" 11",
+};
 
 // A full writer has a beginning, and is reported.
 #[test]
 fn a_full_writer_ends_a_trace(rt: HostRuntime) {
     assert!(rt;
-        of_file(rt.alloc(), ONE_GATE, |alloc, circuit| {
-            stops(alloc, circuit, b"11\n1z\n", 100, 3, b" 11")
-        })
+        of_file(
+            rt.alloc(),
+            ONE_GATE,
+            |alloc, circuit| FULL_WRITER.ends(alloc, circuit)
+        )
     );
 }
 

@@ -8,7 +8,7 @@ pub make_room-requires-clause-first : goal.make_room-requires-clause-first
 make_room-requires-clause-first c =
     omega (
       arith,
-      defined_in_range c.args.circuit.now c.facts.ensures.sound (variable c.args.r0) c.requires.defined0,
+      defined_in_range c.args.circuit.now c.facts.ensures.sound (variable c.args.gate.rhs0) c.requires.defined0,
       c.requires.readers.size,
     )
 
@@ -16,7 +16,7 @@ pub make_room-requires-clause-second : goal.make_room-requires-clause-second
 make_room-requires-clause-second c =
     omega (
       arith,
-      defined_in_range c.args.circuit.now c.facts.ensures.sound (variable c.args.r1) c.requires.defined1,
+      defined_in_range c.args.circuit.now c.facts.ensures.sound (variable c.args.gate.rhs1) c.requires.defined1,
       c.requires.readers.size,
     )
 
