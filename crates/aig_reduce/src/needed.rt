@@ -183,31 +183,6 @@ fn mark_gates<G: Grid>(bench: &Bench<G>, frame: u32, gates: &[Gate], marks: &mut
     }
 }
 
-// Finds what is needed at a frame, from what is needed at the next one.
-fn mark_frame<G: Grid>(
-    bench: &Bench<G>,
-    property: u32,
-    frame: u32,
-    gates: &[Gate],
-    ahead: &[bool],
-    marks: &mut Vec<bool>,
-)
-    requires property { property < length bench.now.pair.circuit.bad }
-    requires frame { frame < length bench.now.pair.rows }
-    requires gates { AreItsGates bench.now.pair.circuit gates.now }
-    requires ahead { length ahead.now ≡ bench.now.pair.circuit.max_var + 1 }
-    requires size { length marks.old.items ≡ bench.now.pair.circuit.max_var + 1 }
-    ensures size { length marks.new.items ≡ length marks.old.items }
-    ensures needed { AreNeeded bench.now.pair property (suc frame) ahead.now →
-        AreNeeded bench.now.pair property frame marks.new.items }
-{
-    unmark(marks);
-    mark_constraints(bench, marks);
-    mark_bad(bench, property, frame, marks);
-    mark_latches(bench, ahead, marks);
-    mark_gates(bench, frame, gates, marks);
-}
-
 // So many values of x.
 fn all_x(alloc: Global, size: usize) -> Result<Vec<Tern>, Memory>
     ensures { IfOk result (λ values. values.items ≡ replicate size Tern.X) }
@@ -328,6 +303,28 @@ fn no_marks(alloc: Global, size: usize) -> Result<Marks, Memory>
     })
 }
 
+impl Marks {
+    // Finds what is needed at a frame. Before, the marks are those of the next one, which go ahead.
+    fn look_at<G: Grid>(&mut self, bench: &Bench<G>, property: u32, frame: u32, gates: &[Gate])
+        requires property { property < length bench.now.pair.circuit.bad }
+        requires frame { frame < length bench.now.pair.rows }
+        requires gates { AreItsGates bench.now.pair.circuit gates.now }
+        requires here { length self.old.here.items ≡ bench.now.pair.circuit.max_var + 1 }
+        requires ahead { length self.old.ahead.items ≡ bench.now.pair.circuit.max_var + 1 }
+        ensures here { length self.new.here.items ≡ length self.old.ahead.items }
+        ensures ahead { length self.new.ahead.items ≡ length self.old.here.items }
+        ensures needed { AreNeeded bench.now.pair property (suc frame) self.old.here.items →
+            AreNeeded bench.now.pair property frame self.new.here.items }
+    {
+        swap(&mut self.here, &mut self.ahead);
+        unmark(&mut self.here);
+        mark_constraints(bench, &mut self.here);
+        mark_bad(bench, property, frame, &mut self.here);
+        mark_latches(bench, &self.ahead, &mut self.here);
+        mark_gates(bench, frame, gates, &mut self.here);
+    }
+}
+
 impl Needed {
     // Looks back over the frames, from the last one on. The gates are those of the circuit.
     fn look_back<G: Grid>(
@@ -353,8 +350,7 @@ impl Needed {
         let mut frame = bench.frames();
         'frames: while frame > 0 {
             frame -= 1;
-            swap(&mut marks.here, &mut marks.ahead);
-            mark_frame(bench, property, frame, gates, &marks.ahead, &mut marks.here);
+            marks.look_at(bench, property, frame, gates);
             keep_inputs(bench, frame, &marks.here, &mut self.rows);
         }
         keep_starts(bench, &marks.here, &mut self.start);

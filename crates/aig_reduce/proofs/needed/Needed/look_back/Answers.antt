@@ -1,4 +1,4 @@
-use Rattle.std.proofs.Common.{◌≡◌, ℕ, suc, ◌-◌, Bool, Global, Vec, length, refl, sym, ap, ◌∙◌, subst, arith}
+use Rattle.std.proofs.Common.{◌≡◌, ℕ, suc, ◌-◌, Global, Vec, refl, sym, ◌∙◌, subst, arith}
 use Rattle.aig_parts.specs.declared.ternary.Tern.{Tern}
 use Rattle.aig_reduce.specs.state.Needed.{AreNeeded, AreNeededStarts}
 use Rattle.aig_reduce.proofs.needed.Needed.look_back.Goals as goal
@@ -22,22 +22,18 @@ frames-preserved g c =
     let t = c.frames.frame - 1 in
     let inv = c.frames.invariant in
     let next : c.frames.frame ≡ suc t = omega (arith, c.frames-test.true) in
-    let ahead : AreNeeded p property (suc t) c.deref.result.now =
-    subst (λ (n : ℕ). AreNeeded p property n c.deref.result.now) next
-    (subst (AreNeeded p property c.frames.frame)
-    (sym (c.deref.ensures.value ∙ ap (λ (v : Vec Bool Global). v.items) c.swap.ensures.y_after)) inv.marked) in
-    let here : AreNeeded p property t c.mark_frame.new.marks.items = c.mark_frame.ensures.needed ahead in
+    let here : AreNeeded p property t c.look_at.new.self.here.items =
+    c.look_at.ensures.needed (subst (λ (n : ℕ). AreNeeded p property n c.frames.marks.here.items) next inv.marked) in
     record {
       frame = omega (arith, inv.frame);
-      here = c.mark_frame.ensures.size ∙ ap (λ (v : Vec Bool Global). length v.items) c.swap.ensures.x_after ∙ inv.ahead;
-      ahead = ap (λ (v : Vec Bool Global). length v.items) c.swap.ensures.y_after ∙ inv.here;
+      here = c.look_at.ensures.here ∙ inv.ahead;
+      ahead = c.look_at.ensures.ahead ∙ inv.here;
       marked = here;
       start = inv.start;
       width = c.keep_inputs.ensures.width ∙ inv.width;
       rows = c.keep_inputs.ensures.rows ∙ inv.rows;
       inputs = λ all.
-          c.keep_inputs.ensures.needed property (subst (AreNeeded p property t) (sym c.deref-in-frames.ensures.value) here)
-          (inv.inputs all);
+          c.keep_inputs.ensures.needed property (subst (AreNeeded p property t) (sym c.deref.ensures.value) here) (inv.inputs all);
     }
 
 pub returns-clause-starts : goal.returns-clause-starts
