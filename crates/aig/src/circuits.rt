@@ -123,16 +123,13 @@ pub fn select<R: AllocGlobal + Print, F: Read + Drop>(
         Ends end_of (OfFile file (Selects selection.from selection.into selection.positions.items to)) result) }
 {
     let mut circuit = Known::new(circuit);
+    let asked = select::Selection {
+        from: selection.from,
+        into: selection.into,
+        positions: selection.positions.as_slice(),
+    };
     let mut out = output(rt);
-    let done = select::select(
-        rt.alloc(),
-        &mut circuit,
-        selection.from,
-        selection.into,
-        selection.positions.as_slice(),
-        to,
-        &mut out,
-    );
+    let done = select::select(rt.alloc(), &mut circuit, asked, to, &mut out);
     streamed(done, &mut out, RunFault::Output)
 }
 

@@ -9,6 +9,7 @@ use crate::questions::read_claims;
 use aig_base::Std;
 use aig_command::RunFault;
 use aig_commands::question::Question;
+use aig_commands::refute::Proofs;
 use aig_commands::{cnf, model_witness, refute};
 use aig_files::{Exit, Part, output, read_whole};
 use std::io::Read;
@@ -77,9 +78,11 @@ pub fn refute<R: AllocGlobal + Print, F: Read + Drop>(
     let file = circuit.as_slice();
     let bytes = claims.as_slice();
     let asked = shape.with(bytes);
-    let mut proof = Std::new(proof);
-    let mut step = Std::new(step);
+    let mut proofs = Proofs {
+        proof: Std::new(proof),
+        step: Std::new(step),
+    };
     let mut out = output(rt);
-    let done = refute::refute(rt.alloc(), file, asked, &mut proof, &mut step, &mut out);
+    let done = refute::refute(rt.alloc(), file, asked, &mut proofs, &mut out);
     ended(done, &mut out, RunFault::Output)
 }

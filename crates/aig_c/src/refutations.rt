@@ -12,7 +12,7 @@ ghost use Rattle.aig_c.specs.Answers.{Refuses};
 use crate::answer::{NO_MEMORY, answer, refuse};
 use aig_base::{MemReader, MemWriter};
 use aig_commands::question::Question;
-use aig_commands::refute::refute;
+use aig_commands::refute::{Proofs, refute};
 use std::alloc::Global;
 
 /// Checks the proof of a question, and writes the line that answers. For an induction by steps, the second proof is
@@ -37,9 +37,11 @@ fn refute_by(
     let Ok(mut out) = MemWriter::new(alloc, room.len()) else {
         return NO_MEMORY;
     };
-    let mut first = MemReader::new(proof);
-    let mut second = MemReader::new(step);
-    match refute(alloc, circuit, question, &mut first, &mut second, &mut out) {
+    let mut proofs = Proofs {
+        proof: MemReader::new(proof),
+        step: MemReader::new(step),
+    };
+    match refute(alloc, circuit, question, &mut proofs, &mut out) {
         Ok(()) => answer(out.bytes(), room, written),
         Err(fault) => refuse(alloc, fault, room, written),
     }

@@ -11,9 +11,9 @@ ghost use Rattle.aig_commands.specs.ModelWitness.{RefusesModel, WritesModel, Wri
 ghost use Rattle.aig_commands.specs.Questions.{NamesFor, NamesQuestion, asked_of, heading_of};
 ghost use Rattle.aig_sat.specs.model.ModelText.{IsModelOf};
 
-use crate::named_run::find_named;
+use crate::named_run::NamedRun;
 use crate::question::{INDUCTION, Question, circuit_of, heading_of};
-use aig_base::{Circuit, Tern, Write};
+use aig_base::{Circuit, Write};
 use aig_cnf::{CnfFault, Formula, Heading, Query};
 use aig_command::RunFault;
 use aig_sat::{Assignment, ModelFault, read_model};
@@ -56,18 +56,16 @@ fn read_values(alloc: Global, model: &[u8], variables: u32) -> Result<Assignment
 fn find_and_write<W: Write>(
     alloc: Global,
     circuit: &Circuit,
-    frames: u32,
-    property: u32,
-    values: &[Tern],
+    named: &NamedRun<'_>,
     out: &mut W,
 ) -> Result<(), RunFault>
-    requires property { property < length circuit.now.bad }
-    requires limits { FitsLimits circuit.now frames }
-    requires values { input_count circuit.now frames < length values.now }
+    requires property { named.now.property < length circuit.now.bad }
+    requires limits { FitsLimits circuit.now named.now.frames }
+    requires values { input_count circuit.now named.now.frames < length named.now.values.now }
     ensures { CommandEnds (flow W.written W.failures out.old out.new) RunFault.Output
-        (WritesNamed frames property values.now circuit.now) result }
+        (WritesNamed named.now.frames named.now.property named.now.values.now circuit.now) result }
 {
-    let run = find_named(alloc, circuit, frames, property, values)?;
+    let run = named.find(alloc, circuit)?;
     run.write(out)
 }
 
@@ -84,14 +82,12 @@ fn read_model_and_write<W: Write>(
 {
     let size = size_of(alloc, circuit, query)?;
     let values = read_values(alloc, model, size.variables)?;
-    find_and_write(
-        alloc,
-        circuit,
-        size.depth,
-        query.property,
-        values.as_slice(),
-        out,
-    )
+    let named = NamedRun {
+        frames: size.depth,
+        property: query.property,
+        values: values.as_slice(),
+    };
+    find_and_write(alloc, circuit, &named, out)
 }
 
 /// Writes the witness of the run that a model of a question's formula names.

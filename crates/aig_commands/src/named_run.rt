@@ -106,27 +106,32 @@ fn find_in_row(
     })
 }
 
-/// The run that the values of a formula's variables name, up to the first frame that reaches a property.
-pub(crate) fn find_named(
-    alloc: Global,
-    circuit: &Circuit,
-    frames: u32,
-    property: u32,
-    values: &[Tern],
-) -> Result<FoundRun, ReachFault>
-    requires property { property < length circuit.now.bad }
-    requires limits { FitsLimits circuit.now frames }
-    requires values { input_count circuit.now frames < length values.now }
-    ensures start { IfOk result (λ run. run.start.items ≡ named_start circuit.now frames values.now) }
-    ensures rows { IfOk result (λ run. run.rows.rows ≡ named_rows circuit.now frames values.now) }
-    ensures reached { IfOk result (λ run. IsFirstReached circuit.now run.start.items run.rows.rows (Some property)
-        run.reached.frame run.reached.property) }
-    ensures none { IfErr result (λ fault. WritesNamed frames property values.now circuit.now
-        (Err (RunFault.Reach fault)) []) }
-{
-    circuit.facts();
-    let inputs = unrolled_inputs(circuit, frames);
-    let (_false, rest) = values.split_at(1);
-    let (row, _gates) = rest.split_at(inputs);
-    find_in_row(alloc, circuit, frames, property, row)
+/// The values of a formula's variables. They name a run of so many frames, which is to reach a property.
+#[derive(Clone, Copy)]
+pub(crate) struct NamedRun<'a> {
+    pub frames: u32,
+    pub property: u32,
+    pub values: &'a [Tern],
+}
+
+impl NamedRun<'_> {
+    /// The run, up to the first frame that reaches the property.
+    pub(crate) fn find(&self, alloc: Global, circuit: &Circuit) -> Result<FoundRun, ReachFault>
+        requires property { self.now.property < length circuit.now.bad }
+        requires limits { FitsLimits circuit.now self.now.frames }
+        requires values { input_count circuit.now self.now.frames < length self.now.values.now }
+        ensures start { IfOk result (λ run. run.start.items
+            ≡ named_start circuit.now self.now.frames self.now.values.now) }
+        ensures rows { IfOk result (λ run. run.rows.rows ≡ named_rows circuit.now self.now.frames self.now.values.now) }
+        ensures reached { IfOk result (λ run. IsFirstReached circuit.now run.start.items run.rows.rows
+            (Some self.now.property) run.reached.frame run.reached.property) }
+        ensures none { IfErr result (λ fault. WritesNamed self.now.frames self.now.property self.now.values.now
+            circuit.now (Err (RunFault.Reach fault)) []) }
+    {
+        circuit.facts();
+        let inputs = unrolled_inputs(circuit, self.frames);
+        let (_false, rest) = self.values.split_at(1);
+        let (row, _gates) = rest.split_at(inputs);
+        find_in_row(alloc, circuit, self.frames, self.property, row)
+    }
 }

@@ -18,6 +18,15 @@ use aig_refute::check;
 use aig_sat::ProofFault;
 use std::alloc::Global;
 
+/// The proofs of a question.
+#[derive(Drop)]
+pub struct Proofs<R, S> {
+    /// That no assignment satisfies the formula.
+    pub proof: R,
+    /// For an induction by steps, that none satisfies the formula of the step.
+    pub step: S,
+}
+
 /// Checks a proof that no assignment satisfies the formula of a question.
 fn check_formula<R: Read>(
     alloc: Global,
@@ -56,14 +65,13 @@ fn check_step<R: Read, S: Read>(
     alloc: Global,
     circuit: &mut Circuit,
     query: Query,
-    proof: &mut R,
-    step: &mut S,
+    proofs: &mut Proofs<R, S>,
 ) -> Result<(), RunFault>
     ensures checks { ChecksStep query.frames query.property circuit.old result }
-    ensures reads { R.failures proof.new ≡ R.failures proof.old + proof_reads_failed result }
-    ensures step { S.failures step.new ≡ S.failures step.old + step_reads_failed result }
-    ensures whole { result ≡ Err (RunFault.Proof ProofFault.NoRefutation) → IfSome (R.left proof.old) IsProof }
-    ensures whole_step { result ≡ Err (RunFault.StepProof ProofFault.NoRefutation) → IfSome (S.left step.old) IsProof }
+    ensures reads { R.failures proofs.new.proof ≡ R.failures proofs.old.proof + proof_reads_failed result }
+    ensures step { S.failures proofs.new.step ≡ S.failures proofs.old.step + step_reads_failed result }
+    ensures whole { result ≡ Err (RunFault.Proof ProofFault.NoRefutation) → IfSome (R.left proofs.old.proof) IsProof }
+    ensures whole_step { result ≡ Err (RunFault.StepProof ProofFault.NoRefutation) → IfSome (S.left proofs.old.step) IsProof }
 {
     circuit.facts();
     let within = Query {
@@ -77,8 +85,8 @@ fn check_step<R: Read, S: Read>(
     let base = Formula::of(alloc, circuit, within)?;
     let later = Formula::of(alloc, circuit, stepped)?;
     circuit.facts();
-    check(alloc, &base, proof)?;
-    check_later(alloc, &later, step)
+    check(alloc, &base, &mut proofs.proof)?;
+    check_later(alloc, &later, &mut proofs.step)
 }
 
 /// Checks the proof of a question, and for an induction by steps the proof of the step.
@@ -86,22 +94,21 @@ fn check_question<R: Read, S: Read>(
     alloc: Global,
     circuit: &mut Circuit,
     question: Question<&[u8]>,
-    proof: &mut R,
-    step: &mut S,
+    proofs: &mut Proofs<R, S>,
 ) -> Result<(), RunFault>
     ensures checks { ChecksFor (asked_of question.entry) circuit.old result }
-    ensures reads { R.failures proof.new ≡ R.failures proof.old + proof_reads_failed result }
-    ensures step { S.failures step.new ≡ S.failures step.old + step_reads_failed result }
-    ensures whole { result ≡ Err (RunFault.Proof ProofFault.NoRefutation) → IfSome (R.left proof.old) IsProof }
-    ensures whole_step { result ≡ Err (RunFault.StepProof ProofFault.NoRefutation) → IfSome (S.left step.old) IsProof }
+    ensures reads { R.failures proofs.new.proof ≡ R.failures proofs.old.proof + proof_reads_failed result }
+    ensures step { S.failures proofs.new.step ≡ S.failures proofs.old.step + step_reads_failed result }
+    ensures whole { result ≡ Err (RunFault.Proof ProofFault.NoRefutation) → IfSome (R.left proofs.old.proof) IsProof }
+    ensures whole_step { result ≡ Err (RunFault.StepProof ProofFault.NoRefutation) → IfSome (S.left proofs.old.step) IsProof }
 {
     circuit.facts();
     let query = query_of(question);
     match query.goal {
-        Goal::Within => check_formula(alloc, circuit, question, proof),
-        Goal::Last => check_formula(alloc, circuit, question, proof),
-        Goal::Step => check_step(alloc, circuit, query, proof, step),
-        Goal::Induction => check_formula(alloc, circuit, question, proof),
+        Goal::Within => check_formula(alloc, circuit, question, &mut proofs.proof),
+        Goal::Last => check_formula(alloc, circuit, question, &mut proofs.proof),
+        Goal::Step => check_step(alloc, circuit, query, proofs),
+        Goal::Induction => check_formula(alloc, circuit, question, &mut proofs.proof),
     }
 }
 
@@ -110,19 +117,18 @@ fn read_and_check<R: Read, S: Read>(
     alloc: Global,
     file: &[u8],
     question: Question<&[u8]>,
-    proof: &mut R,
-    step: &mut S,
+    proofs: &mut Proofs<R, S>,
 ) -> Result<(), RunFault>
     ensures checks { IsChecked (asked_of question.entry) file.now result }
     ensures says { OnOk result (Says (asked_of question.entry) file.now) }
-    ensures reads { R.failures proof.new ≡ R.failures proof.old + proof_reads_failed result }
-    ensures step { S.failures step.new ≡ S.failures step.old + step_reads_failed result }
-    ensures whole { result ≡ Err (RunFault.Proof ProofFault.NoRefutation) → IfSome (R.left proof.old) IsProof }
-    ensures whole_step { result ≡ Err (RunFault.StepProof ProofFault.NoRefutation) → IfSome (S.left step.old) IsProof }
+    ensures reads { R.failures proofs.new.proof ≡ R.failures proofs.old.proof + proof_reads_failed result }
+    ensures step { S.failures proofs.new.step ≡ S.failures proofs.old.step + step_reads_failed result }
+    ensures whole { result ≡ Err (RunFault.Proof ProofFault.NoRefutation) → IfSome (R.left proofs.old.proof) IsProof }
+    ensures whole_step { result ≡ Err (RunFault.StepProof ProofFault.NoRefutation) → IfSome (S.left proofs.old.step) IsProof }
 {
     let mut circuit = circuit_of(alloc, question, file)?;
     circuit.facts();
-    check_question(alloc, &mut circuit, question, proof, step)
+    check_question(alloc, &mut circuit, question, proofs)
 }
 
 /// Writes the line that answers.
@@ -187,21 +193,20 @@ pub fn refute<R: Read, S: Read, W: Write>(
     alloc: Global,
     file: &[u8],
     question: Question<&[u8]>,
-    proof: &mut R,
-    step: &mut S,
+    proofs: &mut Proofs<R, S>,
     out: &mut W,
 ) -> Result<(), RunFault>
     ensures says { OnOk result (Says (asked_of question.entry) file.now) }
     ensures ends { CommandEnds (flow W.written W.failures out.old out.new) RunFault.Output
         (RefutesQuestion (asked_of question.entry) file.now) result }
     ensures reads { result ≢ Err RunFault.Output →
-        R.failures proof.new ≡ R.failures proof.old + proof_reads_failed result }
+        R.failures proofs.new.proof ≡ R.failures proofs.old.proof + proof_reads_failed result }
     ensures step { result ≢ Err RunFault.Output →
-        S.failures step.new ≡ S.failures step.old + step_reads_failed result }
-    ensures whole { result ≡ Err (RunFault.Proof ProofFault.NoRefutation) → IfSome (R.left proof.old) IsProof }
-    ensures whole_step { result ≡ Err (RunFault.StepProof ProofFault.NoRefutation) → IfSome (S.left step.old) IsProof }
+        S.failures proofs.new.step ≡ S.failures proofs.old.step + step_reads_failed result }
+    ensures whole { result ≡ Err (RunFault.Proof ProofFault.NoRefutation) → IfSome (R.left proofs.old.proof) IsProof }
+    ensures whole_step { result ≡ Err (RunFault.StepProof ProofFault.NoRefutation) → IfSome (S.left proofs.old.step) IsProof }
 {
-    let checked = read_and_check(alloc, file, question, proof, step);
+    let checked = read_and_check(alloc, file, question, proofs);
     let query = query_of(question);
     write_checked(checked, query.goal, query.frames, out)
 }

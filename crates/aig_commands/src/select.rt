@@ -12,21 +12,32 @@ use aig_format::{Format, read_from};
 use aig_signals::named;
 use std::alloc::Global;
 
-/// Selects properties of a circuit, and writes it in a format.
-fn write_selected<W: Write>(
-    alloc: Global,
-    circuit: &mut Circuit,
-    from: PropertySection,
-    into: PropertySection,
-    named: &[u32],
-    to: Format,
-    out: &mut W,
-) -> Result<(), RunFault>
-    ensures { CommandEnds (flow W.written W.failures out.old out.new) RunFault.Output
-        (Selects from into named.now to circuit.old) result }
-{
-    circuit.select(alloc, from, into, named)?;
-    write_converted(alloc, circuit, to, out)
+/// Which properties of a circuit to keep, and where.
+#[derive(Clone, Copy)]
+pub struct Selection<'a> {
+    /// The section that has them.
+    pub from: PropertySection,
+    /// The section that they go to.
+    pub into: PropertySection,
+    /// Their positions, counted from 0; all of the section if there is none.
+    pub positions: &'a [u32],
+}
+
+impl Selection<'_> {
+    /// Keeps them in a circuit, and writes it in a format.
+    fn write_selected<W: Write>(
+        &self,
+        alloc: Global,
+        circuit: &mut Circuit,
+        to: Format,
+        out: &mut W,
+    ) -> Result<(), RunFault>
+        ensures { CommandEnds (flow W.written W.failures out.old out.new) RunFault.Output
+            (Selects self.now.from self.now.into self.now.positions.now to circuit.old) result }
+    {
+        circuit.select(alloc, self.from, self.into, self.positions)?;
+        write_converted(alloc, circuit, to, out)
+    }
 }
 
 /// The command `select`: reads a circuit and writes it in a format, as `convert_from` does, with some of its properties
@@ -37,17 +48,16 @@ fn write_selected<W: Write>(
 pub fn select<R: Read, W: Write>(
     alloc: Global,
     circuit: &mut R,
-    from: PropertySection,
-    into: PropertySection,
-    named: &[u32],
+    selection: Selection<'_>,
     to: Format,
     out: &mut W,
 ) -> Result<(), RunFault>
     ensures ends { CommandEnds (flow W.written W.failures out.old out.new) RunFault.Output
-        (OfReader (flow R.left R.failures circuit.old circuit.new) (Selects from into named.now to)) result }
+        (OfReader (flow R.left R.failures circuit.old circuit.new)
+        (Selects selection.entry.from selection.entry.into selection.entry.positions.now to)) result }
 {
     match read_from(alloc, circuit) {
-        Ok(mut circuit) => write_selected(alloc, &mut circuit, from, into, named, to, out),
+        Ok(mut circuit) => selection.write_selected(alloc, &mut circuit, to, out),
         Err(fault) => Err(RunFault::Circuit(fault)),
     }
 }

@@ -15,14 +15,14 @@ returns-clause-says g c =
 pub returns-in_err-circuit-clause-reads : goal.returns-in_err-circuit-clause-reads
 returns-in_err-circuit-clause-reads g c =
     let part = c.in_err-circuit.field-0.0 in
-    no_proof_read (g.R.Read.failures c.args.proof.now) part
+    no_proof_read (g.R.Read.failures c.args.proofs.now.proof) part
     (of_files (certificate_of (asked_of c.args.question)) c.args.file.now part c.in_err-circuit.ensures.refused) c.from_residual.result
     c.from_residual.ensures.1
 
 pub returns-in_err-circuit-clause-step : goal.returns-in_err-circuit-clause-step
 returns-in_err-circuit-clause-step g c =
     let part = c.in_err-circuit.field-0.0 in
-    no_step_read (g.S.Read.failures c.args.step.now) part
+    no_step_read (g.S.Read.failures c.args.proofs.now.step) part
     (of_files (certificate_of (asked_of c.args.question)) c.args.file.now part c.in_err-circuit.ensures.refused) c.from_residual.result
     c.from_residual.ensures.1
 

@@ -23,13 +23,13 @@ returns-clause-ends g c =
 
 pub returns-clause-reads : goal.returns-clause-reads
 returns-clause-reads g c = λ other.
-    c.read_and_check-checked.ensures.reads ∙ ap (λ r. g.R.Read.failures c.args.proof.now + proof_reads_failed r)
+    c.read_and_check-checked.ensures.reads ∙ ap (λ r. g.R.Read.failures c.args.proofs.now.proof + proof_reads_failed r)
     (sym (answer_is (flow g.W.Write.written g.W.Write.failures c.args.out.now c.write_checked.new.out) (line_of c.query_of-query.result)
     c.read_and_check-checked.result c.write_checked.result c.write_checked.ensures other))
 
 pub returns-clause-step : goal.returns-clause-step
 returns-clause-step g c = λ other.
-    c.read_and_check-checked.ensures.step ∙ ap (λ r. g.S.Read.failures c.args.step.now + step_reads_failed r)
+    c.read_and_check-checked.ensures.step ∙ ap (λ r. g.S.Read.failures c.args.proofs.now.step + step_reads_failed r)
     (sym (answer_is (flow g.W.Write.written g.W.Write.failures c.args.out.now c.write_checked.new.out) (line_of c.query_of-query.result)
     c.read_and_check-checked.result c.write_checked.result c.write_checked.ensures other))
 

@@ -11,7 +11,7 @@ returns-in-Ok g c =
           let h = c.in-Ok.ensures in
           ends_of_reader (flow g.R.Read.left g.R.Read.failures c.args.circuit.now c.read_from.new.reader)
           (flow g.W.Write.written g.W.Write.failures c.args.out.now c.write_selected.new.out) run_faults.Output
-          (Selects c.args.from c.args.into c.args.named.now c.args.to) c.in-Ok.circuit (λ fault bytes h. h.1)
+          (Selects c.args.selection.from c.args.selection.into c.args.selection.positions.now c.args.to) c.in-Ok.circuit (λ fault bytes h. h.1)
           h.answers h.circuit h.io c.write_selected.result c.write_selected.ensures;
     }
 
@@ -22,5 +22,5 @@ returns-in-Err g c =
           let h = c.in-Err.ensures in
           reader_refused (flow g.R.Read.left g.R.Read.failures c.args.circuit.now c.read_from.new.reader)
           g.W.Write.written g.W.Write.failures c.args.out.now run_faults.Output
-          (Selects c.args.from c.args.into c.args.named.now c.args.to) c.in-Err.fault h.answers h.io;
+          (Selects c.args.selection.from c.args.selection.into c.args.selection.positions.now c.args.to) c.in-Err.fault h.answers h.io;
     }
