@@ -9,7 +9,7 @@ ghost use Rattle.aig_commands.specs.Toaig.{Converts};
 ghost use Rattle.aig_commands.specs.Unroll.{UnrollsKept};
 ghost use Rattle.aig.specs.Ends.{Ends, EndsSelectingNamed, end_of};
 
-use crate::command::Selection;
+use crate::command::{Selection, UnrollAndMap};
 use crate::ended::{ended, streamed};
 use crate::kept::{begin_map, write_map};
 use aig_command::{RunFault, flushed};
@@ -17,7 +17,7 @@ use aig_commands::select::NamedSelection;
 use aig_commands::{convert_from, info, select, unroll};
 use aig_files::{Exit, Known, OutputFile, Part, Terminal, output, read_whole};
 use aig_format::Format;
-use std::fs::{Files, Metadata};
+use std::fs::Files;
 use std::io::Read;
 use std::os::fd::AsFd;
 use std::time::Clock;
@@ -53,25 +53,20 @@ pub fn unroll<R: AllocGlobal + Print, F: Read + Drop>(
     ended(done, &mut out, RunFault::Output)
 }
 
-/// Writes it, and to the file `map` what its inputs are. `opened` is the circuit's file, which the map must not
-/// replace.
+/// Writes it, and to the file `map` what its inputs are.
 pub fn unroll_and_map<R: Files + AllocGlobal + Print + Eprint + Clock, F: Read + Drop>(
     terminal: &Terminal<'_, R>,
-    frames: u32,
-    to: Format,
-    circuit: F,
-    opened: &Metadata,
-    map: &str,
+    it: UnrollAndMap<'_, F>,
 ) -> Result<(), Exit>
 where
     R::File: AsFd,
     ensures done { OnOk result
-        (IfSome (F.remaining circuit) (λ text. GoesWell (OfFile text (UnrollsKept frames to)))) }
+        (IfSome (F.remaining it.entry.circuit) (λ text. GoesWell (OfFile text (UnrollsKept it.entry.frames it.entry.to)))) }
 {
-    let circuit = read_whole(terminal.alloc(), circuit, Part::Circuit)?;
+    let circuit = read_whole(terminal.alloc(), it.circuit, Part::Circuit)?;
     let file = circuit.as_slice();
-    let mut map = begin_map(terminal.runtime(), map, opened)?;
-    write_unrolled_and_map(terminal, frames, to, file, &mut map)
+    let mut map = begin_map(terminal.runtime(), it.map, &it.file)?;
+    write_unrolled_and_map(terminal, it.frames, it.to, file, &mut map)
 }
 
 fn write_unrolled_and_map<R: Files + AllocGlobal + Print + Eprint + Clock>(

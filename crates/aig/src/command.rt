@@ -240,9 +240,7 @@ impl<F: Read + Drop> Command<'_, F> {
             Command::Bench(it) => bench(terminal, it.circuit, it.stimulus, it.script, it.kept),
             Command::Shell(it) => shell(terminal, it.circuit, it.given),
             Command::Unroll(it) => unroll(terminal, it.frames, it.to, it.circuit),
-            Command::UnrollAndMap(it) => {
-                unroll_and_map(terminal, it.frames, it.to, it.circuit, &it.file, it.map)
-            }
+            Command::UnrollAndMap(it) => unroll_and_map(terminal, it),
             Command::Check(it) => {
                 check(terminal, it.with_trace, it.property, it.circuit, it.witness)
             }

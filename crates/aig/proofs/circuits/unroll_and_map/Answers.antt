@@ -8,7 +8,7 @@ pub returns : goal.returns
 returns g c =
     record {
       done =
-          ok_whole c.write_unrolled_and_map.result (g.F.Read.remaining c.args.circuit) c.as_slice-file.result.now
-          (slice_whole (g.F.Read.remaining c.args.circuit) _ _ c.as_slice-file.ensures.value c.in_ok-circuit.ensures.whole)
-          (λ xs. GoesWell (OfFile xs (UnrollsKept c.args.frames c.args.to))) c.write_unrolled_and_map.ensures;
+          ok_whole c.write_unrolled_and_map.result (g.F.Read.remaining c.args.it.circuit) c.as_slice-file.result.now
+          (slice_whole (g.F.Read.remaining c.args.it.circuit) _ _ c.as_slice-file.ensures.value c.in_ok-circuit.ensures.whole)
+          (λ xs. GoesWell (OfFile xs (UnrollsKept c.args.it.frames c.args.it.to))) c.write_unrolled_and_map.ensures;
     }
