@@ -1,5 +1,5 @@
 -- What a call for C asks, by its flag.
-use Rattle.std.proofs.Common.{◌≡◌, ℕ, List, Result, Err, refl, subst}
+use Rattle.std.proofs.Common.{◌≡◌, ℕ, List, Result, Ok, Err, refl, subst}
 use Rattle.std.specs.Prelude.{Bool, true, false}
 use Rattle.aig_command.specs.Command.{OfFile}
 use Rattle.aig_command.specs.declared.run_fault.RunFault.{RunFault}
@@ -7,7 +7,7 @@ use Rattle.aig_commands.specs.Cnf.{WritesFormula}
 use Rattle.aig_commands.specs.ModelWitness.{WritesModel}
 use Rattle.aig_commands.specs.Questions.{Asked, NamesQuestion, WritesQuestion}
 use Rattle.aig_commands.specs.declared.question.Question.TheVariants as questions
-use Rattle.aig_c.specs.Answers.{Refuses, query_of}
+use Rattle.aig_c.specs.Answers.{Exceeds, Refuses, query_of}
 
 -- a step, or some frames
 module _ (P : Asked → Type 0) (Q : Bool → Type 0) (k p : ℕ) (at_step : P (questions.Step k p) → Q true)
@@ -30,6 +30,12 @@ pub formula_refused : (file : List ℕ) (step : Bool) (k p : ℕ) (asked : Asked
 formula_refused file step k p asked steps within (fault, one, (bytes, means)) =
     (fault, one, (bytes, formula file step k p asked steps within (Err fault) bytes means))
 
+pub formula_exceeds : (file : List ℕ) (step : Bool) (k p : ℕ) (asked : Asked) → (step ≡ true → asked ≡ questions.Step k p)
+    → (step ≡ false → asked ≡ questions.Within k p) → (room : ℕ) → Exceeds room (WritesQuestion asked file)
+    → Exceeds room (OfFile file (WritesFormula (query_of step k p)))
+formula_exceeds file step k p asked steps within room (value, bytes, means, longer) =
+    (value, bytes, formula file step k p asked steps within (Ok value) bytes means, longer)
+
 pub model : (file text : List ℕ) (step : Bool) (k p : ℕ) (asked : Asked) → (step ≡ true → asked ≡ questions.Step k p)
     → (step ≡ false → asked ≡ questions.Within k p) → (answer : Result (Unit {0}) RunFault) (bytes : List ℕ)
     → NamesQuestion asked text file answer bytes → OfFile file (WritesModel (query_of step k p) text) answer bytes
@@ -42,3 +48,9 @@ pub model_refused : (file text : List ℕ) (step : Bool) (k p : ℕ) (asked : As
     → Refuses (OfFile file (WritesModel (query_of step k p) text))
 model_refused file text step k p asked steps within (fault, one, (bytes, means)) =
     (fault, one, (bytes, model file text step k p asked steps within (Err fault) bytes means))
+
+pub model_exceeds : (file text : List ℕ) (step : Bool) (k p : ℕ) (asked : Asked) → (step ≡ true → asked ≡ questions.Step k p)
+    → (step ≡ false → asked ≡ questions.Within k p) → (room : ℕ) → Exceeds room (NamesQuestion asked text file)
+    → Exceeds room (OfFile file (WritesModel (query_of step k p) text))
+model_exceeds file text step k p asked steps within room (value, bytes, means, longer) =
+    (value, bytes, model file text step k p asked steps within (Ok value) bytes means, longer)

@@ -1,17 +1,18 @@
 -- What a call for C returns, from how the command ended on a writer that was empty.
-use Rattle.std.proofs.Common.{◌≡◌, ℕ, List, [], ◌++◌, Result, Ok, Err, refl, sym, ap, ◌∙◌, subst}
+use Rattle.std.proofs.Common.{◌≡◌, ℕ, ◌+◌, ◌<◌, List, [], ◌++◌, length, Result, Ok, Err, refl, sym, ap, ◌∙◌, subst, arith}
 use Rattle.std.specs.Prelude.{Option, Some}
-use Rattle.std.proofs.lemmas.List.{append-nil}
+use Rattle.std.proofs.lemmas.List.{append-nil, append_assoc, length-append}
 use Rattle.std.proofs.lemmas.Option.{same_Some}
 use Rattle.aig_bytes.specs.Bytes.{before, after, IsAtEnd}
 use Rattle.aig_bytes.specs.Flow.{Flow, flow}
 use Rattle.aig_parts.specs.declared.raw.Raw.{Raw}
-use Rattle.aig_command.specs.Command.{CommandEnds, EndsReading, OfFile, OfReader, Text}
+use Rattle.aig_command.specs.Command.{CommandEnds, EndsReading, OfFile, OfReader, Text, WritesAll}
 use Rattle.aig_command.specs.Status.{status_of}
 use Rattle.aig_command.specs.declared.run_fault.RunFault.{RunFault}
 use Rattle.aig_command.specs.declared.run_fault.RunFault.TheVariants as run_faults
 use Rattle.aig_command.specs.declared.script_fault.ScriptFault.TheVariants as scripts
-use Rattle.aig_c.specs.Answers.{Refuses}
+use Rattle.aig_c.specs.Answers.{Exceeds, ExceedsReading, Refuses}
+use Rattle.aig_c.proofs.Silent.{Silent, of_reader}
 
 abbrev status_of_answer : {T : Type 0} → Result T RunFault → ℕ
 status_of_answer (Ok _) = 0
@@ -33,6 +34,46 @@ pub refused : {X T : Type 0} {written : X → Option (List ℕ)} {failures : X �
     → CommandEnds (flow written failures old new) run_faults.Output Means (Err fault) → Refuses Means
 refused Means fault one (CommandEnds.writes_all bytes means all) = (fault, one, (bytes, means))
 refused Means fault one (CommandEnds.breaks_off answer bytes means part) = let no : ⊥ = cc in absurd no
+
+-- ---- it wrote more than a room has
+
+-- it ended well
+pub exceeds : {X T : Type 0} {written : X → Option (List ℕ)} {failures : X → ℕ} {old new : X} {value : T}
+    (Means : Result T RunFault → List ℕ → Type 0) (bytes got : List ℕ) (room : ℕ)
+    → written old ≡ Some [] → written new ≡ Some bytes → got ≡ bytes → room < length got
+    → CommandEnds (flow written failures old new) run_faults.Output Means (Ok value) → Exceeds room Means
+exceeds {value = value} Means bytes got room empty is copied longer ends =
+    (value, got, done Means bytes got empty is copied ends, longer)
+
+-- what it wrote, from nothing on
+wrote : {X : Type 0} (written : X → Option (List ℕ)) (old new : X) (text part : List ℕ)
+    → written new ≡ after (written old) text → written old ≡ Some [] → written new ≡ Some part → part ≡ text
+wrote written old new text part got empty is =
+    same_Some part text (sym is ∙ (got ∙ subst (λ (o : Option (List ℕ)). after o text ≡ Some text) (sym empty) refl))
+
+not_longer : (room : ℕ) (bytes : List ℕ) → bytes ≡ [] → room < length bytes → ⊥
+not_longer room bytes none longer = omega (arith, longer, ap length none)
+
+all_longer : (room : ℕ) (part text all rest : List ℕ) → part ≡ text → all ≡ text ++ rest → room < length part → room < length all
+all_longer room part text all rest part_is all_is longer =
+    omega (arith, longer, ap length part_is, ap length all_is, length-append text rest)
+
+-- it ended with a fault, and so wrote a part of what it writes if it goes well
+pub exceeds_part : {X T : Type 0} {written : X → Option (List ℕ)} {failures : X → ℕ} {old new : X}
+    (Means : Result T RunFault → List ℕ → Type 0) → Silent Means → (fault : RunFault) (part got : List ℕ) (room : ℕ)
+    → written old ≡ Some [] → written new ≡ Some part → got ≡ part → room < length got
+    → CommandEnds (flow written failures old new) run_faults.Output Means (Err fault) → Exceeds room Means
+exceeds_part {written = written} {old = old} {new = new} Means silent fault part got room empty is copied longer (CommandEnds.writes_all bytes means all) =
+    absurd (not_longer room got
+    (copied ∙ (wrote written old new bytes part all.got empty is ∙ silent fault bytes means)) longer)
+exceeds_part {T = T} {written = written} {old = old} {new = new} Means silent fault part got room empty is copied longer (CommandEnds.breaks_off answer bytes means off) =
+    by_answer answer means
+    (all_longer room got off.done bytes off.beginning.0 (copied ∙ wrote written old new off.done part off.got empty is)
+    off.beginning.1 longer)
+  where
+    by_answer : (answer : Result T RunFault) → Means answer bytes → room < length bytes → Exceeds room Means
+    by_answer (Ok value) means longer = (value, bytes, means, longer)
+    by_answer (Err other) means longer = absurd (not_longer room bytes (silent other bytes means) longer)
 
 -- ---- a command that reads the circuit, from a reader that holds a file
 
@@ -59,6 +100,29 @@ refused_reading Means file fault holds one (CommandEnds.writes_all bytes means a
   ),
 )
 refused_reading Means file fault holds one (CommandEnds.breaks_off answer bytes means part) = let no : ⊥ = cc in absurd no
+
+well_read : {Y T : Type 0} {circuit : Flow Y} (Means : Raw → Result T RunFault → List ℕ → Type 0) (file : List ℕ) (room : ℕ)
+    → circuit.bytes circuit.old ≡ Some file → Exceeds room (OfReader circuit Means) → Exceeds room (OfFile file Means)
+well_read Means file room holds (value, bytes, means, longer) =
+    (value, bytes, means.of_file file holds (λ same. let no : ⊥ = cc in no), longer)
+
+pub exceeds_reading : {X Y T : Type 0} {written : X → Option (List ℕ)} {failures : X → ℕ} {old new : X}
+    {circuit : Flow Y} {value : T} (Means : Raw → Result T RunFault → List ℕ → Type 0) (file bytes got : List ℕ) (room : ℕ)
+    → circuit.bytes circuit.old ≡ Some file → written old ≡ Some [] → written new ≡ Some bytes → got ≡ bytes
+    → room < length got → CommandEnds (flow written failures old new) run_faults.Output (OfReader circuit Means) (Ok value)
+    → Exceeds room (OfFile file Means)
+exceeds_reading {circuit = circuit} Means file bytes got room holds empty is copied longer ends =
+    well_read Means file room holds (exceeds (OfReader circuit Means) bytes got room empty is copied longer ends)
+
+pub exceeds_part_reading : {X Y T : Type 0} {written : X → Option (List ℕ)} {failures : X → ℕ} {old new : X}
+    {circuit : Flow Y} (Means : Raw → Result T RunFault → List ℕ → Type 0) → ((raw : Raw) → Silent (Means raw))
+    → (file : List ℕ) (fault : RunFault) (part got : List ℕ) (room : ℕ)
+    → circuit.bytes circuit.old ≡ Some file → written old ≡ Some [] → written new ≡ Some part → got ≡ part
+    → room < length got → CommandEnds (flow written failures old new) run_faults.Output (OfReader circuit Means) (Err fault)
+    → Exceeds room (OfFile file Means)
+exceeds_part_reading {circuit = circuit} Means silent file fault part got room holds empty is copied longer ends =
+    well_read Means file room holds
+    (exceeds_part (OfReader circuit Means) (of_reader Means silent circuit) fault part got room empty is copied longer ends)
 
 -- ---- a command that reads a text meanwhile, from a reader that holds it
 
@@ -88,3 +152,63 @@ pub refused_script : {X Y T : Type 0} {reader : Flow Y} {out : Flow X}
 refused_script Means fault one (EndsReading.writes_all well all) = (all.text, (fault, one, (all.bytes, all.means)))
 refused_script Means fault one (EndsReading.stops_reading all) = let no : ⊥ = cc in absurd no
 refused_script Means fault one (EndsReading.breaks_off part) = let no : ⊥ = cc in absurd no
+
+-- it ended well: what it wrote for the whole text
+pub exceeds_script : {X Y T : Type 0} {written : X → Option (List ℕ)} {failures : X → ℕ} {old new : X} {reader : Flow Y}
+    {value : T} (Means : Text → Result T RunFault → List ℕ → Type 0) (script rest bytes got : List ℕ) (room : ℕ)
+    → reader.bytes reader.old ≡ Some script → reader.bytes reader.new ≡ Some rest
+    → written old ≡ Some [] → written new ≡ Some bytes → got ≡ bytes → room < length got
+    → EndsReading reader (flow written failures old new) script_io Means (Ok value)
+    → ExceedsReading room script Means
+exceeds_script {value = value} Means script rest bytes got room holds left empty is copied longer ends =
+    let well = done_script Means script rest bytes got holds left empty is copied ends in
+    (well.0, ([], sym well.1 ∙ sym (append-nil well.0.bytes)), (Ok value, got, well.2, longer))
+
+-- the script, from what was read of it and what is left
+read_of : (script rest text : List ℕ) (old new : Option (List ℕ)) → old ≡ Some script → new ≡ Some rest → old ≡ before text new
+    → script ≡ text ++ rest
+read_of script rest text old new holds left gave = same_Some script (text ++ rest) (sym holds ∙ (gave ∙ ap (before text) left))
+
+wrote_all : {X Y T : Type 0} {written : X → Option (List ℕ)} {failures : X → ℕ} {old new : X} {reader : Flow Y} {failed : ℕ}
+    {answer : Result T RunFault} (Means : Text → Result T RunFault → List ℕ → Type 0) (script rest part got : List ℕ) (room : ℕ)
+    → reader.bytes reader.old ≡ Some script → reader.bytes reader.new ≡ Some rest
+    → written old ≡ Some [] → written new ≡ Some part → got ≡ part → room < length got
+    → WritesAll reader (flow written failures old new) failed Means answer → ExceedsReading room script Means
+wrote_all {written = written} {old = old} {new = new} {reader = reader} {answer = answer} Means script rest part got room holds left empty is copied longer all = (
+  all.text,
+  (rest, read_of script rest all.text.bytes (reader.bytes reader.old) (reader.bytes reader.new) holds left all.gave.gave),
+  (
+    answer,
+    all.bytes,
+    all.means,
+    subst (λ bytes. room < length bytes) (copied ∙ wrote written old new all.bytes part all.got.got empty is) longer,
+  ),
+)
+
+-- it ended with a fault: it wrote a part of what it writes for a beginning of the text
+pub exceeds_part_script : {X Y T : Type 0} {written : X → Option (List ℕ)} {failures : X → ℕ} {old new : X} {reader : Flow Y}
+    (Means : Text → Result T RunFault → List ℕ → Type 0) (fault : RunFault) (script rest part got : List ℕ) (room : ℕ)
+    → reader.bytes reader.old ≡ Some script → reader.bytes reader.new ≡ Some rest
+    → written old ≡ Some [] → written new ≡ Some part → got ≡ part → room < length got
+    → EndsReading reader (flow written failures old new) script_io Means (Err fault)
+    → ExceedsReading room script Means
+exceeds_part_script Means fault script rest part got room holds left empty is copied longer (EndsReading.writes_all well all) =
+    wrote_all Means script rest part got room holds left empty is copied longer all
+exceeds_part_script Means fault script rest part got room holds left empty is copied longer (EndsReading.stops_reading all) =
+    wrote_all Means script rest part got room holds left empty is copied longer all
+exceeds_part_script {written = written} {old = old} {new = new} {reader = reader} Means fault script rest part got room holds left empty is copied longer (EndsReading.breaks_off off) =
+    let script_is = read_of script rest off.text.bytes (reader.bytes reader.old) (reader.bytes reader.new) holds left off.gave.gave in
+    let stops = off.breaks_off in (
+      off.part,
+      (
+        off.beginning.0 ++ rest,
+        script_is ∙ (ap (λ xs. xs ++ rest) off.beginning.1 ∙ append_assoc off.part.bytes off.beginning.0 rest),
+      ),
+      (
+        off.answer,
+        off.bytes,
+        off.means,
+        all_longer room got stops.done off.bytes stops.beginning.0
+            (copied ∙ wrote written old new stops.done part stops.got empty is) stops.beginning.1 longer,
+      ),
+    )

@@ -1,11 +1,13 @@
 -- What the arguments of a call for C ask for, and what its status says.
 -- Examples: `step, 4, 1` is the query of the induction step of four frames and property 1; `NotBad` is not; `toaig` of
--- `aag 0 0 0 0 1/`.
-use Rattle.std.specs.Prelude.{◌≡◌, ℕ, List, Bool, true, false, Result, Err}
+-- `aag 0 0 0 0 1/`; `refute` for 1 frame writes `unreachable within 1/`, more than 9 bytes.
+use Rattle.std.specs.Prelude.{◌≡◌, ◌<◌, ℕ, List, Bool, true, false, Result, Ok, Err, length}
+use Rattle.aig_bytes.specs.Bytes.{IsBeginning}
 use Rattle.aig_cnf.specs.Query.{step, within}
 use Rattle.aig_cnf.specs.declared.query.Query.{Query}
 use Rattle.aig_format.specs.declared.reader.header.Format.{Format}
 use Rattle.aig_format.specs.declared.reader.header.Format.TheVariants.{Ascii, Binary}
+use Rattle.aig_command.specs.Command.{Text}
 use Rattle.aig_command.specs.Status.{status_of}
 use Rattle.aig_command.specs.declared.run_fault.RunFault.{RunFault}
 use Rattle.aig_sim.specs.declared.witness.verdict.Verdict.{Verdict}
@@ -28,3 +30,13 @@ is_confirmed _ = false
 -- a command with the meaning `Means` rejects an input, and not because memory ran out
 abbrev pub Refuses : {T : Type 0} → (Result T RunFault → List ℕ → Type 0) → Type 0
 Refuses Means = (fault : RunFault) × (status_of fault ≡ 1) × ((bytes : List ℕ) × Means (Err fault) bytes)
+
+-- a command with the meaning `Means` goes well, and writes more bytes than a room has
+abbrev pub Exceeds : {T : Type 0} → ℕ → (Result T RunFault → List ℕ → Type 0) → Type 0
+Exceeds {T = T} room Means = (value : T) × (bytes : List ℕ) × Means (Ok value) bytes × (room < length bytes)
+
+-- A command that reads a text meanwhile writes more bytes than a room has, for a beginning of this text.
+abbrev pub ExceedsReading : {T : Type 0} → ℕ → List ℕ → (Text → Result T RunFault → List ℕ → Type 0) → Type 0
+ExceedsReading {T = T} room script Means =
+    (text : Text) × IsBeginning text.bytes script
+    × ((answer : Result T RunFault) × (bytes : List ℕ) × Means text answer bytes × (room < length bytes))

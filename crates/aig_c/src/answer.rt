@@ -1,11 +1,10 @@
 //! What a call returns: its status, and a text in the caller's room.
-ghost use Rattle.std.specs.Prelude.{◌≡◌, ◌≢◌, ◌<◌, ◌≤◌, false, length, take, true};
+ghost use Rattle.std.specs.Prelude.{◌≡◌, ◌≢◌, ◌<◌, ◌≤◌, [], IfOk, length, take};
 ghost use Rattle.aig_command.specs.Status.{status_of};
-ghost use Rattle.aig_commands.specs.Questions.{asked_of};
 ghost use Rattle.aig_c.specs.Answers.{format_of, is_confirmed};
 
-use aig_command::{RunFault, ScriptFault};
-use aig_commands::question::Question;
+use aig_base::{MemWriter, Memory};
+use aig_command::RunFault;
 use aig_format::Format;
 use aig_sim::Verdict;
 use std::alloc::Global;
@@ -18,6 +17,14 @@ const REFUSED: u8 = 1;
 const NO_ROOM: u8 = 2;
 /// Memory ran out.
 pub(crate) const NO_MEMORY: u8 = 3;
+
+/// A writer for the text of a command. It takes one byte more than the caller's room, so that a text which is too long
+/// is seen to be.
+pub(crate) fn writer(alloc: Global, room: &[u8]) -> Result<MemWriter, Memory>
+    ensures { IfOk result (λ w. w.bytes ≡ []) }
+{
+    MemWriter::new(alloc, room.len() + 1)
+}
 
 /// Copies bytes to the front of a room that is large enough.
 fn copy(bytes: &[u8], room: &mut [u8]) -> usize
@@ -33,6 +40,7 @@ fn copy(bytes: &[u8], room: &mut [u8]) -> usize
 /// Writes a text to the front of a room, and its length to `written`, if the room is large enough.
 pub(crate) fn answer(bytes: &[u8], room: &mut [u8], written: &mut usize) -> u8
     ensures done { result ≡ 0 → take written.new room.new ≡ bytes.now }
+    ensures no_room { result ≡ 2 → length room.old < length bytes.now }
     ensures inside { result ≤ 1 → written.new ≤ length room.old }
     ensures kept { 1 < result → (room.new ≡ room.old) × (written.new ≡ written.old) }
     ensures statuses { (result ≢ 1) × (result ≤ 3) }
@@ -59,16 +67,23 @@ fn write_message(alloc: Global, fault: RunFault, room: &mut [u8]) -> usize
     copy(text, room)
 }
 
-/// The status of a command that ended with a fault. If an input is rejected, the message goes to the front of the room.
-pub(crate) fn refuse(alloc: Global, fault: RunFault, room: &mut [u8], written: &mut usize) -> u8
+/// The status of a command that ended with a fault after it wrote a part of its text. If an input is rejected, the
+/// message goes to the front of the room.
+pub(crate) fn refuse(
+    alloc: Global,
+    fault: RunFault,
+    part: &[u8],
+    room: &mut [u8],
+    written: &mut usize,
+) -> u8
     ensures refused { result ≡ 1 → status_of fault ≡ 1 }
+    ensures no_room { result ≡ 2 → length room.old < length part.now }
     ensures inside { result ≤ 1 → written.new ≤ length room.old }
     ensures kept { 1 < result → (room.new ≡ room.old) × (written.new ≡ written.old) }
     ensures statuses { (result ≢ 0) × (result ≤ 3) }
 {
-    match fault {
-        RunFault::Output | RunFault::Script(ScriptFault::Io) => return NO_ROOM,
-        _ => {}
+    if part.len() > room.len() {
+        return NO_ROOM;
     }
     if fault.status() != 1 {
         return NO_MEMORY;
@@ -85,18 +100,6 @@ pub(crate) fn format(binary: bool) -> Format
         Format::Binary
     } else {
         Format::Ascii
-    }
-}
-
-/// What a call asks of some frames: the step of an induction, or whether a run reaches the property within them.
-pub(crate) fn question(step: bool, frames: u32, property: u32) -> Question<&'static [u8]>
-    ensures steps { step ≡ true → asked_of result ≡ Question.Step frames property }
-    ensures within { step ≡ false → asked_of result ≡ Question.Within frames property }
-{
-    if step {
-        Question::Step { frames, property }
-    } else {
-        Question::Within { frames, property }
     }
 }
 

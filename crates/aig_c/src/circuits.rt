@@ -7,10 +7,10 @@ ghost use Rattle.aig_commands.specs.Names.{ListsNames};
 ghost use Rattle.aig_commands.specs.Toaig.{Converts};
 ghost use Rattle.aig_commands.specs.Unroll.{Unrolls};
 ghost use Rattle.aig_commands.specs.declared.certified.Purpose.TheVariants as purposes;
-ghost use Rattle.aig_c.specs.Answers.{format_of, Refuses};
+ghost use Rattle.aig_c.specs.Answers.{Exceeds, Refuses, format_of};
 
-use crate::answer::{NO_MEMORY, answer, format, refuse};
-use aig_base::{MemReader, MemWriter};
+use crate::answer::{NO_MEMORY, answer, format, refuse, writer};
+use aig_base::MemReader;
 use aig_commands::certified::Certified;
 use aig_commands::info::{info, info_names};
 use aig_commands::strengthen::strengthen;
@@ -28,16 +28,17 @@ pub extern "C" fn aig_toaig(
 ) -> u8
     ensures done { result ≡ 0 → OfFile circuit.now (Converts (format_of binary)) (Ok tt) (take written.new room.new) }
     ensures refused { result ≡ 1 → Refuses (OfFile circuit.now (Converts (format_of binary))) }
+    ensures no_room { result ≡ 2 → Exceeds (length room.old) (OfFile circuit.now (Converts (format_of binary))) }
     ensures inside { result ≤ 1 → written.new ≤ length room.old }
     ensures kept { 1 < result → (room.new ≡ room.old) × (written.new ≡ written.old) }
     ensures statuses { result ≤ 3 }
 {
-    let Ok(mut out) = MemWriter::new(alloc, room.len()) else {
+    let Ok(mut out) = writer(alloc, room) else {
         return NO_MEMORY;
     };
     match convert(alloc, circuit, format(binary), &mut out) {
         Ok(()) => answer(out.bytes(), room, written),
-        Err(fault) => refuse(alloc, fault, room, written),
+        Err(fault) => refuse(alloc, fault, out.bytes(), room, written),
     }
 }
 
@@ -51,17 +52,18 @@ pub extern "C" fn aig_info(
 ) -> u8
     ensures done { result ≡ 0 → OfFile circuit.now (ListsFacts (Some circuit.now)) (Ok tt) (take written.new room.new) }
     ensures refused { result ≡ 1 → Refuses (OfFile circuit.now (ListsFacts (Some circuit.now))) }
+    ensures no_room { result ≡ 2 → Exceeds (length room.old) (OfFile circuit.now (ListsFacts (Some circuit.now))) }
     ensures inside { result ≤ 1 → written.new ≤ length room.old }
     ensures kept { 1 < result → (room.new ≡ room.old) × (written.new ≡ written.old) }
     ensures statuses { result ≤ 3 }
 {
-    let Ok(mut out) = MemWriter::new(alloc, room.len()) else {
+    let Ok(mut out) = writer(alloc, room) else {
         return NO_MEMORY;
     };
     let mut reader = MemReader::new(circuit);
     match info(alloc, &mut reader, &mut out) {
         Ok(()) => answer(out.bytes(), room, written),
-        Err(fault) => refuse(alloc, fault, room, written),
+        Err(fault) => refuse(alloc, fault, out.bytes(), room, written),
     }
 }
 
@@ -75,17 +77,18 @@ pub extern "C" fn aig_names(
 ) -> u8
     ensures done { result ≡ 0 → OfFile circuit.now ListsNames (Ok tt) (take written.new room.new) }
     ensures refused { result ≡ 1 → Refuses (OfFile circuit.now ListsNames) }
+    ensures no_room { result ≡ 2 → Exceeds (length room.old) (OfFile circuit.now ListsNames) }
     ensures inside { result ≤ 1 → written.new ≤ length room.old }
     ensures kept { 1 < result → (room.new ≡ room.old) × (written.new ≡ written.old) }
     ensures statuses { result ≤ 3 }
 {
-    let Ok(mut out) = MemWriter::new(alloc, room.len()) else {
+    let Ok(mut out) = writer(alloc, room) else {
         return NO_MEMORY;
     };
     let mut reader = MemReader::new(circuit);
     match info_names(alloc, &mut reader, &mut out) {
         Ok(()) => answer(out.bytes(), room, written),
-        Err(fault) => refuse(alloc, fault, room, written),
+        Err(fault) => refuse(alloc, fault, out.bytes(), room, written),
     }
 }
 
@@ -102,16 +105,17 @@ pub extern "C" fn aig_unroll(
     ensures done { result ≡ 0 → OfFile circuit.now (Unrolls frames (format_of binary)) (Ok tt)
         (take written.new room.new) }
     ensures refused { result ≡ 1 → Refuses (OfFile circuit.now (Unrolls frames (format_of binary))) }
+    ensures no_room { result ≡ 2 → Exceeds (length room.old) (OfFile circuit.now (Unrolls frames (format_of binary))) }
     ensures inside { result ≤ 1 → written.new ≤ length room.old }
     ensures kept { 1 < result → (room.new ≡ room.old) × (written.new ≡ written.old) }
     ensures statuses { result ≤ 3 }
 {
-    let Ok(mut out) = MemWriter::new(alloc, room.len()) else {
+    let Ok(mut out) = writer(alloc, room) else {
         return NO_MEMORY;
     };
     match unroll_bytes(alloc, circuit, frames, format(binary), &mut out) {
         Ok(()) => answer(out.bytes(), room, written),
-        Err(fault) => refuse(alloc, fault, room, written),
+        Err(fault) => refuse(alloc, fault, out.bytes(), room, written),
     }
 }
 
@@ -130,11 +134,13 @@ pub extern "C" fn aig_strengthen(
         (Converts (format_of binary)) (Ok tt) (take written.new room.new) }
     ensures refused { result ≡ 1 → Refuses (OfCertified purposes.Circuit circuit.now property certificate.now
         (Converts (format_of binary))) }
+    ensures no_room { result ≡ 2 → Exceeds (length room.old)
+        (OfCertified purposes.Circuit circuit.now property certificate.now (Converts (format_of binary))) }
     ensures inside { result ≤ 1 → written.new ≤ length room.old }
     ensures kept { 1 < result → (room.new ≡ room.old) × (written.new ≡ written.old) }
     ensures statuses { result ≤ 3 }
 {
-    let Ok(mut out) = MemWriter::new(alloc, room.len()) else {
+    let Ok(mut out) = writer(alloc, room) else {
         return NO_MEMORY;
     };
     let certified = Certified {
@@ -144,6 +150,6 @@ pub extern "C" fn aig_strengthen(
     };
     match strengthen(alloc, certified, format(binary), &mut out) {
         Ok(()) => answer(out.bytes(), room, written),
-        Err(fault) => refuse(alloc, fault, room, written),
+        Err(fault) => refuse(alloc, fault, out.bytes(), room, written),
     }
 }

@@ -8,61 +8,59 @@ ghost use Rattle.aig_commands.specs.Cnf.{WritesCertified, WritesFormula};
 ghost use Rattle.aig_commands.specs.ModelWitness.{WritesModel};
 ghost use Rattle.aig_commands.specs.Questions.{NamesQuestion, WritesQuestion, asked_of};
 ghost use Rattle.aig_commands.specs.declared.certified.Purpose.TheVariants as purposes;
-ghost use Rattle.aig_c.specs.Answers.{query_of, Refuses};
+ghost use Rattle.aig_c.specs.Answers.{Exceeds, Refuses, query_of};
 
-use crate::answer::{NO_MEMORY, answer, question, refuse};
-use aig_base::MemWriter;
+use crate::answer::{NO_MEMORY, answer, refuse, writer};
+use crate::asked::{Asked, question};
 use aig_commands::cnf::cnf;
 use aig_commands::model_witness::model_witness;
 use aig_commands::question::Question;
 use std::alloc::Global;
 
 /// Writes the formula of a question.
-fn write_formula(
-    alloc: Global,
-    circuit: &[u8],
-    question: Question<&[u8]>,
-    room: &mut [u8],
-    written: &mut usize,
-) -> u8
+fn write_formula(alloc: Global, asked: Asked<'_>, room: &mut [u8], written: &mut usize) -> u8
     ensures done { result ≡ 0 →
-        WritesQuestion (asked_of question.entry) circuit.now (Ok tt) (take written.new room.new) }
-    ensures refused { result ≡ 1 → Refuses (WritesQuestion (asked_of question.entry) circuit.now) }
+        WritesQuestion (asked_of asked.entry.question) asked.entry.circuit.now (Ok tt) (take written.new room.new) }
+    ensures refused { result ≡ 1 → Refuses (WritesQuestion (asked_of asked.entry.question) asked.entry.circuit.now) }
+    ensures no_room { result ≡ 2 → Exceeds (length room.old)
+        (WritesQuestion (asked_of asked.entry.question) asked.entry.circuit.now) }
     ensures inside { result ≤ 1 → written.new ≤ length room.old }
     ensures kept { 1 < result → (room.new ≡ room.old) × (written.new ≡ written.old) }
     ensures statuses { result ≤ 3 }
 {
-    let Ok(mut out) = MemWriter::new(alloc, room.len()) else {
+    let Ok(mut out) = writer(alloc, room) else {
         return NO_MEMORY;
     };
-    match cnf(alloc, circuit, question, &mut out) {
+    match cnf(alloc, asked.circuit, asked.question, &mut out) {
         Ok(()) => answer(out.bytes(), room, written),
-        Err(fault) => refuse(alloc, fault, room, written),
+        Err(fault) => refuse(alloc, fault, out.bytes(), room, written),
     }
 }
 
 /// Writes the witness that a model of the formula of a question names.
 fn write_named(
     alloc: Global,
-    circuit: &[u8],
-    question: Question<&[u8]>,
+    asked: Asked<'_>,
     model: &[u8],
     room: &mut [u8],
     written: &mut usize,
 ) -> u8
-    ensures done { result ≡ 0 →
-        NamesQuestion (asked_of question.entry) model.now circuit.now (Ok tt) (take written.new room.new) }
-    ensures refused { result ≡ 1 → Refuses (NamesQuestion (asked_of question.entry) model.now circuit.now) }
+    ensures done { result ≡ 0 → NamesQuestion (asked_of asked.entry.question) model.now asked.entry.circuit.now
+        (Ok tt) (take written.new room.new) }
+    ensures refused { result ≡ 1 →
+        Refuses (NamesQuestion (asked_of asked.entry.question) model.now asked.entry.circuit.now) }
+    ensures no_room { result ≡ 2 → Exceeds (length room.old)
+        (NamesQuestion (asked_of asked.entry.question) model.now asked.entry.circuit.now) }
     ensures inside { result ≤ 1 → written.new ≤ length room.old }
     ensures kept { 1 < result → (room.new ≡ room.old) × (written.new ≡ written.old) }
     ensures statuses { result ≤ 3 }
 {
-    let Ok(mut out) = MemWriter::new(alloc, room.len()) else {
+    let Ok(mut out) = writer(alloc, room) else {
         return NO_MEMORY;
     };
-    match model_witness(alloc, circuit, question, model, &mut out) {
+    match model_witness(alloc, asked.circuit, asked.question, model, &mut out) {
         Ok(()) => answer(out.bytes(), room, written),
-        Err(fault) => refuse(alloc, fault, room, written),
+        Err(fault) => refuse(alloc, fault, out.bytes(), room, written),
     }
 }
 
@@ -80,12 +78,14 @@ pub extern "C" fn aig_cnf(
     ensures done { result ≡ 0 →
         OfFile circuit.now (WritesFormula (query_of step frames property)) (Ok tt) (take written.new room.new) }
     ensures refused { result ≡ 1 → Refuses (OfFile circuit.now (WritesFormula (query_of step frames property))) }
+    ensures no_room { result ≡ 2 →
+        Exceeds (length room.old) (OfFile circuit.now (WritesFormula (query_of step frames property))) }
     ensures inside { result ≤ 1 → written.new ≤ length room.old }
     ensures kept { 1 < result → (room.new ≡ room.old) × (written.new ≡ written.old) }
     ensures statuses { result ≤ 3 }
 {
     let question = question(step, frames, property);
-    write_formula(alloc, circuit, question, room, written)
+    write_formula(alloc, Asked { circuit, question }, room, written)
 }
 
 /// Writes the formula that a run keeps all constraints for some frames.
@@ -99,12 +99,13 @@ pub extern "C" fn aig_cnf_alive(
 ) -> u8
     ensures done { result ≡ 0 → OfFile circuit.now (WritesAlive frames) (Ok tt) (take written.new room.new) }
     ensures refused { result ≡ 1 → Refuses (OfFile circuit.now (WritesAlive frames)) }
+    ensures no_room { result ≡ 2 → Exceeds (length room.old) (OfFile circuit.now (WritesAlive frames)) }
     ensures inside { result ≤ 1 → written.new ≤ length room.old }
     ensures kept { 1 < result → (room.new ≡ room.old) × (written.new ≡ written.old) }
     ensures statuses { result ≤ 3 }
 {
     let question = Question::Alive { frames };
-    write_formula(alloc, circuit, question, room, written)
+    write_formula(alloc, Asked { circuit, question }, room, written)
 }
 
 /// Writes the formula of the induction for a circuit that is strengthened by a certificate.
@@ -121,6 +122,8 @@ pub extern "C" fn aig_cnf_certified(
         (WritesCertified property) (Ok tt) (take written.new room.new) }
     ensures refused { result ≡ 1 → Refuses (OfCertified purposes.Formula circuit.now property certificate.now
         (WritesCertified property)) }
+    ensures no_room { result ≡ 2 → Exceeds (length room.old)
+        (OfCertified purposes.Formula circuit.now property certificate.now (WritesCertified property)) }
     ensures inside { result ≤ 1 → written.new ≤ length room.old }
     ensures kept { 1 < result → (room.new ≡ room.old) × (written.new ≡ written.old) }
     ensures statuses { result ≤ 3 }
@@ -129,7 +132,7 @@ pub extern "C" fn aig_cnf_certified(
         certificate,
         property,
     };
-    write_formula(alloc, circuit, question, room, written)
+    write_formula(alloc, Asked { circuit, question }, room, written)
 }
 
 /// Writes the witness of the run that a model of the formula of `aig_cnf` names.
@@ -148,18 +151,17 @@ pub extern "C" fn aig_model_witness(
         OfFile circuit.now (WritesModel (query_of step frames property) model.now) (Ok tt) (take written.new room.new) }
     ensures refused { result ≡ 1 →
         Refuses (OfFile circuit.now (WritesModel (query_of step frames property) model.now)) }
+    ensures no_room { result ≡ 2 →
+        Exceeds (length room.old) (OfFile circuit.now (WritesModel (query_of step frames property) model.now)) }
     ensures inside { result ≤ 1 → written.new ≤ length room.old }
     ensures kept { 1 < result → (room.new ≡ room.old) × (written.new ≡ written.old) }
     ensures statuses { result ≤ 3 }
 {
-    write_named(
-        alloc,
+    let asked = Asked {
         circuit,
-        question(step, frames, property),
-        model,
-        room,
-        written,
-    )
+        question: question(step, frames, property),
+    };
+    write_named(alloc, asked, model, room, written)
 }
 
 /// Writes the witness of the run by which a certificate fails, that a model of the formula of `aig_cnf_certified`
@@ -178,6 +180,8 @@ pub extern "C" fn aig_model_witness_certified(
         (WritesModel (induction 1 0) model.now) (Ok tt) (take written.new room.new) }
     ensures refused { result ≡ 1 → Refuses (OfCertified purposes.Formula circuit.now property certificate.now
         (WritesModel (induction 1 0) model.now)) }
+    ensures no_room { result ≡ 2 → Exceeds (length room.old)
+        (OfCertified purposes.Formula circuit.now property certificate.now (WritesModel (induction 1 0) model.now)) }
     ensures inside { result ≤ 1 → written.new ≤ length room.old }
     ensures kept { 1 < result → (room.new ≡ room.old) × (written.new ≡ written.old) }
     ensures statuses { result ≤ 3 }
@@ -186,5 +190,5 @@ pub extern "C" fn aig_model_witness_certified(
         certificate,
         property,
     };
-    write_named(alloc, circuit, question, model, room, written)
+    write_named(alloc, Asked { circuit, question }, model, room, written)
 }

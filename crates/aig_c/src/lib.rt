@@ -3,6 +3,7 @@
 #![tactic(auto)]
 
 mod answer;
+mod asked;
 mod circuits;
 mod formulas;
 mod refutations;

@@ -7,43 +7,43 @@ ghost use Rattle.aig_commands.specs.Questions.{RefutesQuestion, Says, asked_of};
 ghost use Rattle.aig_commands.specs.Refute.{IsFileNeverReached, IsFileUnreachable};
 ghost use Rattle.aig_commands.specs.Refute.{Refutes, RefutesInduction, RefutesStep};
 ghost use Rattle.aig_commands.specs.declared.certified.Purpose.TheVariants as purposes;
-ghost use Rattle.aig_c.specs.Answers.{Refuses};
+ghost use Rattle.aig_c.specs.Answers.{Exceeds, Refuses};
 
-use crate::answer::{NO_MEMORY, answer, refuse};
-use aig_base::{MemReader, MemWriter};
+use crate::answer::{NO_MEMORY, answer, refuse, writer};
+use crate::asked::Asked;
+use aig_base::MemReader;
 use aig_commands::question::Question;
 use aig_commands::refute::{Proofs, refute};
 use std::alloc::Global;
 
-/// Checks the proof of a question, and writes the line that answers. For an induction by steps, the second proof is
-/// that of the step.
+/// Checks the proof of a question, and writes the line that answers.
 fn refute_by(
     alloc: Global,
-    circuit: &[u8],
-    question: Question<&[u8]>,
-    proof: &[u8],
-    step: &[u8],
+    asked: Asked<'_>,
+    proofs: Proofs<&[u8], &[u8]>,
     room: &mut [u8],
     written: &mut usize,
 ) -> u8
-    ensures says { result ≡ 0 → Says (asked_of question.entry) circuit.now }
+    ensures says { result ≡ 0 → Says (asked_of asked.entry.question) asked.entry.circuit.now }
     ensures done { result ≡ 0 →
-        RefutesQuestion (asked_of question.entry) circuit.now (Ok tt) (take written.new room.new) }
-    ensures refused { result ≡ 1 → Refuses (RefutesQuestion (asked_of question.entry) circuit.now) }
+        RefutesQuestion (asked_of asked.entry.question) asked.entry.circuit.now (Ok tt) (take written.new room.new) }
+    ensures refused { result ≡ 1 → Refuses (RefutesQuestion (asked_of asked.entry.question) asked.entry.circuit.now) }
+    ensures no_room { result ≡ 2 → Exceeds (length room.old)
+        (RefutesQuestion (asked_of asked.entry.question) asked.entry.circuit.now) }
     ensures inside { result ≤ 1 → written.new ≤ length room.old }
     ensures kept { 1 < result → (room.new ≡ room.old) × (written.new ≡ written.old) }
     ensures statuses { result ≤ 3 }
 {
-    let Ok(mut out) = MemWriter::new(alloc, room.len()) else {
+    let Ok(mut out) = writer(alloc, room) else {
         return NO_MEMORY;
     };
     let mut proofs = Proofs {
-        proof: MemReader::new(proof),
-        step: MemReader::new(step),
+        proof: MemReader::new(proofs.proof),
+        step: MemReader::new(proofs.step),
     };
-    match refute(alloc, circuit, question, &mut proofs, &mut out) {
+    match refute(alloc, asked.circuit, asked.question, &mut proofs, &mut out) {
         Ok(()) => answer(out.bytes(), room, written),
-        Err(fault) => refuse(alloc, fault, room, written),
+        Err(fault) => refuse(alloc, fault, out.bytes(), room, written),
     }
 }
 
@@ -61,12 +61,14 @@ pub extern "C" fn aig_refute(
     ensures unreachable { result ≡ 0 → IsFileUnreachable circuit.now frames property }
     ensures done { result ≡ 0 → OfFile circuit.now (Refutes frames property) (Ok tt) (take written.new room.new) }
     ensures refused { result ≡ 1 → Refuses (OfFile circuit.now (Refutes frames property)) }
+    ensures no_room { result ≡ 2 → Exceeds (length room.old) (OfFile circuit.now (Refutes frames property)) }
     ensures inside { result ≤ 1 → written.new ≤ length room.old }
     ensures kept { 1 < result → (room.new ≡ room.old) × (written.new ≡ written.old) }
     ensures statuses { result ≤ 3 }
 {
     let question = Question::Within { frames, property };
-    refute_by(alloc, circuit, question, proof, b"", room, written)
+    let proofs = Proofs { proof, step: b"" };
+    refute_by(alloc, Asked { circuit, question }, proofs, room, written)
 }
 
 /// Checks a proof that no run keeps all constraints for some frames, and writes the line that says so.
@@ -82,12 +84,14 @@ pub extern "C" fn aig_refute_alive(
     ensures no_run { result ≡ 0 → IsFileWithoutRun circuit.now frames }
     ensures done { result ≡ 0 → OfFile circuit.now (RefutesAlive frames) (Ok tt) (take written.new room.new) }
     ensures refused { result ≡ 1 → Refuses (OfFile circuit.now (RefutesAlive frames)) }
+    ensures no_room { result ≡ 2 → Exceeds (length room.old) (OfFile circuit.now (RefutesAlive frames)) }
     ensures inside { result ≤ 1 → written.new ≤ length room.old }
     ensures kept { 1 < result → (room.new ≡ room.old) × (written.new ≡ written.old) }
     ensures statuses { result ≤ 3 }
 {
     let question = Question::Alive { frames };
-    refute_by(alloc, circuit, question, proof, b"", room, written)
+    let proofs = Proofs { proof, step: b"" };
+    refute_by(alloc, Asked { circuit, question }, proofs, room, written)
 }
 
 /// Checks two proofs that no run of any length reaches a property, and writes the line that says so.
@@ -105,12 +109,14 @@ pub extern "C" fn aig_refute_step(
     ensures unreachable { result ≡ 0 → IsFileNeverReached circuit.now property }
     ensures done { result ≡ 0 → OfFile circuit.now (RefutesStep frames property) (Ok tt) (take written.new room.new) }
     ensures refused { result ≡ 1 → Refuses (OfFile circuit.now (RefutesStep frames property)) }
+    ensures no_room { result ≡ 2 → Exceeds (length room.old) (OfFile circuit.now (RefutesStep frames property)) }
     ensures inside { result ≤ 1 → written.new ≤ length room.old }
     ensures kept { 1 < result → (room.new ≡ room.old) × (written.new ≡ written.old) }
     ensures statuses { result ≤ 3 }
 {
     let question = Question::Step { frames, property };
-    refute_by(alloc, circuit, question, proof, step, room, written)
+    let proofs = Proofs { proof, step };
+    refute_by(alloc, Asked { circuit, question }, proofs, room, written)
 }
 
 /// Checks a proof that no run of any length reaches a property, by a certificate, and writes the line that says so.
@@ -129,6 +135,8 @@ pub extern "C" fn aig_refute_certified(
         (Ok tt) (take written.new room.new) }
     ensures refused { result ≡ 1 →
         Refuses (OfCertified purposes.Formula circuit.now property certificate.now RefutesInduction) }
+    ensures no_room { result ≡ 2 →
+        Exceeds (length room.old) (OfCertified purposes.Formula circuit.now property certificate.now RefutesInduction) }
     ensures inside { result ≤ 1 → written.new ≤ length room.old }
     ensures kept { 1 < result → (room.new ≡ room.old) × (written.new ≡ written.old) }
     ensures statuses { result ≤ 3 }
@@ -137,5 +145,6 @@ pub extern "C" fn aig_refute_certified(
         certificate,
         property,
     };
-    refute_by(alloc, circuit, question, proof, b"", room, written)
+    let proofs = Proofs { proof, step: b"" };
+    refute_by(alloc, Asked { circuit, question }, proofs, room, written)
 }

@@ -7,9 +7,9 @@ ghost use Rattle.aig_commands.specs.Check.{Checks};
 ghost use Rattle.aig_commands.specs.Reduce.{Reduces};
 ghost use Rattle.aig_commands.specs.Wave.{DumpsRun};
 ghost use Rattle.aig_commands.specs.Witness.{WritesWitness};
-ghost use Rattle.aig_c.specs.Answers.{is_confirmed, Refuses};
+ghost use Rattle.aig_c.specs.Answers.{Exceeds, ExceedsReading, Refuses, is_confirmed};
 
-use crate::answer::{DONE, NO_MEMORY, answer, is_confirmed, refuse};
+use crate::answer::{DONE, NO_MEMORY, answer, is_confirmed, refuse, writer};
 use aig_base::{MemReader, MemWriter};
 use aig_commands::check_bytes;
 use aig_commands::reduce::reduce;
@@ -32,12 +32,13 @@ pub extern "C" fn aig_check(
     ensures done { result ≡ 0 → (verdict : Verdict) × (confirmed.new ≡ is_confirmed verdict)
         × OfFile circuit.now (Checks witness.now) (Ok verdict) (take written.new room.new) }
     ensures refused { result ≡ 1 → Refuses (OfFile circuit.now (Checks witness.now)) }
+    ensures no_room { result ≡ 2 → Exceeds (length room.old) (OfFile circuit.now (Checks witness.now)) }
     ensures inside { result ≤ 1 → written.new ≤ length room.old }
     ensures kept { 1 < result → (room.new ≡ room.old) × (written.new ≡ written.old) }
     ensures no_verdict { result ≢ 0 → confirmed.new ≡ confirmed.old }
     ensures statuses { result ≤ 3 }
 {
-    let Ok(mut out) = MemWriter::new(alloc, room.len()) else {
+    let Ok(mut out) = writer(alloc, room) else {
         return NO_MEMORY;
     };
     match check_bytes(alloc, circuit, witness, &mut out) {
@@ -48,7 +49,7 @@ pub extern "C" fn aig_check(
             }
             status
         }
-        Err(fault) => refuse(alloc, fault, room, written),
+        Err(fault) => refuse(alloc, fault, out.bytes(), room, written),
     }
 }
 
@@ -65,16 +66,18 @@ pub extern "C" fn aig_witness(
     ensures done { result ≡ 0 →
         OfFile circuit.now (WritesWitness (Some property) rows.now) (Ok tt) (take written.new room.new) }
     ensures refused { result ≡ 1 → Refuses (OfFile circuit.now (WritesWitness (Some property) rows.now)) }
+    ensures no_room { result ≡ 2 →
+        Exceeds (length room.old) (OfFile circuit.now (WritesWitness (Some property) rows.now)) }
     ensures inside { result ≤ 1 → written.new ≤ length room.old }
     ensures kept { 1 < result → (room.new ≡ room.old) × (written.new ≡ written.old) }
     ensures statuses { result ≤ 3 }
 {
-    let Ok(mut out) = MemWriter::new(alloc, room.len()) else {
+    let Ok(mut out) = writer(alloc, room) else {
         return NO_MEMORY;
     };
     match witness(alloc, circuit, rows, Some(property), &mut out) {
         Ok(()) => answer(out.bytes(), room, written),
-        Err(fault) => refuse(alloc, fault, room, written),
+        Err(fault) => refuse(alloc, fault, out.bytes(), room, written),
     }
 }
 
@@ -92,12 +95,13 @@ pub extern "C" fn aig_reduce(
     ensures done { result ≡ 0 → (verdict : Verdict) × (confirmed.new ≡ is_confirmed verdict)
         × OfFile circuit.now (Reduces witness.now) (Ok verdict) (take written.new room.new) }
     ensures refused { result ≡ 1 → Refuses (OfFile circuit.now (Reduces witness.now)) }
+    ensures no_room { result ≡ 2 → Exceeds (length room.old) (OfFile circuit.now (Reduces witness.now)) }
     ensures inside { result ≤ 1 → written.new ≤ length room.old }
     ensures kept { 1 < result → (room.new ≡ room.old) × (written.new ≡ written.old) }
     ensures no_verdict { result ≢ 0 → confirmed.new ≡ confirmed.old }
     ensures statuses { result ≤ 3 }
 {
-    let Ok(mut out) = MemWriter::new(alloc, room.len()) else {
+    let Ok(mut out) = writer(alloc, room) else {
         return NO_MEMORY;
     };
     match reduce(alloc, circuit, witness, &mut out) {
@@ -108,7 +112,7 @@ pub extern "C" fn aig_reduce(
             }
             status
         }
-        Err(fault) => refuse(alloc, fault, room, written),
+        Err(fault) => refuse(alloc, fault, out.bytes(), room, written),
     }
 }
 
@@ -123,16 +127,17 @@ pub extern "C" fn aig_wave_witness(
 ) -> u8
     ensures done { result ≡ 0 → OfFile circuit.now (DumpsRun witness.now) (Ok tt) (take written.new room.new) }
     ensures refused { result ≡ 1 → Refuses (OfFile circuit.now (DumpsRun witness.now)) }
+    ensures no_room { result ≡ 2 → Exceeds (length room.old) (OfFile circuit.now (DumpsRun witness.now)) }
     ensures inside { result ≤ 1 → written.new ≤ length room.old }
     ensures kept { 1 < result → (room.new ≡ room.old) × (written.new ≡ written.old) }
     ensures statuses { result ≤ 3 }
 {
-    let Ok(mut out) = MemWriter::new(alloc, room.len()) else {
+    let Ok(mut out) = writer(alloc, room) else {
         return NO_MEMORY;
     };
     match wave_witness(alloc, circuit, witness, &mut out) {
         Ok(()) => answer(out.bytes(), room, written),
-        Err(fault) => refuse(alloc, fault, room, written),
+        Err(fault) => refuse(alloc, fault, out.bytes(), room, written),
     }
 }
 
@@ -149,11 +154,12 @@ pub extern "C" fn aig_bench(
     ensures done { result ≡ 0 → (text : Text) × (text.bytes ≡ script.now)
         × RunsScript circuit.now rows.now text (Ok tt) (take written.new room.new) }
     ensures refused { result ≡ 1 → (text : Text) × Refuses (RunsScript circuit.now rows.now text) }
+    ensures no_room { result ≡ 2 → ExceedsReading (length room.old) script.now (RunsScript circuit.now rows.now) }
     ensures inside { result ≤ 1 → written.new ≤ length room.old }
     ensures kept { 1 < result → (room.new ≡ room.old) × (written.new ≡ written.old) }
     ensures statuses { result ≤ 3 }
 {
-    let Ok(mut out) = MemWriter::new(alloc, room.len()) else {
+    let Ok(mut out) = writer(alloc, room) else {
         return NO_MEMORY;
     };
     let mut reader = MemReader::new(script);
@@ -165,6 +171,6 @@ pub extern "C" fn aig_bench(
         &mut out,
     ) {
         Ok(()) => answer(out.bytes(), room, written),
-        Err(fault) => refuse(alloc, fault, room, written),
+        Err(fault) => refuse(alloc, fault, out.bytes(), room, written),
     }
 }

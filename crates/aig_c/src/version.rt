@@ -7,6 +7,7 @@ use crate::answer::answer;
 #[unsafe(no_mangle)]
 pub extern "C" fn aig_version(room: &mut [u8], written: &mut usize) -> u8
     ensures done { result ≡ 0 → take written.new room.new ≡ codes "0.2.0" }
+    ensures no_room { result ≡ 2 → length room.old < length (codes "0.2.0") }
     ensures inside { result ≤ 1 → written.new ≤ length room.old }
     ensures kept { 1 < result → (room.new ≡ room.old) × (written.new ≡ written.old) }
     ensures statuses { (result ≢ 1) × (result ≤ 3) }

@@ -1,6 +1,6 @@
-use Rattle.std.specs.Prelude.{Ok, take}
+use Rattle.std.specs.Prelude.{Ok, length, take}
 use Rattle.aig_commands.specs.Questions.{asked_of}
-use Rattle.aig_c.proofs.Asked.{formula, formula_refused}
+use Rattle.aig_c.proofs.Asked.{formula, formula_exceeds, formula_refused}
 use Rattle.aig_c.proofs.formulas.aig_cnf.Goals as goal
 
 pub returns-clause-done : goal.returns-clause-done
@@ -14,3 +14,9 @@ returns-clause-refused c = λ one_is.
     let asked = c.question-question in
     formula_refused c.args.circuit.now c.args.step c.args.frames c.args.property (asked_of asked.result)
     asked.ensures.steps asked.ensures.within (c.write_formula.ensures.refused one_is)
+
+pub returns-clause-no_room : goal.returns-clause-no_room
+returns-clause-no_room c = λ two_is.
+    let asked = c.question-question in
+    formula_exceeds c.args.circuit.now c.args.step c.args.frames c.args.property (asked_of asked.result)
+    asked.ensures.steps asked.ensures.within (length c.args.room.now) (c.write_formula.ensures.no_room two_is)

@@ -5,3 +5,6 @@ returns-clause-done c = c.write_named.ensures.done
 
 pub returns-clause-refused : goal.returns-clause-refused
 returns-clause-refused c = c.write_named.ensures.refused
+
+pub returns-clause-no_room : goal.returns-clause-no_room
+returns-clause-no_room c = c.write_named.ensures.no_room

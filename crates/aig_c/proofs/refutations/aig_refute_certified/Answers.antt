@@ -8,3 +8,6 @@ returns-clause-done c = c.refute_by.ensures.done
 
 pub returns-clause-refused : goal.returns-clause-refused
 returns-clause-refused c = c.refute_by.ensures.refused
+
+pub returns-clause-no_room : goal.returns-clause-no_room
+returns-clause-no_room c = c.refute_by.ensures.no_room
