@@ -1,10 +1,10 @@
 //! `refute`: what a solver's proof says of a circuit's file: that no run reaches a bad state within some frames, or
 //! none of any length does, or that no run keeps all constraints.
-ghost use Rattle.std.specs.Prelude.{◌≡◌, ◌≢◌, ◌+◌, Err, IfErr, IfSome, OnOk};
+ghost use Rattle.std.specs.Prelude.{◌≡◌, ◌≢◌, ◌+◌, ◌^◌, ◌<◌, ℕ, Err, IfErr, IfSome, OnOk};
 ghost use Rattle.aig_bytes.specs.Bytes.{Writes};
 ghost use Rattle.aig_bytes.specs.Flow.{flow};
 ghost use Rattle.aig_sat.specs.checker.Consequence.{IsUnsatisfiable};
-ghost use Rattle.aig_sat.specs.proof.Proofs.{IsProof};
+ghost use Rattle.aig_sat.specs.proof.Proofs.{HasAddition, IsProof};
 ghost use Rattle.aig_command.specs.Command.{CommandEnds};
 ghost use Rattle.aig_commands.specs.Questions.{ChecksFor, RefutesQuestion, Says, asked_of, heading_of};
 ghost use Rattle.aig_commands.specs.Refute.{ChecksStep, answer_line, proof_reads_failed, step_reads_failed};
@@ -36,9 +36,12 @@ fn check_formula<R: Read>(
 ) -> Result<(), RunFault>
     ensures checks { ChecksFormula (heading_of (asked_of question.entry)) circuit.old result }
     ensures reads { R.failures proof.new ≡ R.failures proof.old + proof_reads_failed result }
-    ensures step { step_reads_failed result ≡ 0 }
+    ensures reads_step { step_reads_failed result ≡ 0 }
     ensures whole { result ≡ Err (RunFault.Proof ProofFault.NoRefutation) → IfSome (R.left proof.old) IsProof }
     ensures whole_step { result ≢ Err (RunFault.StepProof ProofFault.NoRefutation) }
+    ensures named { (n : ℕ) → result ≡ Err (RunFault.Proof (ProofFault.Step n)) → n + 1 < 2 ^ 64 →
+        IfSome (R.left proof.old) (HasAddition n) }
+    ensures named_step { (n : ℕ) → result ≢ Err (RunFault.StepProof (ProofFault.Step n)) }
 {
     let formula = formula_of(alloc, question, circuit)?;
     check(alloc, &formula, proof)?;
@@ -50,8 +53,10 @@ fn check_later<R: Read>(alloc: Global, later: &Formula, step: &mut R) -> Result<
     ensures refuted { OnOk result (IsUnsatisfiable later.now.clauses) }
     ensures fault { IfErr result IsOfStepProof }
     ensures reads { proof_reads_failed result ≡ 0 }
-    ensures step { R.failures step.new ≡ R.failures step.old + step_reads_failed result }
+    ensures reads_step { R.failures step.new ≡ R.failures step.old + step_reads_failed result }
     ensures whole_step { result ≡ Err (RunFault.StepProof ProofFault.NoRefutation) → IfSome (R.left step.old) IsProof }
+    ensures named_step { (n : ℕ) → result ≡ Err (RunFault.StepProof (ProofFault.Step n)) → n + 1 < 2 ^ 64 →
+        IfSome (R.left step.old) (HasAddition n) }
 {
     match check(alloc, later, step) {
         Ok(()) => Ok(()),
@@ -69,9 +74,13 @@ fn check_step<R: Read, S: Read>(
 ) -> Result<(), RunFault>
     ensures checks { ChecksStep query.frames query.property circuit.old result }
     ensures reads { R.failures proofs.new.proof ≡ R.failures proofs.old.proof + proof_reads_failed result }
-    ensures step { S.failures proofs.new.step ≡ S.failures proofs.old.step + step_reads_failed result }
+    ensures reads_step { S.failures proofs.new.step ≡ S.failures proofs.old.step + step_reads_failed result }
     ensures whole { result ≡ Err (RunFault.Proof ProofFault.NoRefutation) → IfSome (R.left proofs.old.proof) IsProof }
     ensures whole_step { result ≡ Err (RunFault.StepProof ProofFault.NoRefutation) → IfSome (S.left proofs.old.step) IsProof }
+    ensures named { (n : ℕ) → result ≡ Err (RunFault.Proof (ProofFault.Step n)) → n + 1 < 2 ^ 64 →
+        IfSome (R.left proofs.old.proof) (HasAddition n) }
+    ensures named_step { (n : ℕ) → result ≡ Err (RunFault.StepProof (ProofFault.Step n)) → n + 1 < 2 ^ 64 →
+        IfSome (S.left proofs.old.step) (HasAddition n) }
 {
     circuit.facts();
     let within = Query {
@@ -98,9 +107,13 @@ fn check_question<R: Read, S: Read>(
 ) -> Result<(), RunFault>
     ensures checks { ChecksFor (asked_of question.entry) circuit.old result }
     ensures reads { R.failures proofs.new.proof ≡ R.failures proofs.old.proof + proof_reads_failed result }
-    ensures step { S.failures proofs.new.step ≡ S.failures proofs.old.step + step_reads_failed result }
+    ensures reads_step { S.failures proofs.new.step ≡ S.failures proofs.old.step + step_reads_failed result }
     ensures whole { result ≡ Err (RunFault.Proof ProofFault.NoRefutation) → IfSome (R.left proofs.old.proof) IsProof }
     ensures whole_step { result ≡ Err (RunFault.StepProof ProofFault.NoRefutation) → IfSome (S.left proofs.old.step) IsProof }
+    ensures named { (n : ℕ) → result ≡ Err (RunFault.Proof (ProofFault.Step n)) → n + 1 < 2 ^ 64 →
+        IfSome (R.left proofs.old.proof) (HasAddition n) }
+    ensures named_step { (n : ℕ) → result ≡ Err (RunFault.StepProof (ProofFault.Step n)) → n + 1 < 2 ^ 64 →
+        IfSome (S.left proofs.old.step) (HasAddition n) }
 {
     circuit.facts();
     let query = query_of(question);
@@ -122,9 +135,13 @@ fn read_and_check<R: Read, S: Read>(
     ensures checks { IsChecked (asked_of question.entry) file.now result }
     ensures says { OnOk result (Says (asked_of question.entry) file.now) }
     ensures reads { R.failures proofs.new.proof ≡ R.failures proofs.old.proof + proof_reads_failed result }
-    ensures step { S.failures proofs.new.step ≡ S.failures proofs.old.step + step_reads_failed result }
+    ensures reads_step { S.failures proofs.new.step ≡ S.failures proofs.old.step + step_reads_failed result }
     ensures whole { result ≡ Err (RunFault.Proof ProofFault.NoRefutation) → IfSome (R.left proofs.old.proof) IsProof }
     ensures whole_step { result ≡ Err (RunFault.StepProof ProofFault.NoRefutation) → IfSome (S.left proofs.old.step) IsProof }
+    ensures named { (n : ℕ) → result ≡ Err (RunFault.Proof (ProofFault.Step n)) → n + 1 < 2 ^ 64 →
+        IfSome (R.left proofs.old.proof) (HasAddition n) }
+    ensures named_step { (n : ℕ) → result ≡ Err (RunFault.StepProof (ProofFault.Step n)) → n + 1 < 2 ^ 64 →
+        IfSome (S.left proofs.old.step) (HasAddition n) }
 {
     let mut circuit = circuit_of(alloc, question, file)?;
     circuit.facts();
@@ -201,10 +218,14 @@ pub fn refute<R: Read, S: Read, W: Write>(
         (RefutesQuestion (asked_of question.entry) file.now) result }
     ensures reads { result ≢ Err RunFault.Output →
         R.failures proofs.new.proof ≡ R.failures proofs.old.proof + proof_reads_failed result }
-    ensures step { result ≢ Err RunFault.Output →
+    ensures reads_step { result ≢ Err RunFault.Output →
         S.failures proofs.new.step ≡ S.failures proofs.old.step + step_reads_failed result }
     ensures whole { result ≡ Err (RunFault.Proof ProofFault.NoRefutation) → IfSome (R.left proofs.old.proof) IsProof }
     ensures whole_step { result ≡ Err (RunFault.StepProof ProofFault.NoRefutation) → IfSome (S.left proofs.old.step) IsProof }
+    ensures named { (n : ℕ) → result ≡ Err (RunFault.Proof (ProofFault.Step n)) → n + 1 < 2 ^ 64 →
+        IfSome (R.left proofs.old.proof) (HasAddition n) }
+    ensures named_step { (n : ℕ) → result ≡ Err (RunFault.StepProof (ProofFault.Step n)) → n + 1 < 2 ^ 64 →
+        IfSome (S.left proofs.old.step) (HasAddition n) }
 {
     let checked = read_and_check(alloc, file, question, proofs);
     let query = query_of(question);

@@ -19,8 +19,8 @@ returns-in_err-circuit-clause-reads g c =
     (of_files (certificate_of (asked_of c.args.question)) c.args.file.now part c.in_err-circuit.ensures.refused) c.from_residual.result
     c.from_residual.ensures.1
 
-pub returns-in_err-circuit-clause-step : goal.returns-in_err-circuit-clause-step
-returns-in_err-circuit-clause-step g c =
+pub returns-in_err-circuit-clause-reads_step : goal.returns-in_err-circuit-clause-reads_step
+returns-in_err-circuit-clause-reads_step g c =
     let part = c.in_err-circuit.field-0.0 in
     no_step_read (g.S.Read.failures c.args.proofs.now.step) part
     (of_files (certificate_of (asked_of c.args.question)) c.args.file.now part c.in_err-circuit.ensures.refused) c.from_residual.result
@@ -38,4 +38,18 @@ returns-in_err-circuit-clause-whole_step g c = λ is.
     let part = c.in_err-circuit.field-0.0 in
     absurd (no_step_refused part
     (of_files (certificate_of (asked_of c.args.question)) c.args.file.now part c.in_err-circuit.ensures.refused) faults.NoRefutation
+    c.from_residual.result c.from_residual.ensures.1 is)
+
+pub returns-in_err-circuit-clause-named : goal.returns-in_err-circuit-clause-named
+returns-in_err-circuit-clause-named g c = λ n is below.
+    let part = c.in_err-circuit.field-0.0 in
+    absurd (no_proof_refused part
+    (of_files (certificate_of (asked_of c.args.question)) c.args.file.now part c.in_err-circuit.ensures.refused) (faults.Step n)
+    c.from_residual.result c.from_residual.ensures.1 is)
+
+pub returns-in_err-circuit-clause-named_step : goal.returns-in_err-circuit-clause-named_step
+returns-in_err-circuit-clause-named_step g c = λ n is below.
+    let part = c.in_err-circuit.field-0.0 in
+    absurd (no_step_refused part
+    (of_files (certificate_of (asked_of c.args.question)) c.args.file.now part c.in_err-circuit.ensures.refused) (faults.Step n)
     c.from_residual.result c.from_residual.ensures.1 is)

@@ -27,9 +27,9 @@ returns-clause-reads g c = λ other.
     (sym (answer_is (flow g.W.Write.written g.W.Write.failures c.args.out.now c.write_checked.new.out) (line_of c.query_of-query.result)
     c.read_and_check-checked.result c.write_checked.result c.write_checked.ensures other))
 
-pub returns-clause-step : goal.returns-clause-step
-returns-clause-step g c = λ other.
-    c.read_and_check-checked.ensures.step ∙ ap (λ r. g.S.Read.failures c.args.proofs.now.step + step_reads_failed r)
+pub returns-clause-reads_step : goal.returns-clause-reads_step
+returns-clause-reads_step g c = λ other.
+    c.read_and_check-checked.ensures.reads_step ∙ ap (λ r. g.S.Read.failures c.args.proofs.now.step + step_reads_failed r)
     (sym (answer_is (flow g.W.Write.written g.W.Write.failures c.args.out.now c.write_checked.new.out) (line_of c.query_of-query.result)
     c.read_and_check-checked.result c.write_checked.result c.write_checked.ensures other))
 
@@ -45,4 +45,18 @@ returns-clause-whole_step g c = λ is.
     c.read_and_check-checked.ensures.whole_step
     (fault_is (flow g.W.Write.written g.W.Write.failures c.args.out.now c.write_checked.new.out) (line_of c.query_of-query.result)
     c.read_and_check-checked.result c.write_checked.result (run_faults.StepProof faults.NoRefutation) c.write_checked.ensures
+    (λ e. let never : ⊥ = cc in never) is)
+
+pub returns-clause-named : goal.returns-clause-named
+returns-clause-named g c = λ n is.
+    c.read_and_check-checked.ensures.named n
+    (fault_is (flow g.W.Write.written g.W.Write.failures c.args.out.now c.write_checked.new.out) (line_of c.query_of-query.result)
+    c.read_and_check-checked.result c.write_checked.result (run_faults.Proof (faults.Step n)) c.write_checked.ensures
+    (λ e. let never : ⊥ = cc in never) is)
+
+pub returns-clause-named_step : goal.returns-clause-named_step
+returns-clause-named_step g c = λ n is.
+    c.read_and_check-checked.ensures.named_step n
+    (fault_is (flow g.W.Write.written g.W.Write.failures c.args.out.now c.write_checked.new.out) (line_of c.query_of-query.result)
+    c.read_and_check-checked.result c.write_checked.result (run_faults.StepProof (faults.Step n)) c.write_checked.ensures
     (λ e. let never : ⊥ = cc in never) is)
