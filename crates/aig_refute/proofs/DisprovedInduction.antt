@@ -22,7 +22,7 @@ use Rattle.aig_parts.specs.declared.ternary.Tern.{Tern}
 use Rattle.aig_parts.specs.declared.ternary.Tern.TheVariants.{Zero, One, X}
 use Rattle.aig_base.specs.Circuit.{IsCircuit}
 use Rattle.aig_base.specs.Order.{IsCanonicalOrder}
-use Rattle.aig_base.specs.Runs.{Allows}
+use Rattle.aig_base.specs.Runs.{Allows, ReachesProperty}
 use Rattle.aig_base.specs.Sound.{IsReset}
 use Rattle.aig_base.specs.Value.{reset_value}
 use Rattle.aig_base.proofs.lists.Positions.{slice_get_right}
@@ -35,8 +35,9 @@ use Rattle.aig_sat.specs.checker.Clause.{is_true, meets, Satisfies}
 use Rattle.aig_sim.specs.Reached.{witness_at}
 use Rattle.aig_sim.specs.WitnessText.{Witness}
 use Rattle.aig_refute.specs.Models.{tern_of, values_of}
-use Rattle.aig_refute.specs.Satisfiable.{HasBrokenStep, IsReachedWithin, IsSatisfiable}
-use Rattle.aig_refute.specs.UnrolledWitness.{rows_in, start_in, IsConfirmedWithin}
+use Rattle.aig_refute.specs.Satisfiable.{BreaksStep, DisprovesInduction, HasBrokenStep, IsKnownRun, IsNamedInduction}
+use Rattle.aig_refute.specs.Satisfiable.{IsReachedWithin, IsSatisfiable}
+use Rattle.aig_refute.specs.UnrolledWitness.{rows_in, start_in, IsConfirmedWithin, IsRun, MakesBad}
 use Rattle.aig_refute.proofs.AnyState.{any_allowed, any_fits, reaches_any}
 use Rattle.aig_refute.proofs.BadFormula.{formula_met, goal_frame, in_model, wide_values}
 use Rattle.aig_refute.proofs.FirstReached.{at_reached, satisfies_both}
@@ -44,12 +45,12 @@ use Rattle.aig_refute.proofs.RowValues.{Allowed}
 use Rattle.aig_refute.proofs.SettledRows.{length_settled, makes_settled, settled, settled_known}
 use Rattle.aig_refute.proofs.StepFormula.{each_named}
 use Rattle.aig_refute.proofs.Tseitin.{both_and, gates_met, meets_gates, meets_one}
-use Rattle.aig_refute.proofs.UnrolledRows.{row_in, run_in}
-use Rattle.aig_refute.proofs.UnrolledWitnesses.{in_row}
+use Rattle.aig_refute.proofs.UnrolledRows.{row_in, row_known, row_of_run, row_wide, run_in}
+use Rattle.aig_refute.proofs.UnrolledWitnesses.{in_row, made_bad_in}
 use Rattle.aig_refute.proofs.WithinFormula.{confirmed_at}
 use Rattle.aig_unroll.specs.FrameLiteral.{input_count, is_uninitialised}
 use Rattle.aig_unroll.specs.Unrolled.{frames, unrolled}
-use Rattle.aig_unroll.specs.UnrolledValues.{free_values}
+use Rattle.aig_unroll.specs.UnrolledValues.{free_values, unrolled_row}
 use Rattle.aig_unroll.proofs.UnrolledRow.{frames_at, length-flat}
 
 -- ---- what a literal implies
@@ -220,8 +221,9 @@ module _ (raw : Raw) (circuit : IsCircuit raw) (order : List ℕ) (canonical : I
 
   -- ---- a run that breaks the step
 
-  pub broken_satisfies : HasBrokenStep raw k p → IsSatisfiable clauses
-  broken_satisfies (start, rows, h) =
+  broken_named : (start : List Tern) (rows : List (List Tern)) → BreaksStep raw k p start rows
+      → IsNamedInduction raw order k p start rows
+  broken_named start rows h =
       let (a, satisfies, start_is, rows_are) = each_named raw circuit order canonical k p start rows h in
       let (low, rest) = and_parts (meets a (1 ∷ [])) (list_all (meets a) (first_reached reached ++ flat_map gate_clauses all.gates))
       satisfies in
@@ -231,7 +233,13 @@ module _ (raw : Raw) (circuit : IsCircuit raw) (order : List ℕ) (canonical : I
         a,
         satisfied a low (meets_one a reached j (literal_at k) stands loud)
             (λ t below. implied_false a starts (literal_at t) (quiet t below)) gates,
+        start_is,
+        rows_are,
       )
+
+  pub broken_satisfies : HasBrokenStep raw k p → IsSatisfiable clauses
+  broken_satisfies (start, rows, h) =
+      let (a, satisfies, start_is, rows_are) = broken_named start rows h in (a, satisfies)
 
   -- ---- a run that reaches the property
 
@@ -282,3 +290,57 @@ module _ (raw : Raw) (circuit : IsCircuit raw) (order : List ℕ) (canonical : I
       (value_at a row row_is ((k + 1) * length raw.inputs + i) v
       (start_at row start wide fits.latches (ap (λ (u : Witness). u.start) same) i v stands))) in
       (a, satisfied a low some (λ s under. implied_true a starts (literal_at s) first) gates)
+
+  -- ---- a run without unknown values that reaches the property is named
+
+  settled_tern : (b : Bool) → settled (tern_of b) ≡ tern_of b
+  settled_tern true = refl
+  settled_tern false = refl
+
+  -- the assignment of a row has its values
+  value_in : (a : ℕ → Bool) (row : List Tern) → values_of free (k + 1) a ≡ row
+      → (j : ℕ) (w : Tern) → slice_get row j ≡ Some w → settled w ≡ tern_of (a (1 + j))
+  value_in a row is j w at =
+      let values = values_of free (k + 1) a in
+      let here : slice_get values j ≡ Some w = ap (λ (ws : List Tern). slice_get ws j) is ∙ at in
+      let inside = slice_get_within values j w here in
+      let same : w ≡ tern_of (a (1 + j)) =
+      sym (get_or_from_slice_get values j w X here)
+      ∙ get_or-map-range_with_len (λ v. tern_of (a v)) 1 (input_count free (k + 1)) j (1 + j) X
+      (omega (arith, inside, wide_values free any order canonical (k + 1) a)) refl in
+      ap settled same ∙ settled_tern (a (1 + j))
+
+  reached_named : (start : List Tern) (rows : List (List Tern)) → IsKnownRun start rows → length rows ≡ k + 1 → (t : ℕ) → t < k
+      → ReachesProperty raw start rows t p → IsNamedInduction raw order k p start rows
+  reached_named start rows known long t below (fits, allowed, lt, (b, at, reaches)) =
+      let run : IsRun free (k + 1) start rows =
+      record { frames = long; fits = any_fits raw start rows fits; allowed = any_allowed raw start } in
+      let row = unrolled_row free start rows in
+      let holds = row_of_run free (k + 1) start rows run in
+      let made : MakesBad free order (k + 1) row t p =
+      (made_bad_in free any order canonical (k + 1) row start rows long refl run.fits run.allowed t p b (omega (arith, below)) at).1
+      (reaches_any raw start rows t b reaches) in
+      let (a, satisfies, row_is) = in_model free any order canonical (k + 1) row (row_wide free (k + 1) start rows run)
+      (row_known free start rows known) t p (omega (arith, below)) (slice_get_within raw.bad p b at) made in
+      let (low, some, gates) = formula_met free order (k + 1) p a satisfies in
+      let first : list_all (is_true a) starts ≡ true =
+      starts_true a ((k + 1) * length raw.inputs + 1) raw.latches start fits.latches circuit.sound.resets allowed
+      (λ i v stands.
+      let e : 1 + ((k + 1) * length raw.inputs + i) ≡ (k + 1) * length raw.inputs + 1 + i = omega arith in
+      subst (λ (n : ℕ). settled v ≡ tern_of (a n)) e
+      (value_in a row row_is ((k + 1) * length raw.inputs + i) v
+      (start_at row start (row_wide free (k + 1) start rows run) fits.latches holds.start_is i v stands))) in (
+        a,
+        satisfied a low some (λ s under. implied_true a starts (literal_at s) first) gates,
+        ap (λ (r : List Tern). start_in free (k + 1) r) row_is ∙ holds.start_is,
+        ap (λ (r : List Tern). rows_in free (k + 1) r) row_is ∙ holds.rows_are,
+      )
+
+  pub each_disproof : (start : List Tern) (rows : List (List Tern)) → DisprovesInduction raw k p start rows
+      → IsNamedInduction raw order k p start rows
+  each_disproof start rows h = go h.fails
+    where
+      go : ((t : ℕ) × (t < k) × ReachesProperty raw start rows t p) ⊎ BreaksStep raw k p start rows
+          → IsNamedInduction raw order k p start rows
+      go (inl (t, below, reaches)) = reached_named start rows h.known h.frames t below reaches
+      go (inr breaks) = broken_named start rows breaks

@@ -16,6 +16,7 @@ pub mod NamedInduction
 pub mod NoRuns
 pub mod OneFormula
 pub mod PartialModels
+pub mod Parts
 pub mod Premises
 pub mod Reached
 pub mod RowValues

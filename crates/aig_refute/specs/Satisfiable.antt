@@ -12,7 +12,7 @@ use Rattle.aig_base.specs.Runs.{IsAllowed, ReachesBad, ReachesProperty}
 use Rattle.aig_base.specs.Value.{Fits, Value}
 use Rattle.aig_sat.specs.checker.Clause.{Satisfies}
 use Rattle.aig_cnf.specs.Formula.{formula_of}
-use Rattle.aig_cnf.specs.Query.{from_any_state, step, within}
+use Rattle.aig_cnf.specs.Query.{from_any_state, induction, step, within}
 use Rattle.aig_refute.specs.Models.{AreKnown, values_of}
 use Rattle.aig_refute.specs.UnrolledWitness.{rows_in, start_in, witness_in, IsConfirmedWithin}
 use Rattle.aig_sim.specs.WitnessText.{Witness}
@@ -93,6 +93,12 @@ abbrev pub IsNamedWitness : Raw → List ℕ → ℕ → Witness → Type 0
 IsNamedWitness raw order k w =
     (values : ℕ → Bool) × Satisfies values (formula_of raw order (within k w.property)).clauses
     × (witness_in raw k (length w.rows - 1) w.property (values_of raw k values) ≡ w)
+
+-- some assignment satisfies the formula of the induction, and names the run
+abbrev pub IsNamedInduction : Raw → List ℕ → ℕ → ℕ → List Tern → List (List Tern) → Type 0
+IsNamedInduction raw order k p start rows =
+    (values : ℕ → Bool) × Satisfies values (formula_of raw order (induction k p)).clauses
+    × (step_start raw k values ≡ start) × (step_rows raw k values ≡ rows)
 
 -- some assignment satisfies the formula of the step, and names the run
 abbrev pub IsNamedStep : Raw → List ℕ → ℕ → ℕ → List Tern → List (List Tern) → Type 0

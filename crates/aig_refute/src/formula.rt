@@ -13,8 +13,8 @@ ghost use Rattle.aig_sim.specs.WitnessText.{Witness};
 ghost use Rattle.aig_refute.specs.Models.{AreKnown, IsInModel, NamesWitness};
 ghost use Rattle.aig_refute.specs.Satisfiable.{HasKnownWitness, HasRun, IsKnownWitness, IsNamedWitness, IsReachedAt};
 ghost use Rattle.aig_refute.specs.Satisfiable.{IsReachedWithin};
-ghost use Rattle.aig_refute.specs.Satisfiable.{BreaksStep, DisprovesInduction, HasBrokenStep, IsNamedStep, IsSatisfiable};
-ghost use Rattle.aig_refute.specs.Satisfiable.{step_rows, step_start};
+ghost use Rattle.aig_refute.specs.Satisfiable.{BreaksStep, DisprovesInduction, HasBrokenStep, IsNamedInduction};
+ghost use Rattle.aig_refute.specs.Satisfiable.{IsNamedStep, IsSatisfiable, step_rows, step_start};
 ghost use Rattle.aig_refute.specs.UnrolledWitness.{MakesBad};
 ghost use Rattle.aig_unroll.specs.FrameLiteral.{input_count};
 
@@ -70,7 +70,7 @@ pub fn law_of_step()
 
 /// Some assignment satisfies the formula of an induction over k frames exactly where a run from a start that the resets
 /// allow reaches the bad state within them, or a run breaks the step. Each assignment that satisfies it names such a
-/// run, its start and its rows.
+/// run of k + 1 frames, its start and its rows, and each such run without unknown values is named by one.
 pub fn law_of_induction_formula()
     ensures reached { (raw : Raw) (formula : Cnf) (k p : ℕ) →
         IsCircuit raw → IsFormulaOf raw (induction k p) formula → p < length raw.bad →
@@ -79,4 +79,7 @@ pub fn law_of_induction_formula()
         IsCircuit raw → IsCanonicalOrder (from_any_state raw) order → p < length raw.bad →
         Satisfies values (formula_of raw order (induction k p)).clauses →
         DisprovesInduction raw k p (step_start raw k values) (step_rows raw k values) }
+    ensures each { (raw : Raw) (order : List ℕ) (k p : ℕ) (start : List Tern) (rows : List (List Tern)) →
+        IsCircuit raw → IsCanonicalOrder (from_any_state raw) order → DisprovesInduction raw k p start rows →
+        IsNamedInduction raw order k p start rows }
 {}

@@ -1,11 +1,15 @@
 //! What a formula that no assignment satisfies says of runs. A law is a function that does nothing: its contract is the
 //! law.
-ghost use Rattle.std.specs.Prelude.{◌≡◌, ℕ, ◌<◌, Some, slice_get};
+ghost use Rattle.std.specs.Prelude.{◌≡◌, ◌↔◌, ℕ, ◌<◌, Contains, List, Some, length, slice_get};
 ghost use Rattle.aig_parts.specs.declared.raw.Raw.{Raw};
+ghost use Rattle.aig_parts.specs.declared.ternary.Tern.{Tern};
+ghost use Rattle.aig_parts.specs.declared.ternary.Tern.TheVariants.{One};
 ghost use Rattle.aig_base.specs.Circuit.{IsCircuit};
+ghost use Rattle.aig_base.specs.Value.{Fits, Value};
 ghost use Rattle.aig_cnf.specs.Alive.{IsAliveFormulaOf};
 ghost use Rattle.aig_cnf.specs.Formula.{Cnf, IsFormulaOf};
 ghost use Rattle.aig_certificate.specs.Extension.{IsExtension};
+ghost use Rattle.aig_certificate.specs.Strengthened.{IsStrengthened};
 ghost use Rattle.aig_cnf.specs.Query.{induction, step, within};
 ghost use Rattle.aig_sat.specs.checker.Consequence.{IsUnsatisfiable};
 ghost use Rattle.aig_refute.specs.Unreachable.{HasNoRun, IsUnreachable, IsUnreachableWithin};
@@ -39,6 +43,22 @@ pub fn law_of_one_formula()
 pub fn law_of_extension()
     ensures { (raw x : Raw) (p b : ℕ) → IsCircuit x → slice_get raw.bad p ≡ Some b → IsExtension raw x b →
         IsUnreachable x 0 → IsUnreachable raw p }
+{}
+
+/// Where no run of a circuit that is strengthened by a certificate reaches its one bad state property, none of the model
+/// reaches the property that it was strengthened for, whatever the certificate claims.
+pub fn law_of_strengthening()
+    ensures { (raw certificate x : Raw) (p : ℕ) → IsCircuit x → IsStrengthened raw p certificate x →
+        IsUnreachable x 0 → IsUnreachable raw p }
+{}
+
+/// The bad state property of a strengthened circuit is 1 at a frame exactly where one of its parts is, the outputs: the
+/// property of the model, or a claim of the certificate that is broken.
+pub fn law_of_parts()
+    ensures { (raw certificate x : Raw) (p bad t : ℕ) (start : List Tern) (rows : List (List Tern)) →
+        IsCircuit x → IsStrengthened raw p certificate x → slice_get x.bad 0 ≡ Some bad →
+        Fits x start rows → t < length rows →
+        Value x start rows t bad One ↔ ((part : ℕ) × Contains x.outputs part × Value x start rows t part One) }
 {}
 
 /// Where no assignment satisfies the formula of `Formula::alive` over k frames, no run from a start that the resets

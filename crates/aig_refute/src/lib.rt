@@ -13,7 +13,8 @@ mod unrolled_witnesses;
 pub use conversion::law_of_conversion;
 pub use formula::{law_of_formula, law_of_induction_formula, law_of_last, law_of_step};
 pub use laws::{
-    law_of_alive, law_of_extension, law_of_induction, law_of_one_formula, law_of_refutation,
+    law_of_alive, law_of_extension, law_of_induction, law_of_one_formula, law_of_parts,
+    law_of_refutation, law_of_strengthening,
 };
 pub use partial_models::law_of_partial_models;
 pub use proof::check;
