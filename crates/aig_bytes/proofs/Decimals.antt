@@ -47,8 +47,8 @@ digits-decimal n = digits_are 64 n [] (All-nil IsDigit)
 
 -- no byte that is no digit is in a number
 pub decimal_lacks : (s : ℕ) → (IsDigit s → ⊥) → (n : ℕ) → All (λ b. b ≢ s) (decimal n)
-decimal_lacks s no n =
-    All-weaker IsDigit (λ b. b ≢ s) (λ b h e. no (subst IsDigit e h)) (decimal n) (digits-decimal n)
+decimal_lacks s other n =
+    All-weaker IsDigit (λ b. b ≢ s) (λ b h e. other (subst IsDigit e h)) (decimal n) (digits-decimal n)
 
 pub digit_within : (a xs : List ℕ) (x : ℕ) → AreDigits (a ++ x ∷ xs) → IsDigit x
 digit_within [] xs x h = All-head IsDigit x xs h
