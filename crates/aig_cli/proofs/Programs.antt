@@ -1,5 +1,8 @@
 -- What a program of some commands says to the parser.
-use Rattle.std.proofs.Common.{◌≡◌, ◌∙◌, sym, refl, ap, ap₂, ℕ, List, [], ◌∷◌, ◌++◌, Bool, true, false, not, ◌&&◌, ◌||◌, codes, map, fold}
+use Rattle.std.proofs.Common.{◌≡◌, ◌∙◌, sym, refl, ap, ap₂, ℕ, List, [], ◌∷◌, ◌++◌, append_assoc, Bool, true, false, not}
+use Rattle.std.proofs.Common.{◌&&◌, ◌||◌, codes, map, fold}
+use Rattle.std.proofs.lemmas.Bool.{and_parts, not-true}
+use Rattle.std.proofs.lemmas.List.{append-nil, map-append}
 use Rattle.std.specs.Bool.{⊤}
 use Rattle.std.specs.List.{list_all, list_any}
 use Rattle.clap.specs.Simple.{App, Shape, built_leaf, filled, filled_from, help_rule, help_shape, index_after, inherited}
@@ -15,22 +18,9 @@ use Rattle.aig_cli.specs.declared.arguments.Kind.TheVariants as kinds
 use Rattle.aig_cli.specs.declared.arguments.Need.{Need}
 use Rattle.aig_cli.specs.declared.arguments.Need.TheVariants as wants
 use Rattle.aig_cli.specs.declared.subcommands.Subcommand.{Subcommand}
-use Rattle.aig_cli.specs.Table.{IsCommandLine, flag, on_files, on_proofs, on_runs, on_witnesses, plain, program_of, rule_of_argument, shape_of_row, with_kind, with_need, with_rows, with_rules}
+use Rattle.aig_cli.specs.Table.{IsCommandLine, flag, on_files, on_proofs, on_runs, on_witnesses, plain, program_of}
+use Rattle.aig_cli.specs.Table.{rule_of_argument, shape_of_row, with_kind, with_need, with_rows, with_rules}
 use Rattle.aig_cli.proofs.Tables.{row_is_simple}
-
--- ---- lists
-
-append_none : {X : Type 0} (xs : List X) → xs ++ [] ≡ xs
-append_none [] = refl
-append_none (x ∷ xs) = ap (λ rest. x ∷ rest) (append_none xs)
-
-append_append : {X : Type 0} (xs ys zs : List X) → (xs ++ ys) ++ zs ≡ xs ++ (ys ++ zs)
-append_append [] ys zs = refl
-append_append (x ∷ xs) ys zs = ap (λ rest. x ∷ rest) (append_append xs ys zs)
-
-pub map_both : {X Y : Type 0} (f : X → Y) (xs ys : List X) → map f (xs ++ ys) ≡ map f xs ++ map f ys
-map_both f [] ys = refl
-map_both f (x ∷ xs) ys = ap (λ rest. f x ∷ rest) (map_both f xs ys)
 
 -- ---- commands
 
@@ -38,9 +28,9 @@ map_both f (x ∷ xs) ys = ap (λ rest. f x ∷ rest) (map_both f xs ys)
 pub rules_added : (shape : Shape) (subs : List Shape) (rules : List Rule)
     → with_rules (record { top = shape; subs = subs }) rules
     ≡ record { top = record shape { rules = shape.rules ++ rules }; subs = subs }
-rules_added shape subs [] = ap (λ rules. record { top = record shape { rules = rules }; subs = subs }) (sym (append_none shape.rules))
+rules_added shape subs [] = ap (λ rules. record { top = record shape { rules = rules }; subs = subs }) (sym (append-nil shape.rules))
 rules_added shape subs (rule ∷ rest) = rules_added (record shape { rules = shape.rules ++ rule ∷ [] }) subs rest
-    ∙ ap (λ rules. record { top = record shape { rules = rules }; subs = subs }) (append_append shape.rules (rule ∷ []) rest)
+    ∙ ap (λ rules. record { top = record shape { rules = rules }; subs = subs }) (append_assoc shape.rules (rule ∷ []) rest)
 
 -- commands that are added one by one
 abbrev pub added : App → List Shape → App
@@ -119,9 +109,9 @@ above = with_leaf_noted (marked_built top_of_program)
 
 below : (before shapes : List Shape)
     → added (record { top = top_of_program; subs = before }) shapes ≡ record { top = top_of_program; subs = before ++ shapes }
-below before [] = ap (λ subs. record { top = top_of_program; subs = subs }) (sym (append_none before))
+below before [] = ap (λ subs. record { top = top_of_program; subs = subs }) (sym (append-nil before))
 below before (shape ∷ shapes) = below (before ++ shape ∷ []) shapes
-    ∙ ap (λ subs. record { top = top_of_program; subs = subs }) (append_append before (shape ∷ []) shapes)
+    ∙ ap (λ subs. record { top = top_of_program; subs = subs }) (append_assoc before (shape ∷ []) shapes)
 
 -- a program with a command has them all below the same top
 program_is : (shape : Shape) (shapes : List Shape)
@@ -166,10 +156,7 @@ rows_are_simple (row ∷ rows) = ap is_simple (program_is (shape_of_row row) (ma
 -- ---- what the parser is given
 
 third : (a b g rest : Bool) → (a && (b && (not g && rest))) ≡ true → g ≡ false
-third true true false rest all = refl
-third true true true rest all = cc
-third true false g rest all = cc
-third false b g rest all = cc
+third a b g rest all = not-true g (and_parts (not g) rest (and_parts b _ (and_parts a _ all).1).1).0
 
 plain_has_no_globals : (c : Command-F Command) → has_plain_fields c ≡ true → c.has_globals ≡ false
 plain_has_no_globals c plain = third (is_empty c.groups.items) (not c.allow_external_subcommands) c.has_globals _ plain
@@ -188,7 +175,7 @@ row_built row app is = ap (λ (a : App). a.top) (is
     ∙ ap (λ a. with_rule (with_rule a (flag (codes "explain"))) (flag (codes "progress")))
     (rules_added (new_shape row.name.now) [] (map rule_of_argument row.arguments.now)))
     ∙ ap (λ rules. record (new_shape row.name.now) { rules = rules })
-    (append_append (map rule_of_argument row.arguments.now) (flag (codes "explain") ∷ []) (flag (codes "progress") ∷ []))
+    (append_assoc (map rule_of_argument row.arguments.now) (flag (codes "explain") ∷ []) (flag (codes "progress") ∷ []))
 
 -- the commands of four tables, added in turn
 pub tables_added : (a b c d : List Subcommand) (app : App)
@@ -202,8 +189,8 @@ tables_added a b c d app is =
     ∙ ap (λ x. added x fb) (rows_added base a)))
     ∙ sym (added_both base fa (fb ++ (fc ++ fd)) ∙ added_both (added base fa) fb (fc ++ fd)
     ∙ added_both (added (added base fa) fb) fc fd)
-    ∙ ap (added base) (sym (map_both shape_of_row a (b ++ (c ++ d)) ∙ ap (λ x. fa ++ x)
-    (map_both shape_of_row b (c ++ d) ∙ ap (λ x. fb ++ x) (map_both shape_of_row c d))))
+    ∙ ap (added base) (sym (map-append shape_of_row a (b ++ (c ++ d)) ∙ ap (λ x. fa ++ x)
+    (map-append shape_of_row b (c ++ d) ∙ ap (λ x. fb ++ x) (map-append shape_of_row c d))))
 
 -- what four tables say
 pub tables_plain : (a b c d : List Subcommand) → map plain (map shape_of_row a) ≡ on_files
@@ -211,11 +198,11 @@ pub tables_plain : (a b c d : List Subcommand) → map plain (map shape_of_row a
     → map plain (map shape_of_row d) ≡ on_proofs
     → map plain (map shape_of_row (a ++ (b ++ (c ++ d)))) ≡ on_files ++ on_runs ++ on_witnesses ++ on_proofs
 tables_plain a b c d is_a is_b is_c is_d =
-    ap (map plain) (map_both shape_of_row a (b ++ (c ++ d)) ∙ ap (λ x. map shape_of_row a ++ x)
-    (map_both shape_of_row b (c ++ d) ∙ ap (λ x. map shape_of_row b ++ x) (map_both shape_of_row c d)))
-    ∙ map_both plain (map shape_of_row a) _ ∙ ap₂ (λ x y. x ++ y) is_a
-    (map_both plain (map shape_of_row b) _ ∙ ap₂ (λ x y. x ++ y) is_b
-    (map_both plain (map shape_of_row c) _ ∙ ap₂ (λ x y. x ++ y) is_c is_d))
+    ap (map plain) (map-append shape_of_row a (b ++ (c ++ d)) ∙ ap (λ x. map shape_of_row a ++ x)
+    (map-append shape_of_row b (c ++ d) ∙ ap (λ x. map shape_of_row b ++ x) (map-append shape_of_row c d)))
+    ∙ map-append plain (map shape_of_row a) _ ∙ ap₂ (λ x y. x ++ y) is_a
+    (map-append plain (map shape_of_row b) _ ∙ ap₂ (λ x y. x ++ y) is_b
+    (map-append plain (map shape_of_row c) _ ∙ ap₂ (λ x y. x ++ y) is_c is_d))
 
 pub tables_are_command_line : (a b c d : List Subcommand) (app : App)
     → app ≡ with_rows (with_rows (with_rows (with_rows (program_of []) a) b) c) d

@@ -1,6 +1,7 @@
 -- What the commands and arguments that are built say, over plain values.
-use Rattle.std.proofs.Common.{◌≡◌, ◌∙◌, sym, arith, ◌==◌, refl, ap, suc, ℕ, Bor, is_some, length, List, [], ◌∷◌, ◌++◌, Bool, true, false, not, ◌&&◌}
-use Rattle.std.proofs.lemmas.Bool.{and_right, eqb-true, false_from_ne_true}
+use Rattle.std.proofs.Common.{◌≡◌, ◌∙◌, sym, arith, ◌==◌, refl, ap, suc, ℕ, Bor, is_some, length, List, [], ◌∷◌, ◌++◌}
+use Rattle.std.proofs.Common.{Bool, true, false, not, ◌&&◌}
+use Rattle.std.proofs.lemmas.Bool.{and_parts, and_right, eqb-true, false_from_ne_true, not-true}
 use Rattle.clap.specs.Simple.{new_rule}
 use Rattle.clap.specs.Walk.{Rule, Text, is_empty, rule_of}
 use Rattle.clap.specs.Words.{AddsConflicts, AddsRequiredUnless, AddsRequirements}
@@ -12,16 +13,6 @@ use Rattle.aig_cli.specs.declared.arguments.Kind.TheVariants as kinds
 use Rattle.aig_cli.specs.declared.arguments.Need.{Need}
 use Rattle.aig_cli.specs.declared.arguments.Need.TheVariants as wants
 use Rattle.aig_cli.specs.Table.{rule_of_argument, with_kind, with_need}
-
--- the second side of a true conjunction is true
-pub second : (x y : Bool) → (x && y) ≡ true → y ≡ true
-second true y both = both
-second false true both = refl
-second false false both = both
-
-pub not_true : (x : Bool) → not x ≡ true → x ≡ false
-not_true true is = cc
-not_true false is = refl
 
 -- ---- arguments
 
@@ -111,7 +102,10 @@ row_is_simple row = need_is_simple row.need _ ∙ kind_is_simple row.kind row.na
 -- the last of ten conditions
 tenth : (a b c d e f g h i j : Bool)
     → (a && (b && (c && (d && (e && (f && (g && (h && (i && not j))))))))) ≡ true → j ≡ false
-tenth a b c d e f g h i j all = not_true j (second i _ (second h _ (second g _ (second f _ (second e _ (second d _ (second c _ (second b _ (second a _ all)))))))))
+tenth a b c d e f g h i j all =
+    let four = (and_parts d _ (and_parts c _ (and_parts b _ (and_parts a _ all).1).1).1).1 in
+    let eight = (and_parts h _ (and_parts g _ (and_parts f _ (and_parts e _ four).1).1).1).1 in
+    not-true j (and_parts i _ eight).1
 
 -- so none is global
 pub is_local : (a : Arg) (row : Argument) → rule_of a ≡ rule_of_argument row → a.global ≡ false

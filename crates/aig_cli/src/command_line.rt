@@ -2,7 +2,8 @@
 ghost use Rattle.std.specs.Prelude.{◌≡◌, [], IfOk, IfSome, None, false, is_some, true, map, option_map, slice_index};
 ghost use Rattle.clap.specs.Matches.{first_value, found_of};
 ghost use Rattle.clap.specs.Words.{app_of, is_simple, subcommand_rows_of, with_subcommand};
-ghost use Rattle.aig_cli.specs.Held.{HoldsFlag, HoldsGeneralFlag, HoldsNumber, HoldsNumberOr, HoldsSubcommand, LacksFormula, is_plain_number, names_formula, needs_formula};
+ghost use Rattle.aig_cli.specs.Held.{HoldsFlag, HoldsGeneralFlag, HoldsNumber, HoldsNumberOr, HoldsSubcommand};
+ghost use Rattle.aig_cli.specs.Held.{LacksFormula, is_plain_number, names_formula, needs_formula};
 ghost use Rattle.aig_cli.specs.Table.{HoldsWords, IsCommandLine, program_of, shape_of_row, with_rows};
 
 use crate::arguments::NUMBERS;
