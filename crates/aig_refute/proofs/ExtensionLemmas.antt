@@ -28,8 +28,6 @@ use Rattle.aig_certificate.specs.Extension as extension
 use Rattle.aig_certificate.specs.Extension.{IsAndOf, IsExtension}
 use Rattle.aig_refute.specs.Unreachable.{IsUnreachable}
 
--- ---- literals
-
 -- ---- latches that start as their resets say
 
 abbrev first_values : List Latch → List Tern

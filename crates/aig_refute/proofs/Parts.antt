@@ -1,6 +1,7 @@
 -- The bad state property of a strengthened circuit is 1 exactly where a part of it is.
 use Rattle.std.proofs.Common.{◌≡◌, ◌⊎◌, inl, inr, ◌↔◌, ℕ, zero, suc, ◌+◌, ◌*◌, ◌<◌, Bool, true, false, if◌then◌else◌, nat_lt}
 use Rattle.std.proofs.Common.{List, [], ◌∷◌, ◌++◌, length, map, Contains, Some, slice_get, refl, sym, ◌∙◌, ap, subst, arith}
+use Rattle.std.proofs.Common.{append_assoc}
 use Rattle.std.proofs.lemmas.List.Elements.{Contains-append_right}
 use Rattle.aig_parts.specs.Literal.{negation, variable}
 use Rattle.aig_parts.specs.Ternary.{kleene_and, kleene_not}
@@ -32,7 +33,7 @@ zero_side X One e = inl e
 zero_side X X e = inl e
 
 later : (p : ℕ) (ps : List ℕ) (q : ℕ) → Contains ps q → Contains (p ∷ ps) q
-later q (k, lt, is) = (suc k, omega (arith, lt), is)
+later p ps q (k, lt, is) = (suc k, omega (arith, lt), is)
 
 -- ---- the values of a run at a frame
 
@@ -168,7 +169,9 @@ module _ (raw certificate x : Raw) (p : ℕ) (circuit : IsCircuit x) (s : IsStre
   within : (g : Gate) → Contains links g → Contains x.gates g
   within g has =
       let translated : List Gate = map (translated_gate s.literal) certificate.gates in
-      subst (λ (gs : List Gate). Contains gs g) (sym (ap (λ (r : Raw). r.gates) s.is))
+      let gates : x.gates ≡ raw.gates ++ (translated ++ links) =
+      ap (λ (r : Raw). r.gates) s.is ∙ append_assoc raw.gates translated links in
+      subst (λ (gs : List Gate). Contains gs g) (sym gates)
       (Contains-append_right raw.gates (translated ++ links) g (Contains-append_right translated links g has))
 
   outputs_are : x.outputs ≡ s.bad ∷ broken
@@ -189,7 +192,7 @@ module _ (raw certificate x : Raw) (p : ℕ) (circuit : IsCircuit x) (s : IsStre
           → HasPart
       go (inl low) = (s.bad, as_output s.bad (0, omega arith, refl), back x circuit start rows fits t lt s.bad Zero low)
       go (inr (part, has, low)) =
-          (part, as_output part (later part has), back x circuit start rows fits t lt part Zero low)
+          (part, as_output part (later s.bad broken part has), back x circuit start rows fits t lt part Zero low)
 
   by_part : HasPart → Value x start rows t (negation last) One
   by_part (part, has, v) =
