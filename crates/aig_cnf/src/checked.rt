@@ -99,6 +99,17 @@ fn add_goal(
     }
 }
 
+// A checker without clauses, for steps with hints or without.
+fn checker(alloc: Global, variables: u32, is_hinted: bool) -> Result<Refutation, Memory>
+    ensures { IfOk result (Follows []) }
+{
+    if is_hinted {
+        Refutation::with_hints(alloc, variables)
+    } else {
+        Refutation::new(alloc, variables)
+    }
+}
+
 impl Formula {
     // Adds all clauses.
     fn add_all(&self, refutation: &mut Refutation) -> Result<(), Memory>
@@ -110,11 +121,12 @@ impl Formula {
         add_gates(refutation, gates)
     }
 
-    /// Returns a checker that has the formula: what it refutes, no assignment satisfies.
-    pub fn refutation(&self, alloc: Global) -> Result<Refutation, Memory>
+    /// Returns a checker that has the formula, for steps with hints or without: what it refutes, no assignment
+    /// satisfies.
+    pub fn refutation(&self, alloc: Global, is_hinted: bool) -> Result<Refutation, Memory>
         ensures { IfOk result (Follows self.now.clauses) }
     {
-        let mut refutation = Refutation::new(alloc, self.variables())?;
+        let mut refutation = checker(alloc, self.variables(), is_hinted)?;
         self.add_all(&mut refutation)?;
         Ok(refutation)
     }

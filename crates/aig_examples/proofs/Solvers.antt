@@ -140,7 +140,7 @@ two_texts = proofs.TextSteps.more {text = codes "1 0\n"} {steps = first_of_two �
     (omega arith) (inl refl) (text.SpellsClause.end {gap = []} (10 ∷ []) text.Gap.nothing (10, inr (inr refl), refl))))
 
 two_steps : IsProof (codes "1 0\nd 1 0\n")
-two_steps = (
+two_steps = inl (
   first_of_two ∷ second_of_two ∷ [],
   inl (
     codes "1 0\nd 1 0\n",
@@ -152,7 +152,7 @@ two_steps = (
 )
 
 first_adds : HasAddition 1 (codes "1 0\nd 1 0\n")
-first_adds = ([], 0 ∷ [], inl (codes "1 0\n", codes "d 1 0\n\n", first_text, refl), refl)
+first_adds = inl ([], 0 ∷ [], inl (codes "1 0\n", codes "d 1 0\n\n", first_text, refl), refl)
 
 -- `1 0` is the first step of a text, and `c` and an LF are the end
 first_step : SpellsStep true 10 (codes "1 0\n") Add (0 ∷ [])

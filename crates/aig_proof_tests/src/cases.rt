@@ -46,18 +46,28 @@ impl<'a> Case<'a> {
 
     // Goes on after a step that is refused, which adds nothing.
     fn check(&self, alloc: Global, marks: &mut String) -> Result<(), ProofFault> {
-        let mut refutation = self.refutation(alloc)?;
         let mut source = MemReader::new(self.proof);
         let mut steps = ProofReader::new(alloc, u32::from(self.variables));
+        let is_hinted = steps.is_hinted(&mut source)?;
+        let mut refutation = self.refutation(alloc, is_hinted)?;
         for _ in 1..u64::MAX {
             if refutation.is_refuted() {
                 return Ok(());
             }
-            let Some(kind) = steps.next(&mut source)? else {
+            let next = if is_hinted {
+                steps.next_hinted(&mut source)?
+            } else {
+                steps.next(&mut source)?
+            };
+            let Some(kind) = next else {
                 break;
             };
             refutation.add_variables(steps.variables())?;
-            let mark = do_step(&mut refutation, kind, steps.clause())?;
+            let mark = if is_hinted {
+                do_hinted(&mut refutation, kind, &steps)?
+            } else {
+                do_step(&mut refutation, kind, steps.clause(), None)?
+            };
             if marks.push(mark).is_err() {
                 return Err(ProofFault::Memory);
             }
@@ -65,8 +75,12 @@ impl<'a> Case<'a> {
         Err(ProofFault::NoRefutation)
     }
 
-    fn refutation(&self, alloc: Global) -> Result<Refutation, ProofFault> {
-        let mut refutation = Refutation::new(alloc, u32::from(self.variables))?;
+    fn refutation(&self, alloc: Global, is_hinted: bool) -> Result<Refutation, ProofFault> {
+        let mut refutation = if is_hinted {
+            Refutation::with_hints(alloc, u32::from(self.variables))?
+        } else {
+            Refutation::new(alloc, u32::from(self.variables))?
+        };
         let mut source = MemReader::new(self.formula);
         let mut clauses = ProofReader::new(alloc, u32::from(self.variables));
         for _ in 1..u64::MAX {
@@ -81,15 +95,38 @@ impl<'a> Case<'a> {
 
 // Does a step and marks it: a deletion, a clause that follows by unit propagation, one that is right on its first
 // literal, or one that is refused.
-fn do_step(refutation: &mut Refutation, kind: StepKind, clause: &[Lit]) -> Result<char, Memory> {
+fn do_step(
+    refutation: &mut Refutation,
+    kind: StepKind,
+    clause: &[Lit],
+    hints: Option<&[Lit]>,
+) -> Result<char, Memory> {
     if kind == StepKind::Delete {
         refutation.delete(clause);
         Ok('d')
-    } else if refutation.add_step(clause)? {
+    } else if refutation.add_step(clause, hints)? {
         Ok('+')
-    } else if refutation.add_on_first(clause)? {
+    } else if refutation.add_on_first(clause, hints)? {
         Ok('*')
     } else {
         Ok('-')
     }
+}
+
+// The same of a step with hints, which is refused also where its number is not over all before it.
+fn do_hinted(
+    refutation: &mut Refutation,
+    kind: StepKind,
+    steps: &ProofReader,
+) -> Result<char, Memory> {
+    if kind == StepKind::Delete {
+        for number in steps.hints() {
+            refutation.delete_named(*number);
+        }
+        return Ok('d');
+    }
+    if !refutation.number_next(steps.number()) {
+        return Ok('-');
+    }
+    do_step(refutation, kind, steps.clause(), Some(steps.hints()))
 }

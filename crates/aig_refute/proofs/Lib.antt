@@ -6,9 +6,11 @@ pub mod ConvertedTraces
 pub mod ConvertedVerdicts
 pub mod ConvertedWitnesses
 pub mod DisprovedInduction
+pub mod EitherProofs
 pub mod Examples
 pub mod ExtensionLemmas
 pub mod FirstReached
+pub mod HintedProofs
 pub mod InductionLemmas
 pub mod LastFormula
 pub mod LaterFrames

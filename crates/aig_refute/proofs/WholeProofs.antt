@@ -14,10 +14,7 @@ use Rattle.aig_sat.specs.proof.ProofText.{Gap, SpellsStep, last_byte}
 use Rattle.aig_sat.specs.proof.Proofs.{BeginsWith, BinarySteps, HasAddition, IsProof, Step, TextSteps, are_none}
 use Rattle.aig_sat.specs.proof.Steps.{Block, Reads, ReadsEnd, ReadsStep, StepReader, TakesText, bytes_to_come}
 use Rattle.aig_sat.specs.proof.Steps.{text_to_come}
-
--- nothing was read
-abbrev pub fresh : Block
-fresh = record { waiting = []; ended = false; previous = 10 }
+use Rattle.aig_refute.specs.state.Reading.{BeginsAll, fresh}
 
 -- a text was read up to here
 pub record TextRead (block : Block) (whole left : Option (List ℕ)) (steps : List Step) : Type 0 where
@@ -35,21 +32,26 @@ pub record BytesRead (block : Block) (whole left : Option (List ℕ)) (steps : L
 
 -- the same of either
 abbrev pub SoFar : Option Spelling → Block → Option (List ℕ) → Option (List ℕ) → List Step → Type 0
-SoFar None block whole left steps = (steps ≡ []) × (block ≡ fresh) × (left ≡ whole)
+SoFar None block whole left steps = (steps ≡ []) × BeginsAll block whole left
 SoFar (Some Text) block whole left steps = TextRead block whole left steps
 SoFar (Some Binary) block whole left steps = BytesRead block whole left steps
 
-text_fresh : (whole l : Option (List ℕ)) (b : Block) → l ≡ whole → b ≡ fresh
+text_fresh : (whole l : Option (List ℕ)) (b : Block) → BeginsAll b whole l
     → text_to_come fresh whole ≡ before [] (text_to_come b l)
-text_fresh whole l b e f =
-    let same : text_to_come b l ≡ text_to_come fresh whole = ap (λ (k : Block). text_to_come k l) f ∙ ap (text_to_come fresh) e in
-    sym (ap (before []) same ∙ before_none (text_to_come fresh whole))
+text_fresh whole l b begun = begun.text ∙ sym (before_none (text_to_come b l))
 
-bytes_fresh : (whole l : Option (List ℕ)) (b : Block) → l ≡ whole → b ≡ fresh
+bytes_fresh : (whole l : Option (List ℕ)) (b : Block) → BeginsAll b whole l
     → bytes_to_come fresh whole ≡ before [] (bytes_to_come b l)
-bytes_fresh whole l b e f =
-    let same : bytes_to_come b l ≡ bytes_to_come fresh whole = ap (λ (k : Block). bytes_to_come k l) f ∙ ap (bytes_to_come fresh) e in
-    sym (ap (before []) same ∙ before_none (bytes_to_come fresh whole))
+bytes_fresh whole l b begun = begun.bytes ∙ sym (before_none (bytes_to_come b l))
+
+-- a look at the first bytes takes none
+pub begins_all : (a b : Block) (l m : Option (List ℕ)) → a ≡ fresh → TakesText a b l m []
+    → bytes_to_come a l ≡ bytes_to_come b m → BeginsAll b l m
+begins_all a b l m e took bytes = record {
+  text = ap (λ (k : Block). text_to_come k l) (sym e) ∙ took.come ∙ before_none (text_to_come b m);
+  bytes = ap (λ (k : Block). bytes_to_come k l) (sym e) ∙ bytes;
+  previous = took.previous ∙ ap (λ (k : Block). k.previous) e;
+}
 
 some_more : (steps : List Step) (step : Step) → are_none (steps ++ step ∷ []) ≡ false
 some_more [] step = refl
@@ -95,12 +97,12 @@ module _ (old new : StepReader) (whole l m : Option (List ℕ)) (steps : List St
           → ReadsStep old new l m kind n
           → (clause : List ℕ) × SoFar n new.block whole m (steps ++ record { kind = kind; clause = clause } ∷ [])
       by o None is is' so reads = absurd reads
-      by None (Some Text) is is' (none, begun, left) reads =
+      by None (Some Text) is is' (none, begun) reads =
           text_more [] (subst (TextSteps []) (sym none) TextSteps.none)
-          (text_fresh whole l old.block left begun) (ap (λ (b : Block). b.previous) begun)
+          (text_fresh whole l old.block begun) begun.previous
           (ap is_none is ∙ sym (ap are_none none)) reads
-      by None (Some Binary) is is' (none, begun, left) reads =
-          bytes_more [] (subst (BinarySteps []) (sym none) BinarySteps.none) (bytes_fresh whole l old.block left begun) reads
+      by None (Some Binary) is is' (none, begun) reads =
+          bytes_more [] (subst (BinarySteps []) (sym none) BinarySteps.none) (bytes_fresh whole l old.block begun) reads
       by (Some Text) (Some Text) is is' so reads =
           text_more so.text so.spelled so.come so.previous (ap is_none is ∙ sym so.some) reads
       by (Some Binary) (Some Binary) is is' so reads = bytes_more so.front so.spelled so.come reads
@@ -123,7 +125,8 @@ module _ (old new : StepReader) (whole l m : Option (List ℕ)) (steps : List St
           known None rest ends e = tt
           known (Some bytes) None ends e = let never : ⊥ = cc in absurd never
           known (Some bytes) (Some rest) ends e =
-              let k : bytes ++ 10 ∷ [] ≡ (front ++ gap) ++ rest = cc in (
+              let k : bytes ++ 10 ∷ [] ≡ (front ++ gap) ++ rest = cc in
+              inl (
                 steps,
                 inl (
                   front,
@@ -144,7 +147,8 @@ module _ (old new : StepReader) (whole l m : Option (List ℕ)) (steps : List St
           known None rest ends e = tt
           known (Some bytes) None ends e = let never : ⊥ = cc in absurd never
           known (Some bytes) (Some rest) ends e =
-              let k : bytes ≡ front ++ rest = cc in (
+              let k : bytes ≡ front ++ rest = cc in
+              inl (
                 steps,
                 inr (subst (λ (xs : List ℕ). BinarySteps xs steps)
                     (sym (k ∙ ap (λ (xs : List ℕ). front ++ xs) ends ∙ append-nil front)) done),
@@ -153,11 +157,11 @@ module _ (old new : StepReader) (whole l m : Option (List ℕ)) (steps : List St
       by : (o n : Option Spelling) → old.spelling ≡ o → new.spelling ≡ n → SoFar o old.block whole l steps
           → ReadsEnd old new l m n → IfSome whole IsProof
       by o None is is' so reads = absurd reads
-      by None (Some Text) is is' (none, begun, left) reads =
+      by None (Some Text) is is' (none, begun) reads =
           text_whole [] (subst (TextSteps []) (sym none) TextSteps.none)
-          (text_fresh whole l old.block left begun) (ap (λ (b : Block). b.previous) begun) reads
-      by None (Some Binary) is is' (none, begun, left) reads =
-          bytes_whole [] (subst (BinarySteps []) (sym none) BinarySteps.none) (bytes_fresh whole l old.block left begun) reads
+          (text_fresh whole l old.block begun) begun.previous reads
+      by None (Some Binary) is is' (none, begun) reads =
+          bytes_whole [] (subst (BinarySteps []) (sym none) BinarySteps.none) (bytes_fresh whole l old.block begun) reads
       by (Some Text) (Some Text) is is' so reads = text_whole so.text so.spelled so.come so.previous reads
       by (Some Binary) (Some Binary) is is' so reads = bytes_whole so.front so.spelled so.come reads
       by (Some Text) (Some Binary) is is' so reads =
@@ -170,20 +174,20 @@ pub begins_with : (o : Option Spelling) (block : Block) (whole l : Option (List 
     → length steps + 1 ≡ n → SoFar o block whole l (steps ++ record { kind = Add; clause = clause } ∷ [])
     → IfSome whole (HasAddition n)
 begins_with o block None l steps clause n count so = tt
-begins_with None block (Some bytes) l steps clause n count (none, begun, left) = absurd (never steps none)
+begins_with None block (Some bytes) l steps clause n count (none, begun) = absurd (never steps none)
   where
     never : (steps : List Step) → steps ++ record { kind = Add; clause = clause } ∷ [] ≡ [] → ⊥
     never [] e = let no : ⊥ = cc in no
     never (s ∷ steps) e = let no : ⊥ = cc in no
 begins_with (Some Text) block (Some bytes) l steps clause n count so =
-    (steps, clause, known (text_to_come block l) so.come, count)
+    inl (steps, clause, known (text_to_come block l) so.come, count)
   where
     known : (rest : Option (List ℕ)) → Some (bytes ++ 10 ∷ []) ≡ before so.text rest
         → BeginsWith bytes (steps ++ record { kind = Add; clause = clause } ∷ [])
     known None e = let no : ⊥ = cc in absurd no
     known (Some rest) e = let k : bytes ++ 10 ∷ [] ≡ so.text ++ rest = cc in inl (so.text, rest, so.spelled, k)
 begins_with (Some Binary) block (Some bytes) l steps clause n count so =
-    (steps, clause, known (bytes_to_come block l) so.come, count)
+    inl (steps, clause, known (bytes_to_come block l) so.come, count)
   where
     known : (rest : Option (List ℕ)) → Some bytes ≡ before so.front rest
         → BeginsWith bytes (steps ++ record { kind = Add; clause = clause } ∷ [])

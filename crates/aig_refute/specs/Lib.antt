@@ -6,3 +6,4 @@ pub mod Satisfiable
 pub mod Selection
 pub mod Unreachable
 pub mod UnrolledWitness
+pub mod state

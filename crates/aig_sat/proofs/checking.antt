@@ -1,5 +1,6 @@
 pub mod WordLemmas
 pub mod SearchLemmas
+pub mod LeftLemmas
 pub mod PutLemmas
 pub mod PropagationLemmas
 pub mod TruthLemmas

@@ -1,4 +1,5 @@
 pub mod BytesRefusals
+pub mod HintedLemmas
 pub mod RenamingLemmas
 pub mod TakingLemmas
 pub mod TextRefusals

@@ -1,3 +1,4 @@
+pub mod HintedText
 pub mod ProofBytes
 pub mod ProofText
 pub mod Proofs

@@ -4,6 +4,8 @@ mod checker;
 mod clauses;
 mod finder;
 mod first;
+mod hints;
+mod ids;
 mod known;
 mod marks;
 mod propagator;

@@ -1,9 +1,10 @@
-//! Proofs that a formula has no satisfying assignment, as SAT solvers write them (DRAT): their steps, read one by one.
-//! The crate knows no formula: whether a step follows is not its affair.
+//! Proofs that a formula has no satisfying assignment, as SAT solvers write them (DRAT, and LRAT as text): their steps,
+//! read one by one. The crate knows no formula: whether a step follows is not its affair.
 
 mod binary;
 mod bytes;
 mod fault;
+mod hinted;
 mod literal;
 mod names;
 mod reader;

@@ -146,7 +146,8 @@ fn is_right(formula: &mut Refutation, kind: StepKind, clause: &[Lit]) -> bool {
             true
         }
         StepKind::Add => {
-            formula.add_step(clause) == Ok(true) || formula.add_on_first(clause) == Ok(true)
+            formula.add_step(clause, None) == Ok(true)
+                || formula.add_on_first(clause, None) == Ok(true)
         }
     }
 }

@@ -136,7 +136,7 @@ fn is_written(
 }
 
 fn is_refuted(alloc: Global, formula: &Formula) -> bool {
-    match formula.refutation(alloc) {
+    match formula.refutation(alloc, false) {
         Ok(refutation) => refutation.is_refuted(),
         Err(_) => false,
     }

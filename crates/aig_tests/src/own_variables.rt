@@ -175,7 +175,7 @@ fn formula_of(alloc: Global, row: Steps) -> Option<Refutation> {
 }
 
 fn is_right(formula: &mut Refutation, clause: &[Lit]) -> bool {
-    formula.add_step(clause) == Ok(true) || formula.add_on_first(clause) == Ok(true)
+    formula.add_step(clause, None) == Ok(true) || formula.add_on_first(clause, None) == Ok(true)
 }
 
 // How many steps are right up to the first that is not, and whether they refute the formula.

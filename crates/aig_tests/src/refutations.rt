@@ -29,7 +29,7 @@ fn is_refuted_by(alloc: Global, formula: &mut Refutation, variables: u8, proof: 
     for _ in 0..proof.len() {
         match reader.next(&mut source) {
             Ok(Some(StepKind::Add)) => {
-                if formula.add_step(reader.clause()) != Ok(true) {
+                if formula.add_step(reader.clause(), None) != Ok(true) {
                     return false;
                 }
             }
@@ -213,7 +213,7 @@ fn is_decided(alloc: Global, random: &mut Random) -> Option<bool> {
     let mut right = true;
     for (count, numbers, more) in COUNTS {
         for number in 0..numbers {
-            let taken = formula.add_step(&denial(alloc, number, count)?).ok()?;
+            let taken = formula.add_step(&denial(alloc, number, count)?, None).ok()?;
             right &= taken != can_begin(&clauses, number, numbers);
         }
         for number in 0..more {
@@ -273,7 +273,7 @@ fn follows(alloc: Global, row: Step) -> Option<bool> {
     for clause in deleted {
         formula.delete(&literals(*clause));
     }
-    formula.add_step(&literals(step)).ok()
+    formula.add_step(&literals(step), None).ok()
 }
 
 fn follow(alloc: Global, rows: &[Step]) -> bool {

@@ -91,6 +91,32 @@ settled_then v old new p lie s stands (inr (k, inside, other, holds)) =
 stood : (old new : List ℕ) (p : ℕ) → Shrinks old new → StandsAt new p → StandsAt old p
 stood old new p s stands = let e : get_or new p 0 ≡ get_or old p 0 = s.heads p stands in omega (arith, e, stands)
 
+-- the literals of the clause at a place
+settled_at : (v : ℕ → Bool) (words literals : List ℕ) (p lie : ℕ) → IsClauseAt words p literals → MeetsOther v literals lie
+    → Settles v words p lie
+settled_at v words literals p lie at (k, inside, other, holds) =
+    let is : get_or literals k 0 ≡ literal_at words p k = at.items k inside in
+    inr (k, omega (arith, at.size, inside), (λ e. other (is ∙ e)), ap (is_true v) (sym is) ∙ holds)
+
+-- the resolvent follows
+settled_by : (old new : Propagator) (clause literals resolvent : List ℕ) (lie place : ℕ)
+    → IsClauseAt old.clauses.words.items place literals
+    → ((v : ℕ → Bool) → meets v resolvent ≡ true → meets v clause ≡ false → MeetsOther v literals lie)
+    → Narrows old new → Implies old resolvent → IsSettled old new clause lie place
+settled_by old new clause literals resolvent lie place at resolves n implied v a untrue stands =
+    settled_then v old.clauses.words.items new.clauses.words.items place lie n.same stands
+    (settled_at v old.clauses.words.items literals place lie at (resolves v (implied v a) untrue))
+
+-- the same of what a search returns
+pub settled_found : (r : Result Bool Memory) (old new : Propagator) (clause literals resolvent : List ℕ) (lie place : ℕ)
+    → IsClauseAt old.clauses.words.items place literals
+    → ((v : ℕ → Bool) → meets v resolvent ≡ true → meets v clause ≡ false → MeetsOther v literals lie)
+    → Narrows old new → IfOk r (λ follows. IsTrue follows → Implies old resolvent)
+    → IfOk r (λ settled. IsTrue settled → IsSettled old new clause lie place)
+settled_found (Err e) old new clause literals resolvent lie place at resolves n implied = implied
+settled_found (Ok b) old new clause literals resolvent lie place at resolves n implied =
+    λ t. settled_by old new clause literals resolvent lie place at resolves n (implied t)
+
 -- what was settled stays so
 pub settled_later : (old mid new : Propagator) (clause : List ℕ) (lie p : ℕ) → IsSettled old mid clause lie p
     → Narrows mid new → IsSettled old new clause lie p

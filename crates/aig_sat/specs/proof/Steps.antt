@@ -8,6 +8,7 @@ use Rattle.aig_parts.specs.Literal.{variable}
 use Rattle.aig_sat.specs.declared.proof.spelling.Spelling.{Spelling}
 use Rattle.aig_sat.specs.declared.proof.spelling.Spelling.TheVariants.{Text, Binary}
 use Rattle.aig_sat.specs.declared.proof.step.StepKind.{StepKind}
+use Rattle.aig_sat.specs.proof.HintedText.{SpellsHinted}
 use Rattle.aig_sat.specs.proof.ProofText.{Gap, SpellsStep, last_byte}
 use Rattle.aig_sat.specs.proof.ProofBytes.{SpellsBinaryStep}
 
@@ -19,11 +20,14 @@ pub record Block : Type 0 where
   pub previous : ℕ
 
 -- how many variables the formula has, how many there are with those of the proof's own, the clause of the last step
--- that was read, how the proof is spelled where that is known, and the bytes
+-- that was read, its number and its hints where it has them, how the proof is spelled where that is known, and the
+-- bytes
 pub record StepReader : Type 0 where
   pub formula : ℕ
   pub variables : ℕ
   pub clause : List ℕ
+  pub number : ℕ
+  pub hints : List ℕ
   pub spelling : Option Spelling
   pub block : Block
 
@@ -95,6 +99,15 @@ ReadsEnd old new left left' None = ⊥
 abbrev pub Reads : StepReader → StepReader → Option (List ℕ) → Option (List ℕ) → Option StepKind → Type 0
 Reads old new left left' (Some kind) = ReadsStep old new left left' kind new.spelling
 Reads old new left left' None = ReadsEnd old new left left' new.spelling
+
+-- The same of a proof with hints. Only the clause may have the names of the proof's own variables.
+abbrev pub ReadsHinted : StepReader → StepReader → Option (List ℕ) → Option (List ℕ) → Option StepKind → Type 0
+ReadsHinted old new left left' (Some kind) = (text : List ℕ) × (spelled : List ℕ)
+    × SpellsHinted old.block.previous text
+    (record { number = new.number; kind = kind; clause = spelled; hints = new.hints })
+    × AreRenamed old.formula spelled new.clause
+    × TakesText old.block new.block left left' text
+ReadsHinted old new left left' None = ReadsEnd old new left left' (Some Text)
 
 -- the bytes to come of a text begin with a step, or only separate up to their end
 abbrev pub StepToCome : Bool → ℕ → List ℕ → Type 0

@@ -5,6 +5,7 @@ ghost use Rattle.aig_sat.specs.checker.Clause.{is_true, meets};
 ghost use Rattle.aig_sat.specs.checker.Holding.{Holds, KeepsHolding, KeepsMeeting};
 
 use crate::checker::finder::Finder;
+use crate::checker::hints::id_of;
 use crate::checker::marks::Marks;
 use crate::checker::propagator::Propagator;
 use aig_bytes::Memory;
@@ -20,11 +21,17 @@ pub(crate) struct Checker {
     // The clause that was last tried in place of one that is added on its first literal, for its memory.
     pub(crate) resolvent: Vec<Lit>,
     pub(crate) refuted: bool,
+    // Whether steps have hints. Then nothing is watched, and nothing is known between steps.
+    pub(crate) is_hinted: bool,
+    // The id of the next clause.
+    pub(crate) next: u32,
+    // Behind the hints of the last candidate.
+    pub(crate) cursor: usize,
 }
 
 impl Checker {
     /// No clauses over so many variables.
-    pub(crate) fn new(alloc: Global, variables: u32) -> Result<Checker, Memory>
+    pub(crate) fn new(alloc: Global, variables: u32, is_hinted: bool) -> Result<Checker, Memory>
         ensures { IfOk result (λ checker. (values : ℕ → Bool) → Holds values checker) }
     {
         Ok(Checker {
@@ -33,6 +40,9 @@ impl Checker {
             marks: Marks::new(alloc, 2 * variables as usize)?,
             resolvent: Vec::new(alloc),
             refuted: false,
+            is_hinted,
+            next: 1,
+            cursor: 0,
         })
     }
 
@@ -89,11 +99,29 @@ impl Checker {
         self.propagator.watch(place, first, second)
     }
 
+    // Stores the clause of the marks with its id.
+    #[tactic(none)]
+    fn store_named(&mut self) -> Result<(), Memory>
+        ensures { KeepsMeeting self.old.marks.literals.items self.old self.new }
+    {
+        let Some(_first) = self.propagator.known.free(&self.marks.literals) else {
+            self.refuted = true;
+            return Ok(());
+        };
+        let id = self.next;
+        let place = self.propagator.clauses.add(id, 0, &self.marks.literals)?;
+        self.next = id.saturating_add(1);
+        self.propagator.ids.add(id, place)
+    }
+
     // Adds the clause of the marks.
     #[tactic(none)]
     fn stand(&mut self) -> Result<(), Memory>
         ensures { KeepsMeeting self.old.marks.literals.items self.old self.new }
     {
+        if self.is_hinted {
+            return self.store_named();
+        }
         if self.marks.is_tautology() {
             self.store(0)?;
             return Ok(());
@@ -124,7 +152,7 @@ impl Checker {
     }
 
     /// Adds a clause that follows by unit propagation, and answers whether it does.
-    pub(crate) fn add_step(&mut self, clause: &[Lit]) -> Result<bool, Memory>
+    pub(crate) fn add_step(&mut self, clause: &[Lit], hints: Option<&[Lit]>) -> Result<bool, Memory>
         ensures stands { KeepsHolding self.old self.new }
         ensures follows { IfOk result (λ taken. IsTrue taken
             → (values : ℕ → Bool) → Holds values self.old → meets values clause.now ≡ true) }
@@ -132,11 +160,19 @@ impl Checker {
         if self.refuted {
             return Ok(true);
         }
-        if self.propagator.follows(clause)? {
+        if self.propagator.follows_by(clause, hints)? {
             self.add_clause(clause)?;
             return Ok(true);
         }
         Ok(false)
+    }
+
+    /// Deletes a clause by its id, if it stands.
+    pub(crate) fn delete_named(&mut self, id: Lit)
+        ensures { KeepsHolding self.old self.new }
+    {
+        let place = self.propagator.ids.forget(id_of(id));
+        self.propagator.clauses.remove(place);
     }
 
     /// Deletes a clause, if it stands.

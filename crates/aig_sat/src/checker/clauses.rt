@@ -161,6 +161,11 @@ impl Clauses {
         self.word(place as usize + 1)
     }
 
+    /// The number of the clause at a place, where steps have hints.
+    pub(crate) fn number(&self, place: usize) -> u32 {
+        self.word(place.saturating_add(1))
+    }
+
     // Writes a word of a clause that is neither its head nor one of its literals.
     #[inline]
     fn set_word(&mut self, place: u32, offset: usize, value: u32)

@@ -10,13 +10,10 @@ ghost use Rattle.aig_sat.specs.checker.Holding.{KeepsHolding, KeepsMeeting, Keep
 ghost use Rattle.aig_sat.specs.checker.Knowledge.{IsKnown};
 
 use crate::checker::checker::Checker;
+use crate::checker::hints::group_of;
 use crate::checker::known::negated;
 use aig_bytes::Memory;
 use aig_parts::Lit;
-
-/// A step on a first literal may look at as many watches and literals as there are words of clauses, and at this many
-/// more. Without a limit a step of a few bytes could take as long as the square of the formula.
-const MORE_LOOKS: u64 = 65536;
 
 // Whether the literal is one of these.
 fn has(literals: &[u32], lie: u32) -> bool
@@ -71,7 +68,13 @@ fn resolve(
 impl Checker {
     // Whether the clause at a place, if it has the negation of the first literal, has another literal that is true
     // where the clause that is added is not met.
-    fn settles(&mut self, clause: &[Lit], lie: u32, place: usize) -> Result<bool, Memory>
+    fn settles(
+        &mut self,
+        clause: &[Lit],
+        hints: Option<&[Lit]>,
+        lie: u32,
+        place: usize,
+    ) -> Result<bool, Memory>
         ensures same { self.new.refuted ≡ self.old.refuted }
         ensures narrows { Narrows self.old.propagator self.new.propagator }
         ensures settled { IfOk result (λ settled. IsTrue settled
@@ -84,12 +87,20 @@ impl Checker {
             return Ok(true);
         }
         resolve(literals, lie, clause, &mut self.resolvent)?;
-        self.propagator.follows_soon(&self.resolvent)
+        let id = self.propagator.clauses.number(place);
+        let group = group_of(hints, id, &mut self.cursor);
+        self.propagator
+            .follows_soon(&self.resolvent, group.way, group.passed)
     }
 
     // Whether each clause that has the negation of the first literal has another literal that is true where the clause
     // that is added is not met.
-    fn settles_all(&mut self, clause: &[Lit], lie: u32) -> Result<bool, Memory>
+    fn settles_all(
+        &mut self,
+        clause: &[Lit],
+        hints: Option<&[Lit]>,
+        lie: u32,
+    ) -> Result<bool, Memory>
         ensures same { self.new.refuted ≡ self.old.refuted }
         ensures narrows { Narrows self.old.propagator self.new.propagator }
         ensures settled { IfOk result (λ settled. IsTrue settled
@@ -97,7 +108,7 @@ impl Checker {
     {
         let start = self.propagator.clauses.start(lie);
         for place in start..self.propagator.clauses.len() {
-            if !self.settles(clause, lie, place)? {
+            if !self.settles(clause, hints, lie, place)? {
                 return Ok(false);
             }
         }
@@ -105,7 +116,12 @@ impl Checker {
     }
 
     // Whether a clause may stand on this literal of it.
-    fn may_stand_on(&mut self, clause: &[Lit], literal: u32) -> Result<bool, Memory>
+    fn may_stand_on(
+        &mut self,
+        clause: &[Lit],
+        hints: Option<&[Lit]>,
+        literal: u32,
+    ) -> Result<bool, Memory>
         ensures same { self.new.refuted ≡ self.old.refuted }
         ensures narrows { Narrows self.old.propagator self.new.propagator }
         ensures true_unknown { IfOk result
@@ -118,37 +134,42 @@ impl Checker {
         if self.propagator.known.is_true(literal) || self.propagator.known.is_false(literal) {
             return Ok(false);
         }
-        self.settles_all(clause, negated(literal))
+        self.settles_all(clause, hints, negated(literal))
     }
 
     // Whether a clause may stand on its first literal.
-    fn may_stand_on_first(&mut self, clause: &[Lit]) -> Result<bool, Memory>
+    fn may_stand_on_first(&mut self, clause: &[Lit], hints: Option<&[Lit]>) -> Result<bool, Memory>
         ensures same { self.new.refuted ≡ self.old.refuted }
         ensures narrows { Narrows self.old.propagator self.new.propagator }
         ensures may { IfOk result (λ may. IsTrue may
             → MayStand self.old.propagator self.new.propagator clause.now) }
     {
         match clause.first() {
-            Some(literal) => self.may_stand_on(clause, literal.value()),
+            Some(literal) => self.may_stand_on(clause, hints, literal.value()),
             None => Ok(false),
         }
     }
 
     // Whether a clause may stand on its first literal, as a limited number of looks shows.
-    fn may_stand(&mut self, clause: &[Lit]) -> Result<bool, Memory>
+    fn may_stand(&mut self, clause: &[Lit], hints: Option<&[Lit]>) -> Result<bool, Memory>
         ensures same { self.new.refuted ≡ self.old.refuted }
         ensures narrows { Narrows self.old.propagator self.new.propagator }
         ensures may { IfOk result (λ may. IsTrue may
             → MayStand self.old.propagator self.new.propagator clause.now) }
     {
-        self.propagator.looks = MORE_LOOKS + self.propagator.clauses.len() as u64;
-        let may = self.may_stand_on_first(clause);
+        self.propagator.looks = self.propagator.limit();
+        self.cursor = 0;
+        let may = self.may_stand_on_first(clause, hints);
         self.propagator.looks = u64::MAX;
         may
     }
 
     /// Adds a clause that is a resolution asymmetric tautology on its first literal, and answers whether it is.
-    pub(crate) fn add_on_first(&mut self, clause: &[Lit]) -> Result<bool, Memory>
+    pub(crate) fn add_on_first(
+        &mut self,
+        clause: &[Lit],
+        hints: Option<&[Lit]>,
+    ) -> Result<bool, Memory>
         ensures keeps { KeepsSomeHolding self.old self.new }
         ensures stands { KeepsMeeting clause.now self.old self.new }
         ensures refused { IfOk result (λ taken. taken ≡ false → KeepsHolding self.old self.new) }
@@ -156,7 +177,7 @@ impl Checker {
         if self.refuted {
             return Ok(true);
         }
-        if self.may_stand(clause)? {
+        if self.may_stand(clause, hints)? {
             self.add_clause(clause)?;
             return Ok(true);
         }

@@ -21,6 +21,14 @@ pub(crate) struct Free {
     pub(crate) place: usize,
 }
 
+/// What the literals of a clause leave that is not known to be false.
+#[derive(Clone, Copy)]
+pub(crate) enum Left {
+    Nothing,
+    One(u32),
+    More,
+}
+
 /// The literal with the other sign.
 #[inline]
 pub(crate) fn negated(literal: u32) -> u32
@@ -95,6 +103,24 @@ impl Known {
             }
         }
         None
+    }
+
+    /// What the literals leave that is not known to be false.
+    #[inline]
+    pub(crate) fn left(&self, literals: &[u32]) -> Left
+        ensures none { result ≡ Left.Nothing → AreFalse self.now.truths.items literals.now }
+        ensures one { (l : ℕ) → result ≡ Left.One l → AreFalseBeside self.now.truths.items literals.now l }
+    {
+        let mut left = Left::Nothing;
+        for literal in literals {
+            if !self.is_false(*literal) {
+                match left {
+                    Left::Nothing => left = Left::One(*literal),
+                    _ => return Left::More,
+                }
+            }
+        }
+        left
     }
 
     // The first of the literals, except this one, that is not known to be false, and its place among them.

@@ -5,11 +5,17 @@ ghost use Rattle.aig_sat.specs.checker.Clause.{is_true};
 ghost use Rattle.aig_sat.specs.checker.Visits.{OnConflict};
 
 use crate::checker::clauses::Clauses;
-use crate::checker::known::{Known, negated};
+use crate::checker::hints::{Way, id_of};
+use crate::checker::ids::Ids;
+use crate::checker::known::{Known, Left, negated};
 use crate::checker::watches::{Watch, Watches, close_gap};
 use aig_bytes::Memory;
 use aig_parts::Lit;
 use std::alloc::Global;
+
+/// A step whose cost is limited may look at as many watches and literals as there are words of clauses, and at this
+/// many more. Without a limit a step of a few bytes could take as long as the square of the formula.
+const MORE_LOOKS: u64 = 65536;
 
 /// The clauses that stand, their watches, and the literals that are known.
 #[derive(Drop)]
@@ -17,6 +23,7 @@ pub(crate) struct Propagator {
     pub(crate) clauses: Clauses,
     pub(crate) known: Known,
     pub(crate) watches: Watches,
+    pub(crate) ids: Ids,
     // How many watches and literals propagation may still look at.
     pub(crate) looks: u64,
 }
@@ -41,6 +48,7 @@ impl Propagator {
             clauses: Clauses::new(alloc, variables as usize)?,
             known: Known::new(alloc, literals)?,
             watches: Watches::new(alloc, literals)?,
+            ids: Ids::new(alloc),
             looks: u64::MAX,
         })
     }
@@ -178,6 +186,68 @@ impl Propagator {
         Ok(false)
     }
 
+    // Takes what a clause leaves, if it is one literal; answers whether it leaves none.
+    #[inline]
+    fn look_at(&mut self, place: u32) -> Result<bool, Memory>
+        ensures propagates { Propagates self.old self.new }
+        ensures conflict { IfOk result (λ conflict. IsTrue conflict → Contradicts self.old) }
+    {
+        let Some(literals) = self.clauses.literals(place as usize) else {
+            return Ok(false);
+        };
+        let size = literals.len() as u64;
+        let left = self.known.left(literals);
+        self.looks = self.looks.saturating_sub(size);
+        match left {
+            Left::Nothing => Ok(true),
+            Left::One(literal) => {
+                self.known.take(literal)?;
+                Ok(false)
+            }
+            Left::More => Ok(false),
+        }
+    }
+
+    // Looks at the clauses that hints name, up to a negative one; answers whether there is a conflict. A hint that
+    // gives nothing is passed over. It ends without a conflict where no looks are left.
+    fn walk(&mut self, hints: &[Lit]) -> Result<bool, Memory>
+        ensures propagates { Propagates self.old self.new }
+        ensures conflict { IfOk result (λ conflict. IsTrue conflict → Contradicts self.old) }
+    {
+        for hint in hints {
+            if hint.is_neg() || self.looks == 0 {
+                return Ok(false);
+            }
+            let place = self.ids.place(id_of(*hint));
+            if self.look_at(place)? {
+                return Ok(true);
+            }
+        }
+        Ok(false)
+    }
+
+    // The same for two lists of hints.
+    fn walk_both(&mut self, first: &[Lit], second: &[Lit]) -> Result<bool, Memory>
+        ensures propagates { Propagates self.old self.new }
+        ensures conflict { IfOk result (λ conflict. IsTrue conflict → Contradicts self.old) }
+    {
+        if self.walk(first)? {
+            return Ok(true);
+        }
+        self.walk(second)
+    }
+
+    // Takes the literals that follow; answers whether there is a conflict.
+    fn deduce(&mut self, way: Way<'_>) -> Result<bool, Memory>
+        ensures propagates { Propagates self.old self.new }
+        ensures conflict { IfOk result (λ conflict. IsTrue conflict → Contradicts self.old) }
+    {
+        match way {
+            Way::Search => self.propagate(),
+            Way::Named(first, second) => self.walk_both(first, second),
+        }
+    }
+
     // Takes the literals of a clause to be false; answers whether one is known to be true.
     fn assume(&mut self, clause: &[Lit]) -> Result<bool, Memory>
         ensures assumes { Assumes clause.now self.old self.new }
@@ -193,37 +263,69 @@ impl Propagator {
     }
 
     // Whether there is a conflict where the literals of a clause are false.
-    fn try_clause(&mut self, clause: &[Lit]) -> Result<bool, Memory>
+    fn try_clause(&mut self, clause: &[Lit], way: Way<'_>) -> Result<bool, Memory>
         ensures assumes { Assumes clause.now self.old self.new }
         ensures implied { IfOk result (λ conflict. IsTrue conflict → Implies self.old clause.now) }
     {
         if self.assume(clause)? {
             return Ok(true);
         }
-        self.propagate()
+        self.deduce(way)
     }
 
     /// Whether a clause follows by unit propagation.
-    pub(crate) fn follows(&mut self, clause: &[Lit]) -> Result<bool, Memory>
+    pub(crate) fn follows(&mut self, clause: &[Lit], way: Way<'_>) -> Result<bool, Memory>
         ensures narrows { Narrows self.old self.new }
         ensures implied { IfOk result (λ follows. IsTrue follows → Implies self.old clause.now) }
     {
-        let follows = self.try_clause(clause);
+        let follows = self.try_clause(clause, way);
         self.known.undo();
         follows
     }
 
-    /// Whether a clause follows by unit propagation, as the looks that are left show.
-    pub(crate) fn follows_soon(&mut self, clause: &[Lit]) -> Result<bool, Memory>
+    /// How many looks a step may take whose cost is limited: as many as there are words of clauses, and some more.
+    pub(crate) fn limit(&self) -> u64 {
+        MORE_LOOKS + self.clauses.len() as u64
+    }
+
+    /// Whether a clause follows by unit propagation. With hints it takes a limited number of looks: a long clause could
+    /// be hinted again and again.
+    pub(crate) fn follows_by(
+        &mut self,
+        clause: &[Lit],
+        hints: Option<&[Lit]>,
+    ) -> Result<bool, Memory>
         ensures narrows { Narrows self.old self.new }
         ensures implied { IfOk result (λ follows. IsTrue follows → Implies self.old clause.now) }
     {
-        let looks = clause.len() as u64;
+        match hints {
+            None => self.follows(clause, Way::Search),
+            Some(hints) => {
+                self.looks = self.limit();
+                let follows = self.follows(clause, Way::Named(hints, &[]));
+                self.looks = u64::MAX;
+                follows
+            }
+        }
+    }
+
+    /// Whether a clause follows by unit propagation, as the looks that are left show. So many hints were passed in
+    /// search of the way; each of them is a look.
+    pub(crate) fn follows_soon(
+        &mut self,
+        clause: &[Lit],
+        way: Way<'_>,
+        passed: u64,
+    ) -> Result<bool, Memory>
+        ensures narrows { Narrows self.old self.new }
+        ensures implied { IfOk result (λ follows. IsTrue follows → Implies self.old clause.now) }
+    {
+        let looks = passed.saturating_add(clause.len() as u64);
         if looks > self.looks {
             return Ok(false);
         }
         self.looks = self.looks.saturating_sub(looks);
-        self.follows(clause)
+        self.follows(clause, way)
     }
 
     /// Takes a literal to be true for good; answers whether there is a conflict.

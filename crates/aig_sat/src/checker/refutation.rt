@@ -40,8 +40,36 @@ impl Refutation {
         ensures { IfOk result (Follows []) }
     {
         Ok(Refutation {
-            checker: Checker::new(alloc, variables)?,
+            checker: Checker::new(alloc, variables, false)?,
         })
+    }
+
+    /// The same, for steps with hints. Its clauses are numbered from 1 in the order in which they are added, and
+    /// nothing is found to be true between steps.
+    pub fn with_hints(alloc: Global, variables: u32) -> Result<Refutation, Memory>
+        ensures { IfOk result (Follows []) }
+    {
+        Ok(Refutation {
+            checker: Checker::new(alloc, variables, true)?,
+        })
+    }
+
+    /// Gives the next clause a number, if that is over all numbers before it, and returns whether it is.
+    pub fn number_next(&mut self, id: u32) -> bool
+        ensures { Follows self.old self.new }
+    {
+        if id < self.checker.next {
+            return false;
+        }
+        self.checker.next = id;
+        true
+    }
+
+    /// Deletes the clause with the number that a hint names, if it stands.
+    pub fn delete_named(&mut self, id: Lit)
+        ensures { Follows self.old self.new }
+    {
+        self.checker.delete_named(id)
     }
 
     /// Adds variables until there are so many. It takes memory for each of them.
@@ -59,25 +87,28 @@ impl Refutation {
     }
 
     /// Adds a clause, if it follows from those that stand by unit propagation, and answers whether it does. Any clause
-    /// follows where there is a contradiction.
-    pub fn add_step(&mut self, clause: &[Lit]) -> Result<bool, Memory>
+    /// follows where there is a contradiction. With hints only the clauses that they name are looked at, in their order
+    /// up to the first negative one; a hint that gives nothing is passed over. They may take as many looks as a step on
+    /// a first literal.
+    pub fn add_step(&mut self, clause: &[Lit], hints: Option<&[Lit]>) -> Result<bool, Memory>
         ensures stands { Follows self.old self.new }
         ensures follows { IfOk result (λ taken. IsTrue taken → Follows self.old (clause.now ∷ [])) }
     {
-        self.checker.add_step(clause)
+        self.checker.add_step(clause, hints)
     }
 
     /// Adds a clause, if it is a resolution asymmetric tautology on its first literal, and answers whether it is. Such
     /// a clause need not follow, but the formula stays satisfiable if it was. Neither that literal nor its negation may
     /// have been found to be true. Each clause that stands and has the negation has to give, without the negation and
-    /// with this clause's literals, a clause that follows by unit propagation. All of them together may take as many
-    /// looks at watches and literals as the clauses have words, and 65,536 more.
-    pub fn add_on_first(&mut self, clause: &[Lit]) -> Result<bool, Memory>
+    /// with this clause's literals, a clause that follows by unit propagation. With hints that is by the hints before
+    /// the first negative one, and then by those after the negative one that names the clause. All of them together may
+    /// take as many looks at watches, literals and hints as the clauses have words, and 65,536 more.
+    pub fn add_on_first(&mut self, clause: &[Lit], hints: Option<&[Lit]>) -> Result<bool, Memory>
         ensures keeps { KeepsSatisfiable self.old self.new }
         ensures stands { Follows (clause.now ∷ self.old) self.new }
         ensures refused { IfOk result (λ taken. taken ≡ false → Follows self.old self.new) }
     {
-        self.checker.add_on_first(clause)
+        self.checker.add_on_first(clause, hints)
     }
 
     /// Deletes a clause of these literals, in any order, if one stands. Of equal ones it deletes one. What was found to

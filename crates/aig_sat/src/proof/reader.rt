@@ -3,12 +3,15 @@ ghost use Rattle.std.specs.Prelude.{◌≡◌, ◌+◌, ◌^◌, ◌<◌, ◌≤
 ghost use Rattle.aig_bytes.specs.Bytes.{failed};
 ghost use Rattle.aig_parts.specs.Literal.{variable};
 ghost use Rattle.aig_sat.specs.proof.Reads.{reads_failed};
-ghost use Rattle.aig_sat.specs.proof.Steps.{AreLiterals, AreRenamed, BeginsSo, NoStep, Reads, bytes_to_come};
-ghost use Rattle.aig_sat.specs.proof.state.Taking.{Begins, Ends, GoesOn, HasClause, HasStep, Keeps, LeadsBy, to_take};
+ghost use Rattle.aig_sat.specs.proof.Steps.{AreLiterals, AreRenamed, BeginsSo, NoStep, Reads, ReadsHinted, TakesText};
+ghost use Rattle.aig_sat.specs.proof.Steps.{bytes_to_come};
+ghost use Rattle.aig_sat.specs.proof.state.Taking.{Begins, Ends, GoesOn, HasClause, HasStep, Keeps, LeadsBy};
+ghost use Rattle.aig_sat.specs.proof.state.Taking.{TakesAddition, TakesNumbers, to_take};
 
 use crate::proof::binary::{binary_kind, binary_literal};
 use crate::proof::bytes::ProofBytes;
 use crate::proof::fault::ReadFault;
+use crate::proof::hinted::{are_positive, is_hinted_text, step_number};
 use crate::proof::names::Names;
 use crate::proof::spelling::{Spelling, spelling_of};
 use crate::proof::step::StepKind;
@@ -130,6 +133,9 @@ pub struct ProofReader {
     // The last clause as it was spelled.
     spelled: Vec<Lit>,
     clause: Vec<Lit>,
+    // Of a step with hints: its number, and its hints or the numbers of the clauses that it deletes.
+    number: u32,
+    hints: Vec<Lit>,
 }
 
 // By hand: a value then ends in one call, which is one step of a proof (docs/PROOFS.md, Habits).
@@ -141,6 +147,8 @@ impl Drop for ProofReader {
             names: _,
             spelled: _,
             clause: _,
+            number: _,
+            hints: _,
         } = self;
     }
 }
@@ -155,6 +163,8 @@ impl Model for ProofReader {
       formula = r.names.formula;
       variables = r.names.formula + r.names.own;
       clause = r.clause.items;
+      number = r.number;
+      hints = r.hints.items;
       spelling = r.spelling;
       block = r.bytes;
     } };
@@ -170,6 +180,8 @@ impl ProofReader {
           formula = variables;
           variables = variables;
           clause = [];
+          number = 0;
+          hints = [];
           spelling = None;
           block = record { waiting = []; ended = false; previous = 10 };
         } }
@@ -180,6 +192,8 @@ impl ProofReader {
             names: Names::new(alloc, variables),
             spelled: Vec::new(alloc),
             clause: Vec::new(alloc),
+            number: 0,
+            hints: Vec::new(alloc),
         }
     }
 
@@ -190,6 +204,20 @@ impl ProofReader {
     {
         let _variables = self.names.variables();
         &self.clause
+    }
+
+    /// The number of the last step that was read, where steps have hints.
+    pub fn number(&self) -> u32
+        ensures { result ≡ self.now.number }
+    {
+        self.number
+    }
+
+    /// The hints of the last step that was read, or the numbers of the clauses that it deletes.
+    pub fn hints(&self) -> &[Lit]
+        ensures { result.now ≡ self.now.hints }
+    {
+        &self.hints
     }
 
     /// How many variables there are: those of the formula, and those of the proof's own that were named so far. The
@@ -271,5 +299,109 @@ impl ProofReader {
         let is_first = self.spelling.is_none();
         let spelling = self.spell(reader)?;
         self.step(reader, spelling, is_first)
+    }
+
+    /// Whether the steps have hints (LRAT, as text), by the first line. It reads the first block of bytes and takes
+    /// none: a proof whose first line has no 0 in it counts as one without hints.
+    pub fn is_hinted<R: Read>(&mut self, reader: &mut R) -> Result<bool, ReadFault>
+        ensures count { R.failures reader.new ≡ R.failures reader.old + reads_failed result }
+        ensures text { TakesText self.old.block self.new.block (R.left reader.old) (R.left reader.new) [] }
+        ensures bytes { bytes_to_come self.old.block (R.left reader.old) ≡
+            bytes_to_come self.new.block (R.left reader.new) }
+        ensures formula { self.new.formula ≡ self.old.formula }
+        ensures variables { self.new.variables ≡ self.old.variables }
+        ensures spelling { self.new.spelling ≡ self.old.spelling }
+    {
+        self.bytes.fill(reader)?;
+        Ok(is_hinted_text(self.bytes.front()))
+    }
+
+    // Reads the clause of a step with hints, and its hints. The word of its number is at a place.
+    fn addition<R: Read>(&mut self, reader: &mut R, at: u64) -> Result<(), ReadFault>
+        ensures formula { self.new.formula ≡ self.old.formula }
+        ensures variables { self.old.variables ≤ self.new.variables }
+        ensures number { self.new.number ≡ self.old.number }
+        ensures literals { AreLiterals self.new.variables self.new.clause }
+        ensures count { R.failures reader.new ≡ R.failures reader.old + reads_failed result }
+        ensures positive { OnOk result (0 < self.old.number) }
+        ensures taken { OnOk result (TakesAddition self.old.formula self.old.block self.new.block (R.left reader.old)
+            (R.left reader.new) self.new.clause self.new.hints) }
+    {
+        if self.number == 0 {
+            return Err(ReadFault::Text { at });
+        }
+        read_clause(
+            Spelling::Text,
+            &mut self.bytes,
+            reader,
+            false,
+            &mut self.spelled,
+        )?;
+        rename(&mut self.names, &self.spelled, &mut self.clause)?;
+        read_clause(
+            Spelling::Text,
+            &mut self.bytes,
+            reader,
+            false,
+            &mut self.hints,
+        )
+    }
+
+    // Reads the numbers of the clauses that are deleted.
+    fn deletion<R: Read>(&mut self, reader: &mut R) -> Result<(), ReadFault>
+        ensures formula { self.new.formula ≡ self.old.formula }
+        ensures variables { self.new.variables ≡ self.old.variables }
+        ensures number { self.new.number ≡ self.old.number }
+        ensures literals { AreLiterals self.new.variables self.new.clause }
+        ensures clause { self.new.clause ≡ [] }
+        ensures count { R.failures reader.new ≡ R.failures reader.old + reads_failed result }
+        ensures taken { OnOk result (TakesNumbers self.old.block self.new.block (R.left reader.old) (R.left reader.new)
+            self.new.hints) }
+    {
+        self.clause.clear();
+        read_clause(
+            Spelling::Text,
+            &mut self.bytes,
+            reader,
+            false,
+            &mut self.hints,
+        )?;
+        if !are_positive(&self.hints) {
+            return Err(ReadFault::Text {
+                at: self.bytes.at(),
+            });
+        }
+        Ok(())
+    }
+
+    /// Reads the next step of a proof with hints, and returns what it does; `None` at the end. It rejects bytes that
+    /// spell no step. Variables and memory are as in `next`.
+    pub fn next_hinted<R: Read>(&mut self, reader: &mut R) -> Result<Option<StepKind>, ReadFault>
+        ensures formula { self.new.formula ≡ self.old.formula }
+        ensures variables { self.old.variables ≤ self.new.variables }
+        ensures literals { AreLiterals self.new.variables self.new.clause }
+        ensures count { R.failures reader.new ≡ R.failures reader.old + reads_failed result }
+        ensures step { IfOk result (λ kind.
+            ReadsHinted self.old self.new (R.left reader.old) (R.left reader.new) kind) }
+    {
+        let Some(number) = step_number(&mut self.bytes, reader)? else {
+            return Ok(None);
+        };
+        let Some(kind) = text_kind(&mut self.bytes, reader)? else {
+            return Err(ReadFault::Text {
+                at: self.bytes.at(),
+            });
+        };
+        self.number = number.value;
+        match kind {
+            StepKind::Add => {
+                self.addition(reader, number.at)?;
+                Ok(Some(StepKind::Add))
+            }
+            StepKind::Delete => {
+                self.deletion(reader)?;
+                Ok(Some(StepKind::Delete))
+            }
+        }
     }
 }

@@ -77,7 +77,7 @@ fn skip_space<R: Read>(bytes: &mut ProofBytes, reader: &mut R) -> Result<bool, R
 }
 
 /// Takes what separates.
-fn skip_gap<R: Read>(bytes: &mut ProofBytes, reader: &mut R) -> Result<(), ReadFault>
+pub(crate) fn skip_gap<R: Read>(bytes: &mut ProofBytes, reader: &mut R) -> Result<(), ReadFault>
     ensures count { R.failures reader.new ≡ R.failures reader.old + reads_failed result }
     ensures gap { OnOk result ((taken : List ℕ) × LeadsGap bytes.old.previous bytes.new.previous taken
         × TakesText bytes.old bytes.new (R.left reader.old) (R.left reader.new) taken) }
@@ -92,7 +92,11 @@ fn skip_gap<R: Read>(bytes: &mut ProofBytes, reader: &mut R) -> Result<(), ReadF
 }
 
 /// Takes the space that ends the word that begins at a place.
-fn end_word<R: Read>(bytes: &mut ProofBytes, reader: &mut R, at: u64) -> Result<(), ReadFault>
+pub(crate) fn end_word<R: Read>(
+    bytes: &mut ProofBytes,
+    reader: &mut R,
+    at: u64,
+) -> Result<(), ReadFault>
     ensures count { R.failures reader.new ≡ R.failures reader.old + reads_failed result }
     ensures space { OnOk result (IsSpace bytes.new.previous) }
     ensures taken { OnOk result
@@ -260,7 +264,11 @@ fn take_digits<R: Read>(bytes: &mut ProofBytes, reader: &mut R, first: u8) -> Re
 }
 
 /// The number of the word that begins at a place, without leading zeros.
-fn text_number<R: Read>(bytes: &mut ProofBytes, reader: &mut R, at: u64) -> Result<u64, ReadFault>
+pub(crate) fn text_number<R: Read>(
+    bytes: &mut ProofBytes,
+    reader: &mut R,
+    at: u64,
+) -> Result<u64, ReadFault>
     ensures count { R.failures reader.new ≡ R.failures reader.old + reads_failed result }
     ensures number { IfOk result (λ n. (digits : List ℕ) × IsNumber n digits
         × TakesText bytes.old bytes.new (R.left reader.old) (R.left reader.new) digits) }

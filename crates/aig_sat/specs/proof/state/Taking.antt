@@ -8,6 +8,7 @@ use Rattle.aig_sat.specs.declared.proof.spelling.Spelling.{Spelling}
 use Rattle.aig_sat.specs.declared.proof.spelling.Spelling.TheVariants.{Text, Binary}
 use Rattle.aig_sat.specs.declared.proof.step.StepKind.{StepKind}
 use Rattle.aig_sat.specs.model.ModelText.{IsSpace, number_text}
+use Rattle.aig_sat.specs.proof.HintedText.{ArePositive}
 use Rattle.aig_sat.specs.proof.ProofText.{EndsStep, Gap, IsBlank, SpellsClause, SpellsStep, last_byte}
 use Rattle.aig_sat.specs.proof.ProofBytes.{Groups, SpellsBinaryStep, SpellsLiterals, first_byte}
 use Rattle.aig_sat.specs.proof.Steps.{AreRenamed, BinaryStepToCome, Block, StepToCome, TakesText, text_to_come}
@@ -120,6 +121,25 @@ GoesOn Text is_first formula old new left left' clause None = Begins Text old ne
 GoesOn Binary is_first formula old new left left' clause (Some kind) = (taken : List ℕ) × (spelled : List ℕ)
     × SpellsBinaryStep taken kind spelled × AreRenamed formula spelled clause × TakesBytes old new left left' taken
 GoesOn Binary is_first formula old new left left' clause None = IsAtEnd (bytes_to_come old left)
+
+-- ---- of a proof with hints
+
+-- what was taken is the number of a step and a space
+abbrev pub LeadsNumber : ℕ → ℕ → List ℕ → ℕ → Type 0
+LeadsNumber previous previous' taken n =
+    (n ≤ 2147483647) × IsSpace previous'
+    × ((gap : List ℕ) × Gap previous gap × (taken ≡ gap ++ (decimal n ++ previous' ∷ [])))
+
+-- a clause and its hints were taken
+abbrev pub TakesAddition : ℕ → Block → Block → Option (List ℕ) → Option (List ℕ) → List ℕ → List ℕ → Type 0
+TakesAddition formula old new left left' clause hints = (text : List ℕ) × (more : List ℕ) × (spelled : List ℕ)
+    × SpellsClause false old.previous text spelled × AreRenamed formula spelled clause
+    × SpellsClause false (last_byte old.previous text) more hints × TakesText old new left left' (text ++ more)
+
+-- the numbers of the clauses that are deleted were taken
+abbrev pub TakesNumbers : Block → Block → Option (List ℕ) → Option (List ℕ) → List ℕ → Type 0
+TakesNumbers old new left left' numbers = (text : List ℕ)
+    × SpellsClause false old.previous text numbers × ArePositive numbers × TakesText old new left left' text
 
 -- ---- what may be to come of a text
 

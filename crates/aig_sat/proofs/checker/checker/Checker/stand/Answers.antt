@@ -30,3 +30,6 @@ returns-in-None c = λ v h m. c.store_unit.ensures v (record { open_still = h.op
 
 pub returns-in-Some-free_beside : goal.returns-in-Some-free_beside
 returns-in-Some-free_beside c = λ v h m. c.store_watched.ensures v (record { open_still = h.open_still; agrees = h.agrees }) m
+
+pub returns-then-self : goal.returns-then-self
+returns-then-self c = c.store_named.ensures

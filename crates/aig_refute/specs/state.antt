@@ -1,0 +1,2 @@
+-- What proofs alone need. No contract of an exported function reaches it.
+pub mod Reading

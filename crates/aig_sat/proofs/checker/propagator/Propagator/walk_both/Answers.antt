@@ -1,0 +1,10 @@
+use Rattle.aig_sat.proofs.checking.PropagationLemmas.{agrees_then, pulled}
+use Rattle.aig_sat.proofs.checker.propagator.Propagator.walk_both.Goals as goal
+
+pub returns-then-branch-clause-conflict : goal.returns-then-branch-clause-conflict
+returns-then-branch-clause-conflict c = λ _. c.in_ok-walk.ensures.conflict c.if-branch.true
+
+pub returns-clause-conflict : goal.returns-clause-conflict
+returns-clause-conflict c =
+    pulled c.walk-2.result c.args.self.now c.walk.new.self (λ v a. agrees_then _ _ c.walk.ensures.propagates v a)
+    c.walk-2.ensures.conflict

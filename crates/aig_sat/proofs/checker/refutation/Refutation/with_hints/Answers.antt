@@ -1,0 +1,5 @@
+use Rattle.aig_sat.proofs.checking.RefutationLemmas.{follows_new}
+use Rattle.aig_sat.proofs.checker.refutation.Refutation.with_hints.Goals as goal
+
+pub returns : goal.returns
+returns c = follows_new c.in_ok-new.field-0 c.in_ok-new.ensures
