@@ -10,6 +10,7 @@ from library.circuits import TEXTS, write_all
 from library.definitions import deletions, one_bit
 from library.runs import EXAMPLES, Ended, write
 from program.proofs import text_of
+from program.refute import RENUMBERED
 
 MEMORY = re.compile(rb"aig: ((circuit|stimulus|witness|unroll|cnf|bench|script|select|proof|step proof|model|certificate|strengthen): )?memory\n")
 TWO_GATES = [f"{EXAMPLES}/two_gates.{ending}" for ending in ("aag", "stim", "script")]
@@ -37,6 +38,7 @@ RUNS = (
     ("witness of a model", ["witness", "--model", "model", "--frames", "2", "guarded"]),
     ("refute", ["refute", "--frames", "1", "never", "own"]),
     ("refute by a proof that deletes", ["refute", "--frames", "3", f"{EXAMPLES}/wraps.aag", f"{EXAMPLES}/wraps.drat"]),
+    ("refute by a proof with hints", ["refute", "--frames", "1", "never", "hinted"]),
     ("refute with a step", ["refute", "--frames", "1", "--step", "step", "never", "proof"]),
     ("reduce", ["reduce", f"{EXAMPLES}/wraps.aag", f"{EXAMPLES}/wraps.wit"]),
     ("why", ["why", "--of", "count", f"{EXAMPLES}/counter.aag", f"{EXAMPLES}/counter.stim"]),
@@ -56,6 +58,8 @@ RUNS = (
 
 # A refutation of it with names that differ in one bit, and a clause of 31 literals that is deleted.
 OWN = [*one_bit([97]), *deletions(200)[35:40], (False, [2])]
+# One with hints, and a definition that is deleted.
+HINTED = "24 -11 2 0 0\n25 -11 3 0 0\n26 11 -2 -3 0 -24 -25 0\n26 d 26 25 24 0\n" + RENUMBERED
 
 # No run reaches the bad state; propagation alone shows it of no frame.
 NEVER = "aag 9 2 0 0 7 1\n2\n4\n18\n6 5 3\n8 4 3\n10 5 2\n12 4 2\n14 9 7\n16 13 11\n18 16 14\n"
@@ -138,7 +142,7 @@ def allocations(program, tally, _):
     for name, text in (("never", NEVER), ("never_kept", never_kept), ("proof", "2 3 0\n2 0\n"), ("step", "4 0\n"),
                        ("model", "-2 3 4 5 0\n"), ("named", NAMED), ("claims", CLAIMS), ("start", "-2 8 -9 10 0\n"),
                        ("no_claim", "aag 0 0 0 0 0\n"), ("never_proof", "-12 2 0\n-12 0\n4 0\n"),
-                       ("own", text_of(OWN))):
+                       ("own", text_of(OWN)), ("hinted", HINTED)):
         write(name, text)
     for name, words in RUNS:
         each(beneath, tally, name, words)

@@ -78,6 +78,8 @@ RUNS = (
      [b"c aig cnf --frames 2 --property 0 \nc i 2 0 0 \nc i 3 1 0 \nc b 2 0\nc b 3 1\np cnf 3 2\n-1 0\n2 3 0\n"]),
     ("cnf --frames 2 --property 1", [("circuit", BAD_INPUT)], "output", 1, b"aig: cnf: property\n", [b""]),
     ("refute --frames 1", [("circuit", NEVER), ("proof", b"2 0")], "output", 0, b"", [b"unreachable within 1\n"]),
+    ("refute --frames 1", [("circuit", NEVER), ("proof", b"24 2 0 2 21 22 15 16 5 8 0\n25 0 24 2 21 18 19 11 14 0")],
+     "output", 0, b"", [b"unreachable within 1\n"]),
     ("refute --frames 1", [("circuit", BAD_INPUT), ("proof", b"0\n")], "output", 1, b"aig: proof: step 1\n", [b""]),
     ("info", [("circuit", ONE_GATE)], "output", 0, b"", [FACTS]),
     ("info", [("circuit", CYCLE)], "output", 1, b"aig: circuit: cycle 2\n", [b""]),

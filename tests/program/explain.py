@@ -319,13 +319,15 @@ WITNESSES = (
 # For one frame its formula has variables 1 to 10, the last of which is the bad state. No input of it is bad, and no
 # clause that these proofs add follows by propagation.
 NEVER = "aag 9 2 0 0 7 1\n2\n4\n18\n6 5 3\n8 4 3\n10 5 2\n12 4 2\n14 9 7\n16 13 11\n18 16 14\n"
-NO_STEP = "this is no step of a proof in DRAT, or the file is cut off"
+NO_STEP = "this is no step of a proof in DRAT or LRAT, or the file is cut off"
 NO_UNIT = ("the clause that this step adds does not follow by unit propagation, nor is it a resolution asymmetric"
            " tautology")
+NO_HINTS = "the clause of this step does not follow by its hints, or its number is not greater than all before it"
 TOO_SHORT = "the proof ends before it refutes the formula"
-TO_ITS_END = "have the solver write DRAT, to its end"
+TO_ITS_END = "have the solver write DRAT, or LRAT as text, to its end"
 SAME = "it has to be about the formula of aig cnf for the same K, P and CIRCUIT"
-DRAT = "aig reads DRAT: have the solver write DRAT"
+ORDER = "its hints number the clauses of the formula from 1, in the order in which aig cnf prints them"
+DRAT = "aig reads DRAT and LRAT: have the solver write one of them"
 OF_FRAT = "aig reads DRAT (cadical without --frat); to make DRAT of it see \"Proof\" in man aig-formats"
 SOLVED = "a proof is a file of its own, as in: cadical FORMULA PROOF"
 
@@ -361,9 +363,20 @@ PROOFS = (
     ("FRAT", "o 1 2 0\n", "text at 0", NO_STEP, "line 1, column 1: found `o`",
      "the file is a proof in FRAT",
      OF_FRAT),
-    ("LRAT", "9 d 1 2 0\n", "text at 2", NO_STEP, "line 1, column 3: found `d`",
-     "step 1, in line 1, adds the clause `9`", "the file is a proof in LRAT: its steps have numbers and hints",
-     "aig reads DRAT, one step on the first line: have the solver write DRAT (cadical without --lrat)"),
+    ("hints that are too few", "c one\n9 d 1 3 0\n24 2 0 2 21 22 0\n", "step 2", NO_HINTS,
+     "step 2, in line 3, numbered 24, adds the clause `2`", SAME, ORDER),
+    ("hints of a number that there is", "21 -10 5 0 3 4 0\n", "step 1", NO_HINTS,
+     "step 1, in line 1, numbered 21, adds the clause `-10 5`", SAME, ORDER),
+    ("hints over lines", "24\t2 0 2\n21 22 15 16 5 8 0 25\n2 3\n0 24\n0 24 0 24\n0\n", "step 3", NO_HINTS,
+     "step 3, in line 5, numbered 24, adds the clause ``", SAME, ORDER),
+    ("hints and no refutation", "9 d 1 2 0\n", "no refutation", TOO_SHORT, "its number of steps: 1", SAME),
+    ("hints that are cut off", "24 2 3 0 2 21", "text at 13", NO_STEP, "line 1, column 14: the file ends here",
+     "step 1, in line 1, numbered 24, adds the clause `2 3`", TO_ITS_END),
+    ("a letter among hints", "24 d 3 0\n24 2 3 0 2 x 0\n", "text at 20", NO_STEP, "line 2, column 12: found `x`",
+     "step 2, in line 2, numbered 24, adds the clause `2 3`", TO_ITS_END),
+    ("a letter in a deletion by numbers", "24 d 3 x 0\n", "text at 7", NO_STEP, "line 1, column 8: found `x`",
+     "step 1, in line 1, deletes the clauses numbered `3 x`", TO_ITS_END),
+    ("a letter for a number", "24 d 3 0\nx 2 0 0\n", "text at 9", NO_STEP, "line 2, column 1: found `x`", TO_ITS_END),
     ("VeriPB", "pseudo-Boolean proof version 2.0\n", "text at 0", NO_STEP, "line 1, column 1: found `pseudo-Boolean`",
      "the file is a proof of VeriPB", DRAT),
     ("CR LF", "\r\n2 0\r\n", "text at 0", NO_STEP, "line 1, column 1: found `\\x0d`",
@@ -379,14 +392,15 @@ KINDS_OF_PROOFS = (
     ("FRAT in binary without original clauses", b"a\x2a\x04\x06\x00l\x02\x04\x00a\x2c\x04\x00l\x2a\x00",
      "the file is a proof in FRAT", OF_FRAT),
     ("LRAT in binary", b"a\x2a\x15\x0a\x00\x06\x08\x00d\x02\x00a\x2c\x04\x00\x2a\x00",
-     "the file is a proof in LRAT: its steps have numbers and hints",
-     "aig reads DRAT, one step on the first line: have the solver write DRAT (cadical without --lrat)"),
+     "the file is a proof in LRAT, in its binary form",
+     "aig reads LRAT only as text: have the solver write text (cadical --lrat --no-binary)"),
     ("a binary proof with a byte too many", b"a\x04\x06\x00\x06\x00a\x04\x00", "byte 4: found `\\x06`", TO_ITS_END),
     ("a binary proof with a zero too many", b"a\x04\x06\x00\x00a\x04\x00", "byte 4: found `\\x00`", TO_ITS_END),
     ("a variable of its own, and a letter", "2 3 0\n11 x 0\n", "step 2, in line 2, adds the clause `11 x`", TO_ITS_END),
     ("an unfinished proof with a variable of its own", "11 2 0\n", "its number of steps: 1", SAME),
-    ("LRAT with hints", "21 -10 5 0 3 4 0\n", "the file is a proof in LRAT: its steps have numbers and hints",
-     "aig reads DRAT, one step on the first line: have the solver write DRAT (cadical without --lrat)"),
+    ("hints, and a variable that the formula does not have", "24 -10 11 0 2 0\n",
+     "step 1, in line 1, numbered 24, adds the clause `-10 11`",
+     "the formula has 10 variables, and this step names variable 11", SAME, ORDER),
     ("a variable that the formula does not have", "-10 11 0\n",
      "the formula has 10 variables, and this step names variable 11", SAME),
     ("a variable of the binary form that the formula does not have", b"a\x15\x80\x02\x00",
@@ -424,6 +438,9 @@ MODELS = (
     ("what may be a proof", "o 12\n", "text at 0", "line 1, column 1: found `o`",
      "wanted: a literal of the formula, or the 0 that ends the literals", "the file may be a solver's proof",
      "aig refute checks a proof; --model names what the solver printed"),
+    ("LRAT in binary", b"a\x2a\x15\x0a\x00\x06\x08\x00d\x02\x00a\x2c\x04\x00\x2a\x00", "text at 0",
+     "line 1, column 1: found `a*\\x15`", "wanted: a literal of the formula, or the 0 that ends the literals",
+     "the file may be a solver's proof", "aig refute checks a proof; --model names what the solver printed"),
     ("a witness", WITNESS, "text at 2", "line 2, column 1: found `b0`",
      "wanted: a literal of the formula, or the 0 that ends the literals", "the file is a witness",
      "name the file that the solver writes"),

@@ -11,10 +11,11 @@ import time
 
 from library import supervised
 from library.runs import SECONDS, Ended, refused, write
-from program.refute import NEVER, NEVER_KEPT, PROOFS, REFUSALS
+from program.refute import NEVER, NEVER_KEPT, PROOFS, REFUSALS, STEP_HINTS, WITH_A, WITH_NO_CLAUSE
 from program.rows import Rows, data
 
 BLOCK = 32768
+HINTED = (WITH_A + WITH_NO_CLAUSE).encode()
 COPIES = 20
 VARIABLES = 200
 REFUTED = Ended(0, b"unreachable within 1\n", b"")
@@ -27,6 +28,7 @@ DELETING = (
     ("text that deletes first, after a tab", b"d\t2 3 0\n2 0\n", b"d\t2 3 0\n4 0\n"),
     ("binary that deletes first", b"d\x04\x06\0a\x04\0", b"d\x04\x06\0a\x08\0"),
     ("binary that deletes first and looks like text", b"d\x09\0a\x04\0", b"d\x09\0a\x08\0"),
+    ("hints, and a deletion first", b"1 d 3 0\n" + HINTED, b"1 d 4 0\n" + STEP_HINTS.encode()),
 )
 # Proofs that end with a deletion, or within one.
 UNFINISHED = (
@@ -200,6 +202,12 @@ def first_bytes(rows):
         rows.ends(f"the first zero byte is number {length}", "refute --frames 1 never proof", wanted, proof=proof)
         rows.tally.compare(f"proofs: the first zero byte is number {length}, in pieces",
                            in_pieces(rows.program, OF_NEVER, proof, 1000), wanted)
+    # The word after the first 0, a hint, is the last byte of the first block or the first of the next one.
+    for length, wanted in ((BLOCK - 8, REFUTED), (BLOCK - 7, refused(f"proof: text at {BLOCK}"))):
+        proof = b"c" + b"x" * (length - 2) + b"\n" + HINTED
+        rows.ends(f"hints after {length} bytes", "refute --frames 1 never proof", wanted, proof=proof)
+        rows.tally.compare(f"proofs: hints after {length} bytes, in pieces",
+                           in_pieces(rows.program, OF_NEVER, proof, 1000), wanted)
     # In the binary form `1` and a blank are literals of variables 24 and 16, and the clause is cut off.
     rows.refuses("d and no blank, with 200 variables", "refute --frames 1 large proof", "proof: text at 7",
                  proof="d1 2 0\n")
@@ -214,6 +222,14 @@ def block_edges(rows):
             proof = begin + b"x" * (BLOCK - at - len(begin) - 1) + b"\n" + steps
             wanted = REFUTED if wrong is None else refused(f"proof: text at {BLOCK - at + wrong}")
             rows.ends(f"an edge of a block before byte {at} of {steps!r}", "refute --frames 1 never proof", wanted, proof=proof)
+    begin = WITH_A.encode() + b"c"
+    for steps, wrong in ((b"24 d 3 24999 0\n" + WITH_NO_CLAUSE.encode(), None), (b"25 0 24 x 0\n", 8), (b"25x 0 0\n", 0),
+                         (b"25 d 3 9999999999 0\n", 7), (b"25", 2)):
+        for at in range(len(steps)):
+            proof = begin + b"x" * (BLOCK - at - len(begin) - 1) + b"\n" + steps
+            wanted = REFUTED if wrong is None else refused(f"proof: text at {BLOCK - at + wrong}")
+            rows.ends(f"an edge of a block before byte {at} of {steps!r}, with hints", "refute --frames 1 never proof",
+                      wanted, proof=proof)
     begin = b"a\x04\x06\0"
     for steps, wrong in ((b"d\x06\x04\0a\x07\x04\0a\x04\0", None), (b"a\x04\x84\0\0", 2), (b"d\x04\x06\0b", 4),
                          (b"a\x84\x80\x80\x80\x10\0", 1), (b"a\x04", 2)):

@@ -1,4 +1,4 @@
-"""Rows of `aig refute`: proofs by hand as text and in the binary form, those that are refused, and broken ones."""
+"""Rows of `aig refute`: proofs by hand as text, in the binary form and with hints, those that are refused, and broken ones."""
 
 from library.circuits import TEXTS, write_all
 from library.plain_steps import steps_of
@@ -9,6 +9,12 @@ from program.rows import Rows
 # Bad is (a | b) & (a | !b) & (!a | b) & (!a | !b), which is never 1. In the formula for one frame a is variable 2, b is
 # variable 3, and the bad state is variable 10. Propagation leaves the four clauses of a and b.
 NEVER = ("aag 9 2 0 0 7 1\n2\n4\n18\n6 5 3\n8 4 3\n10 5 2\n12 4 2\n14 9 7\n16 13 11\n18 16 14\n")
+
+# Its formula has 23 clauses, so steps with hints have numbers from 24 on. The first one adds the literal of a, by the bad
+# state, its gates, and both clauses that have b.
+WITH_A = "24 2 0 2 21 22 15 16 5 8 0\n"
+WITH_NO_CLAUSE = "25 0 24 2 21 18 19 11 14 0\n"
+RENUMBERED = (WITH_A + WITH_NO_CLAUSE).replace("24 ", "27 ").replace("25 ", "28 ")
 
 # Proofs that refute it.
 PROOFS = (
@@ -38,6 +44,23 @@ PROOFS = (
     ("a variable of its own, deleted first", "d 12 0\n12 2 0\n-12 0\n2 0\n"),
     ("binary: a variable of its own", b"a\xfe\xff\xff\xff\x0f\x05\x00a\x04\x00"),
     ("what is behind the empty clause is not read", "2 0\nx\n"),
+    ("hints", WITH_A + WITH_NO_CLAUSE),
+    ("hints: no newline at the end", (WITH_A + WITH_NO_CLAUSE)[:-1]),
+    ("hints: steps over lines", WITH_A.replace(" 21", "\n21") + WITH_NO_CLAUSE.replace(" ", "\n")),
+    ("hints: two steps on the first line", WITH_A.replace("\n", " ") + WITH_NO_CLAUSE),
+    ("hints: blanks, tabs and comments", "c one\n\n\t" + WITH_A.replace(" ", "\t ") + "c 24\n " + WITH_NO_CLAUSE),
+    ("hints: a comment in a step", WITH_A.replace(" 21", "\nc 8 0\n21") + WITH_NO_CLAUSE),
+    ("hints: gaps in the numbers",
+     WITH_A.replace("24 ", "100 ") + WITH_NO_CLAUSE.replace("24 ", "100 ").replace("25 ", "2147483647 ")),
+    ("hints that give nothing", WITH_A.replace(" 2 21", " 3 3 99 2147483647 2 21") + WITH_NO_CLAUSE.replace(" 14", " 14 1")),
+    ("hints: a deletion of a clause that no hint names", WITH_A + "24 d 3 20 0\n" + WITH_NO_CLAUSE),
+    ("hints: a deletion first", "1 d 3 0\n" + WITH_A + WITH_NO_CLAUSE),
+    ("hints: a deletion of clauses that are not there",
+     "0 d 24 99 2147483647 0\n" + WITH_A + "24 d 3 3 0\n0 d 0\n" + WITH_NO_CLAUSE),
+    ("hints: a clause that has both signs", "24 3 -3 0 0\n24 d 24 0\n" + RENUMBERED),
+    ("hints: a variable of its own, for a conjunction",
+     "24 -11 2 0 0\n25 -11 3 0 0\n26 11 -2 -3 0 -24 -25 0\n" + RENUMBERED),
+    ("hints: what is behind the empty clause is not read", WITH_A + WITH_NO_CLAUSE + "x\n"),
     ("binary: one literal", b"a\x04\x00"),
     ("binary: a negated literal", b"a\x05\x00"),
     ("binary: the empty clause too", b"a\x04\x00a\x00"),
@@ -72,10 +95,35 @@ REFUSALS = (
     ("a carriage return", "2 3 0\r\n", "text at 4"),
     ("a negated end", "2 -0\n", "text at 2"),
     ("a comment that is not at the beginning of a line", "2 3 0 c\n", "text at 6"),
-    ("two steps on the first line", "2 3 0 2 0\n", "text at 6"),
+    ("two steps on the first line", "2 -3 0 2 0\n", "step 1"),
+    ("two steps on the first line, the first negated", "-2 3 0 2 0\n", "text at 7"),
     ("a step on the line of a deletion, which comes first", "d 2 3 0 \t2 0\n", "text at 9"),
-    ("LRAT", "1 2 0 3 4 0\n", "text at 6"),
-    ("a deletion of LRAT", "2 d 1 0\n", "text at 2"),
+    ("hints: a clause of the formula has the number", "1 2 0 3 4 0\n", "step 1"),
+    ("hints: the last clause of the formula has it", WITH_A.replace("24 ", "23 "), "step 1"),
+    ("hints: the step before has it", WITH_A + WITH_NO_CLAUSE.replace("25 ", "24 "), "step 2"),
+    ("hints: a deletion, and no more", "2 d 1 0\n", "no refutation"),
+    ("hints: an unfinished proof", WITH_A, "no refutation"),
+    ("hints: one is missing", WITH_A.replace(" 8 ", " "), "step 1"),
+    ("hints: one is of a clause that is deleted", "1 d 8 0\n" + WITH_A, "step 2"),
+    ("hints: one comes too early", WITH_A.replace(" 22 15 ", " 15 22 "), "step 1"),
+    ("hints: one is of the clause itself", WITH_A.replace(" 8 ", " 24 "), "step 1"),
+    ("hints: they come after a negative one", WITH_A.replace(" 2 21", " -99 2 21"), "step 1"),
+    ("hints: there are none", "24 2 0 0\n", "step 1"),
+    ("hints: the empty clause at once", "24 0 0\n", "step 1"),
+    ("hints: a number without a step", WITH_A + "25", "text at 29"),
+    ("hints: no list of hints", WITH_A + "25 0\n", "text at 32"),
+    ("hints: a list that is cut off", "24 2 0 2 21", "text at 11"),
+    ("hints: a letter among them", "24 2 0 x 0\n", "text at 7"),
+    ("hints: a letter in a clause", WITH_A + "25 x 0 0\n", "text at 30"),
+    ("hints: a letter in a deletion", "24 d 1 x 0\n", "text at 7"),
+    ("hints: d and no blank", "24 d1 0\n", "text at 3"),
+    ("hints: a word that is no number", WITH_A + "x 0 0\n", "text at 27"),
+    ("hints: a number with a leading zero", "024 2 0 2 0\n", "text at 0"),
+    ("hints: the number 0", "0 2 0 2 0\n", "text at 0"),
+    ("hints: a number over all", "2147483648 2 0 2 0\n", "text at 0"),
+    ("hints: a negative number", WITH_A + "-25 0 24 0\n", "text at 27"),
+    ("hints: a hint over all", "24 2 0 2147483648 0\n", "text at 7"),
+    ("hints: a carriage return", WITH_A.replace("\n", "\r\n"), "text at 25"),
     ("a minus alone", "2 - 0\n", "text at 2"),
     ("a letter after a minus", "2 3 0\n-x 0\n", "text at 6"),
     ("d and no blank in a later step", "2 3 0\nd1 2 0\n", "text at 6"),
@@ -138,6 +186,8 @@ GOALS = (
 KEPT = "aag 1 0 1 0 0 1\n2 2\n2\n"
 # The same latch, and the conjunction that is never 1: the step needs a proof of its own.
 NEVER_KEPT = ("aag 10 2 1 0 7 1\n2\n4\n6 6\n20\n8 5 3\n10 4 3\n12 5 2\n14 4 2\n16 11 9\n18 15 13\n20 18 16\n")
+# The formula of its step has 45 clauses. In the later frame a is variable 4, and the bad state is variable 20.
+STEP_HINTS = "46 4 0 3 43 44 37 38 27 30 0\n47 0 46 3 43 40 41 33 36 0\n"
 
 
 def refute(program, tally, _):
@@ -156,6 +206,11 @@ def refute(program, tally, _):
     rows.fails("a folder in place of a proof", "refute --frames 1 never .", "proof")
     rows.gives("propagation alone, and a proof that is not read", "refute --frames 3 --property 0 constants proof",
                "unreachable within 3\n", constants="aag 0 0 0 0 0 2\n0\n1\n", proof="x")
+    rows.fails("propagation alone, and a proof that cannot be read", "refute --frames 3 --property 0 constants .", "proof")
+    rows.gives("propagation alone, and right hints", "refute --frames 3 --property 0 constants proof",
+               "unreachable within 3\n", proof="3 0 1 2 0\n")
+    rows.refuses("propagation alone, and wrong hints", "refute --frames 3 --property 0 constants proof", "proof: step 1",
+                 proof="3 0 1 0\n")
     rows.refuses("a state that is reached", "refute --frames 3 --property 1 constants proof", "proof: no refutation", proof="")
     steps(rows)
     alive(rows)
@@ -170,13 +225,19 @@ def numbers(rows):
     write("kept_to", NEVER_KEPT_TO)
     write("no_claim", "aag 0 0 0 0 0\n")
     write("right", "2 0\n")
-    before = ("2 -2 0\n", "d 2 -2 0\n"), (b"a\x04\x05\0", b"d\x04\x05\0")
     for number in NUMBERS:
-        for (clause, deletion), end in zip(before, ("0\n", b"a\0")):
-            proof = (clause + deletion) * ((number - 1) // 2) + clause * (1 - number % 2) + end
-            form = "text" if end == "0\n" else "binary"
+        for form, proof in ends_wrong(number):
             for goal, words, part in GOALS:
                 rows.refuses(f"step {number} of {goal}, {form}", f"refute {words}", f"{part}: step {number}", proof=proof)
+
+
+def ends_wrong(number):
+    """Each form of a proof in which only the last step, of this number, is wrong, and the proof."""
+    pairs, more = divmod(number - 1, 2)
+    yield "text", "2 -2 0\nd 2 -2 0\n" * pairs + "2 -2 0\n" * more + "0\n"
+    yield "binary", b"a\x04\x05\0d\x04\x05\0" * pairs + b"a\x04\x05\0" * more + b"a\0"
+    hinted = [f"{at} 2 -2 0 0\n0 d {at} 0\n" for at in range(100, 100 + pairs)]
+    yield "hints", "".join([*hinted, "2147483646 2 -2 0 0\n" * more, "2147483647 0 0\n"])
 
 
 def frat(rows):
@@ -197,11 +258,14 @@ def steps(rows):
     rows.gives("other files of the step", "refute --step proof --property 0 --frames 3 kept proof", "unreachable\n")
     write("kept_too", NEVER_KEPT)
     for name, proof, step in (("text", "2 0\n", "c two frames\n4 0\n"), ("binary", b"a\x04\x00", b"a\x08\x00"),
-                              ("one of each", b"a\x04\x00", "4 0\n")):
+                              ("one of each", b"a\x04\x00", "4 0\n"), ("hints", WITH_A + WITH_NO_CLAUSE, STEP_HINTS),
+                              ("hints of the step", "2 0\n", STEP_HINTS),
+                              ("hints of the proof", WITH_A + WITH_NO_CLAUSE, "4 0\n")):
         rows.gives(f"two proofs: {name}", "refute --frames 1 --step step kept_too proof", "unreachable\n", proof=proof, step=step)
     for name, proof, step, fault in (("the proof first", "x", "x", "proof: text at 0"), ("the step's", "2 0\n", "x", "step proof: text at 0"),
                                      ("the step's, which does not follow", "2 0\n", "0\n", "step proof: step 1"),
-                                     ("the step's, which is not finished", "2 0\n", "", "step proof: no refutation")):
+                                     ("the step's, which is not finished", "2 0\n", "", "step proof: no refutation"),
+                                     ("the step's, with other hints", "2 0\n", WITH_A, "step proof: step 1")):
         rows.refuses(f"two proofs, refused: {name}", "refute --frames 1 --step step kept_too proof", fault, proof=proof, step=step)
     rows.refuses("a step that fails", "refute --frames 1 --step step loose proof", "step proof: no refutation",
                  loose="aag 1 0 1 0 0 1\n2 3\n2\n", proof="", step="")
@@ -213,6 +277,8 @@ def steps(rows):
 # The conjunction that is never 1 as a constraint, with a bad state that is always 1, and without one.
 NEVER_KEPT_TO = NEVER.replace("7 1\n2\n4\n18\n", "7 1 1\n2\n4\n1\n18\n")
 NO_STATE = NEVER.replace("7 1\n2\n4\n18\n", "7 0 1\n2\n4\n18\n")
+# The formula that a run of one frame keeps it has 29 clauses: variable 12 says so, by variable 11 and the constraint.
+ALIVE_HINTS = "30 2 0 2 27 24 21 22 15 16 5 8 0\n31 0 30 2 27 24 21 18 19 11 14 0\n"
 # A latch that starts at 1, is 0 after that, and has to be 1: a run has one frame.
 SHORT = "aag 1 0 1 0 0 0 1\n2 0 1\n2\n"
 
@@ -220,7 +286,7 @@ SHORT = "aag 1 0 1 0 0 0 1\n2 0 1\n2\n"
 def alive(rows):
     """Proofs that no run keeps the constraints."""
     for name, circuit in (("a bad state", NEVER_KEPT_TO), ("no bad state", NO_STATE)):
-        for said, proof in (("text", "2 0\n"), ("binary", b"a\x04\x00")):
+        for said, proof in (("text", "2 0\n"), ("binary", b"a\x04\x00"), ("hints", ALIVE_HINTS)):
             rows.gives(f"constraints that contradict, {name}: {said}", "refute --alive --frames 1 kept_to proof",
                        "no run of 1 frames\n", kept_to=circuit, proof=proof)
         rows.refuses(f"constraints that contradict, {name}: no proof", "refute --frames 1 --alive kept_to proof",
@@ -244,7 +310,8 @@ def broken(rows):
     refusals = ("no refutation", *(f"step {at}" for at in range(1, 9)), *(f"text at {at}" for at in range(64)))
     refusals = [refused(f"proof: {text}") for text in refusals]
     write("reached", NEVER.replace("14 9 7\n", "14 9 9\n"))
-    for proof in (b"2 3 0\nd 3 2 0\nc x\n2 0\n0\n", b"a\x04\x06\x00d\x06\x04\x00a\x04\x00a\x00"):
+    for proof in (b"2 3 0\nd 3 2 0\nc x\n2 0\n0\n", b"a\x04\x06\x00d\x06\x04\x00a\x04\x00a\x00",
+                  (WITH_A + WITH_NO_CLAUSE).encode()):
         changed = [proof[:at] for at in range(len(proof))]
         changed += [proof[:at] + bytes([byte]) + proof[at + 1:] for at in range(len(proof)) for byte in b"\x00 0-adc9\x7f\xff"]
         for each in changed:

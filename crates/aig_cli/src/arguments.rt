@@ -117,7 +117,7 @@ pub const WITNESS: Argument = Argument {
 
 pub const PROOF: Argument = Argument {
     name: "PROOF",
-    help: "File of the proof that a SAT solver wrote (DRAT),\nas text or binary",
+    help: "File of the proof that a SAT solver wrote: DRAT as\ntext or binary, or LRAT as text",
     kind: Kind::Text,
     need: Need::Always,
 };

@@ -258,10 +258,10 @@ See also: man aig, man 5 aig-formats";
 pub const REFUTE: &str =
     "The proof is one about the formula that cnf prints for the same K and P. Each
 clause that it adds must follow from those that stand by unit propagation, or be
-a resolution asymmetric tautology on its first literal. If the proof refutes the
-formula, the answer is unreachable within K: no run has a frame before frame K
-at which property P is 1 and all constraints were 1 so far, whatever values are
-unknown.
+a resolution asymmetric tautology on its first literal; in LRAT, by its hints.
+If the proof refutes the formula, the answer is unreachable within K: no run has
+a frame before frame K at which property P is 1 and all constraints were 1 so
+far, whatever values are unknown.
 
 A number over the formula's variables names one of the proof's own. Deletions
 are optional. An empty file serves if unit propagation alone refutes the

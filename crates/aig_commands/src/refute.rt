@@ -197,10 +197,10 @@ fn write_checked<W: Write>(
 
 /// The command `refute`: reads a circuit and checks a solver's proof that no assignment satisfies the formula that
 /// `cnf` writes for a question. If it is one, that says something of the file, whatever values are unknown, and one
-/// line says so. Nothing is believed of a certificate or of a proof. The proof is never held whole, and is not read if
-/// a file is rejected, if there is no such formula, or if propagation alone refutes it. Only `Question::Step` reads
-/// `step`: `proof` is then about the formula of `Question::Within`, and `step` about that of the step. Neither is read
-/// before it is known that there are both formulas.
+/// line says so. Nothing is believed of a certificate or of a proof. The proof is never held whole. It is not read if a
+/// file is rejected, or if there is no such formula. Only its first block is read if propagation alone refutes the
+/// formula. Only `Question::Step` reads `step`: `proof` is then about the formula of `Question::Within`, and `step`
+/// about that of the step. Neither is read before it is known that there are both formulas.
 ///
 /// - `Question::Within`: no run from a start that the resets allow reaches the property within the frames.
 /// - `Question::Step`, `Question::Certified`: no run of any length from such a start reaches it.

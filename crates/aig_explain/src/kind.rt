@@ -23,7 +23,8 @@ pub enum Kind {
     /// What a solver prints: its answer, and a model.
     Answer,
     Frat,
-    Lrat,
+    /// LRAT in its binary form: a proof with hints is read as text alone.
+    BinaryLrat,
     VeriPb,
     /// What may be a proof: a model in another form begins as one in FRAT does.
     MaybeProof,
@@ -61,24 +62,6 @@ fn of_word(word: &[u8]) -> Option<Kind> {
         _ if is_answer(word) => Some(Kind::Answer),
         _ => None,
     }
-}
-
-// A step of FRAT as text begins with `a` and a number; one of LRAT has a `d` after its number, or hints after its 0.
-fn of_step(line: &[u8]) -> Option<Kind> {
-    let mut is_first = true;
-    let mut is_after_zero = false;
-    for word in line.split(is_blank) {
-        match word {
-            [] => continue,
-            [b'a'] if is_first => return Some(Kind::Frat),
-            [b'd'] if !is_first => return Some(Kind::Lrat),
-            _ if is_after_zero => return Some(Kind::Lrat),
-            _ => {}
-        }
-        is_after_zero = matches!(word, [b'0']);
-        is_first = false;
-    }
-    None
 }
 
 // The first number of the binary form.
@@ -145,7 +128,7 @@ fn of_binary(block: &[u8]) -> Option<Kind> {
     } else if are_steps(lists, true) {
         Some(Kind::Frat)
     } else if are_of_lrat(lists) {
-        Some(Kind::Lrat)
+        Some(Kind::BinaryLrat)
     } else {
         None
     }
@@ -161,30 +144,41 @@ fn last_zero(block: &[u8]) -> Option<usize> {
     last
 }
 
-// The first line that is no comment.
-fn first_line(block: &[u8]) -> &[u8] {
+/// The first line that is neither blank nor a comment.
+pub fn first_line(block: &[u8]) -> &[u8] {
     for line in block.split(is_newline) {
-        if !line.is_empty() && !line.starts_with(b"c") {
+        if !first_word(line).is_empty() && !line.starts_with(b"c") {
             return line;
         }
     }
     &[]
 }
 
+// The first word of a line; no bytes where it has none.
 fn first_word(line: &[u8]) -> &[u8] {
-    line.split(is_blank).next().unwrap_or(line)
+    for word in line.split(is_blank) {
+        if !word.is_empty() {
+            return word;
+        }
+    }
+    &[]
 }
 
 // What has this first line.
 fn of_line(line: &[u8]) -> Option<Kind> {
-    let known = of_word(first_word(line));
+    let word = first_word(line);
+    let known = of_word(word);
     if known.is_some() {
         return known;
     }
     if line.ends_with(b"\r") {
         return Some(Kind::CrLf);
     }
-    of_step(line)
+    match word {
+        // A step of FRAT as text.
+        [b'a'] => Some(Kind::Frat),
+        _ => None,
+    }
 }
 
 // Whether a line begins with the word.
@@ -276,7 +270,7 @@ impl Kind {
             Kind::Formula => "the file is a CNF formula",
             Kind::Answer => "the file is what a solver prints: its answer, or a model",
             Kind::Frat => "the file is a proof in FRAT",
-            Kind::Lrat => "the file is a proof in LRAT: its steps have numbers and hints",
+            Kind::BinaryLrat => "the file is a proof in LRAT, in its binary form",
             Kind::VeriPb => "the file is a proof of VeriPB",
             Kind::MaybeProof => "the file may be a solver's proof",
             Kind::CrLf => "lines end with CR LF",
@@ -314,9 +308,9 @@ impl Kind {
                 "a proof is a file of its own, as in: cadical FORMULA PROOF",
             (Kind::Frat, Part::Proof) =>
                 "aig reads DRAT (cadical without --frat); to make DRAT of it see \"Proof\" in man aig-formats",
-            (Kind::Lrat, Part::Proof) =>
-                "aig reads DRAT, one step on the first line: have the solver write DRAT (cadical without --lrat)",
-            (Kind::VeriPb, _) => "aig reads DRAT: have the solver write DRAT",
+            (Kind::BinaryLrat, Part::Proof) =>
+                "aig reads LRAT only as text: have the solver write text (cadical --lrat --no-binary)",
+            (Kind::VeriPb, _) => "aig reads DRAT and LRAT: have the solver write one of them",
             (Kind::MaybeProof, _) =>
                 "aig refute checks a proof; --model names what the solver printed",
             (_, Part::Proof | Part::Model) => "name the file that the solver writes",

@@ -113,11 +113,11 @@ fn is_literal(walk: &Walk) -> bool {
     walk.is_over && walk.step.number <= 1 && number_of(&walk.word) > 0
 }
 
-// A file that begins with a solver's answer may be a model, and one with words after its 0 need not be a proof.
+// A file that begins with a solver's answer may be a model.
 fn other_kind(seen: &Seen) -> Option<Kind> {
     match seen.known {
-        Some(Kind::Answer | Kind::Lrat) => None,
-        Some(Kind::Frat) => Some(Kind::MaybeProof),
+        Some(Kind::Answer) => None,
+        Some(Kind::Frat | Kind::BinaryLrat) => Some(Kind::MaybeProof),
         known => known,
     }
 }

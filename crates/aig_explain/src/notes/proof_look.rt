@@ -5,7 +5,7 @@ use crate::explanation::Explanation;
 use crate::kind::Kind;
 use crate::line::{Line, Word};
 use crate::notes::look::{Look, Seen};
-use crate::notes::proof_walk::{Goal, Spelling, Walk};
+use crate::notes::proof_walk::{Goal, Spelling, Step, Walk};
 use crate::unrolling::{variables_of_step, variables_within};
 use aig_bytes::Memory;
 use aig_files::Part;
@@ -39,26 +39,32 @@ pub fn explain_proof<R: Files + AllocGlobal>(
         return Ok(());
     };
     look.lines.name(name)?;
-    look.lines.say(why(fault))?;
     match look.walk(name, goal_of(fault), None) {
         Ok(seen) => {
+            let spelling = Some(seen.walk.spelling);
+            look.lines.say(why(fault, spelling))?;
             let variables = variables_of(look, about, fault, &seen);
             push_seen(&mut look.lines, &seen, fault, variables)?;
-            push_cause(&mut look.lines, about, fault, seen.known)
+            push_cause(&mut look.lines, about, fault, spelling, seen.known)
         }
         Err(obstacle) => {
+            look.lines.say(why(fault, None))?;
             obstacle.push(&mut look.lines)?;
-            push_cause(&mut look.lines, about, fault, None)
+            push_cause(&mut look.lines, about, fault, None, None)
         }
     }
 }
 
-fn why(fault: ProofFault) -> &'static str {
-    match fault {
-        ProofFault::Step { .. } =>
+// Where the proof is not seen again, it may have hints or not.
+fn why(fault: ProofFault, spelling: Option<Spelling>) -> &'static str {
+    match (fault, spelling) {
+        (ProofFault::Step { .. }, Some(Spelling::Hinted)) =>
+            "the clause of this step does not follow by its hints, or its number is not greater than all before it",
+        (ProofFault::Step { .. }, Some(Spelling::Text | Spelling::Binary)) =>
             "the clause that this step adds does not follow by unit propagation, nor is it a resolution asymmetric tautology",
-        ProofFault::NoRefutation => "the proof ends before it refutes the formula",
-        _ => "this is no step of a proof in DRAT, or the file is cut off",
+        (ProofFault::Step { .. }, None) => "the clause that this step adds was not found to follow",
+        (ProofFault::NoRefutation, _) => "the proof ends before it refutes the formula",
+        _ => "this is no step of a proof in DRAT or LRAT, or the file is cut off",
     }
 }
 
@@ -118,7 +124,7 @@ fn push_place(
 ) -> Result<(), Memory> {
     let mut line = Line::new(lines.alloc());
     match walk.spelling {
-        Spelling::Text => line.put("line {}, column {}", &place.words())?,
+        Spelling::Text | Spelling::Hinted => line.put("line {}, column {}", &place.words())?,
         Spelling::Binary => line.put("byte {}", &[Word::Number(place.byte)])?,
     }
     line.put(template, words)?;
@@ -133,6 +139,7 @@ fn push_step(lines: &mut Explanation, walk: &Walk) -> Result<(), Memory> {
     }
     let kind = if step.is_deletion { "deletes" } else { "adds" };
     let (template, place) = match walk.spelling {
+        Spelling::Hinted => return push_hinted_step(lines, step),
         Spelling::Text => ("step {}, in line {}, {} the clause `{}`", step.place.line),
         Spelling::Binary => ("step {}, at byte {}, {} the clause `{}`", step.place.byte),
     };
@@ -144,6 +151,23 @@ fn push_step(lines: &mut Explanation, walk: &Walk) -> Result<(), Memory> {
             Word::Text(kind),
             Word::Bytes(&step.clause),
         ],
+    )
+}
+
+// The same of a step with hints.
+fn push_hinted_step(lines: &mut Explanation, step: &Step) -> Result<(), Memory> {
+    let number = Word::Number(step.number);
+    let line = Word::Number(step.place.line);
+    let numbers = Word::Bytes(&step.clause);
+    if step.is_deletion {
+        return lines.add(
+            "step {}, in line {}, deletes the clauses numbered `{}`",
+            &[number, line, numbers],
+        );
+    }
+    lines.add(
+        "step {}, in line {}, numbered {}, adds the clause `{}`",
+        &[number, line, Word::Number(step.own_number), numbers],
     )
 }
 
@@ -195,19 +219,35 @@ fn push_cause(
     lines: &mut Explanation,
     about: ProofOf,
     fault: ProofFault,
+    spelling: Option<Spelling>,
     known: Option<Kind>,
 ) -> Result<(), Memory> {
     match (known, fault) {
         (Some(known), _) => return known.push(lines, Part::Proof),
         (None, ProofFault::Text { .. }) => {
-            return lines.say("have the solver write DRAT, to its end");
+            return lines.say("have the solver write DRAT, or LRAT as text, to its end");
         }
         (None, _) => {}
     }
     lines.say(formula_of(about))?;
+    push_order(lines, fault, spelling)?;
     match about {
         ProofOf::Certificate => lines.say(
             "or the certificate is wrong: give a solver's model to aig witness --certificate --model to see which claim fails",
+        ),
+        _ => Ok(()),
+    }
+}
+
+// Hints about the same clauses in another order are wrong.
+fn push_order(
+    lines: &mut Explanation,
+    fault: ProofFault,
+    spelling: Option<Spelling>,
+) -> Result<(), Memory> {
+    match (fault, spelling) {
+        (ProofFault::Step { .. }, Some(Spelling::Hinted)) => lines.say(
+            "its hints number the clauses of the formula from 1, in the order in which aig cnf prints them",
         ),
         _ => Ok(()),
     }

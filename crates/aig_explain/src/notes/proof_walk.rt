@@ -2,6 +2,7 @@
 //! its clause.
 
 use crate::circuit::place::Place;
+use crate::kind::first_line;
 use crate::line::{Line, SHOWN, Word};
 use crate::text_lines::{is_blank, place_of};
 use aig_bytes::Memory;
@@ -22,6 +23,8 @@ pub enum Goal {
 #[derive(Clone, Copy)]
 pub enum Spelling {
     Text,
+    /// A text whose steps have numbers and hints (LRAT).
+    Hinted,
     Binary,
 }
 
@@ -30,13 +33,18 @@ pub enum Spelling {
 pub struct Step {
     /// 0 before the first step.
     pub number: u64,
+    /// The number that it begins with, in a proof with hints.
+    pub own_number: u64,
     pub place: Place,
     pub is_deletion: bool,
-    /// The first bytes of its literals as text, one more than a line shows at most.
+    /// The first bytes of its literals as text, one more than a line shows at most; in a proof with hints of the
+    /// numbers that it deletes.
     pub clause: Vec<u8>,
     /// The greatest variable that it names.
     pub greatest: u64,
     is_open: bool,
+    // Its clause is read, and its hints come.
+    has_clause: bool,
 }
 
 /// A walk through a proof.
@@ -64,8 +72,29 @@ pub fn spelling_of(bytes: &[u8]) -> Spelling {
         [b'a', ..] => Spelling::Binary,
         [b'd', b' ' | b'\t', ..] if place_of(bytes, 0).is_none() => Spelling::Text,
         [b'd', _, ..] => Spelling::Binary,
+        _ if has_hints(first_line(bytes)) => Spelling::Hinted,
         _ => Spelling::Text,
     }
+}
+
+// Whether the first line is of a proof with hints: a number and a `d`, or a number and words after the first 0.
+fn has_hints(line: &[u8]) -> bool {
+    let mut is_first = true;
+    let mut is_second = false;
+    let mut is_after_zero = false;
+    for word in line.split(is_blank) {
+        match word {
+            [] => continue,
+            [first, ..] if is_first && !first.is_ascii_digit() => return false,
+            [b'd', ..] if is_second => return true,
+            _ if is_after_zero => return true,
+            _ => {}
+        }
+        is_after_zero = matches!(word, [b'0']);
+        is_second = is_first;
+        is_first = false;
+    }
+    false
 }
 
 /// The number that a word spells after its sign; 0 if it spells none.
@@ -96,11 +125,13 @@ impl Step {
     fn none(alloc: Global) -> Step {
         Step {
             number: 0,
+            own_number: 0,
             place: Place::FIRST,
             is_deletion: false,
             clause: Vec::new(alloc),
             greatest: 0,
             is_open: false,
+            has_clause: false,
         }
     }
 
@@ -111,6 +142,7 @@ impl Step {
         self.clause.clear();
         self.greatest = 0;
         self.is_open = true;
+        self.has_clause = false;
     }
 
     fn add(&mut self, literal: &[u8], variable: u64) -> Result<(), Memory> {
@@ -119,6 +151,25 @@ impl Step {
         }
         self.greatest = self.greatest.max(variable);
         push_some(&mut self.clause, literal)
+    }
+
+    // Takes a word of a step with hints, and returns whether it ends the step. After the number of such a step come `d`
+    // and the numbers of clauses, or a clause and its hints.
+    fn take(&mut self, word: &[u8]) -> Result<bool, Memory> {
+        if matches!(word, [b'0']) {
+            let is_end = self.is_deletion || self.has_clause;
+            self.has_clause = true;
+            return Ok(is_end);
+        }
+        if self.has_clause {
+            return Ok(false);
+        }
+        if self.clause.is_empty() && matches!(word, [b'd']) {
+            self.is_deletion = true;
+        } else {
+            self.add(word, number_of(word))?;
+        }
+        Ok(false)
     }
 }
 
@@ -147,7 +198,7 @@ impl Walk {
                 break;
             }
             match self.spelling {
-                Spelling::Text => self.pass_text(*byte)?,
+                Spelling::Text | Spelling::Hinted => self.pass_text(*byte)?,
                 Spelling::Binary => self.pass_binary(*byte)?,
             }
             self.place.pass(*byte);
@@ -158,8 +209,8 @@ impl Walk {
     /// The end of the file, which ends a word of a text.
     pub fn end(&mut self) -> Result<(), Memory> {
         match self.spelling {
-            Spelling::Text if !self.is_over => self.end_word(),
-            Spelling::Text | Spelling::Binary => Ok(()),
+            Spelling::Text | Spelling::Hinted if !self.is_over => self.end_word(),
+            Spelling::Text | Spelling::Hinted | Spelling::Binary => Ok(()),
         }
     }
 
@@ -194,6 +245,15 @@ impl Walk {
         if self.word.is_empty() {
             return Ok(());
         }
+        match self.spelling {
+            Spelling::Hinted => self.end_hinted_word()?,
+            Spelling::Text | Spelling::Binary => self.end_text_word()?,
+        }
+        self.leave_word(self.place.byte);
+        Ok(())
+    }
+
+    fn end_text_word(&mut self) -> Result<(), Memory> {
         let is_deletion = matches!(self.word.as_slice(), [b'd']);
         if !self.step.is_open {
             self.step.begin(self.word_place, is_deletion);
@@ -204,7 +264,16 @@ impl Walk {
             let variable = number_of(&self.word);
             self.step.add(&self.word, variable)?;
         }
-        self.leave_word(self.place.byte);
+        Ok(())
+    }
+
+    fn end_hinted_word(&mut self) -> Result<(), Memory> {
+        if !self.step.is_open {
+            self.step.begin(self.word_place, false);
+            self.step.own_number = number_of(&self.word);
+        } else if self.step.take(&self.word)? {
+            self.end_step();
+        }
         Ok(())
     }
 
