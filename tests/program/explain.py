@@ -393,7 +393,7 @@ KINDS_OF_PROOFS = (
      "the file is a proof in FRAT", OF_FRAT),
     ("LRAT in binary", b"a\x2a\x15\x0a\x00\x06\x08\x00d\x02\x00a\x2c\x04\x00\x2a\x00",
      "the file is a proof in LRAT, in its binary form",
-     "aig reads LRAT only as text: have the solver write text (cadical --lrat --no-binary)"),
+     "aig reads LRAT only as text: have the solver write it as text"),
     ("a binary proof with a byte too many", b"a\x04\x06\x00\x06\x00a\x04\x00", "byte 4: found `\\x06`", TO_ITS_END),
     ("a binary proof with a zero too many", b"a\x04\x06\x00\x00a\x04\x00", "byte 4: found `\\x00`", TO_ITS_END),
     ("a variable of its own, and a letter", "2 3 0\n11 x 0\n", "step 2, in line 2, adds the clause `11 x`", TO_ITS_END),

@@ -15,6 +15,10 @@ NEVER = ("aag 9 2 0 0 7 1\n2\n4\n18\n6 5 3\n8 4 3\n10 5 2\n12 4 2\n14 9 7\n16 13
 WITH_A = "24 2 0 2 21 22 15 16 5 8 0\n"
 WITH_NO_CLAUSE = "25 0 24 2 21 18 19 11 14 0\n"
 RENUMBERED = (WITH_A + WITH_NO_CLAUSE).replace("24 ", "27 ").replace("25 ", "28 ")
+# The four clauses of a and b by hints, then two clauses of a variable of the proof's own, which implies a and b. A step
+# that adds that variable has these two as candidates.
+OF_BOTH = ("24 2 3 0 1 2 5 6 10 12 16 20 22 0\n25 2 -3 0 1 2 3 8 9 13 15 20 22 0\n26 -2 3 0 1 2 4 6 11 12 17 19 21 0\n"
+           "27 -2 -3 0 1 2 3 7 9 14 17 18 21 0\n28 -11 2 0 0\n29 -11 3 0 0\n")
 
 # Proofs that refute it.
 PROOFS = (
@@ -60,6 +64,9 @@ PROOFS = (
     ("hints: a clause that has both signs", "24 3 -3 0 0\n24 d 24 0\n" + RENUMBERED),
     ("hints: a variable of its own, for a conjunction",
      "24 -11 2 0 0\n25 -11 3 0 0\n26 11 -2 -3 0 -24 -25 0\n" + RENUMBERED),
+    ("hints: groups of candidates", OF_BOTH + "30 11 0 -28 24 25 -29 24 26 0\n31 0 30 28 29 27 0\n"),
+    ("hints: groups in another order", OF_BOTH + "30 11 0 -29 24 26 -28 24 25 0\n31 0 30 28 29 27 0\n"),
+    ("hints: hints before all groups", OF_BOTH + "30 11 0 24 -29 26 -28 25 0\n31 0 30 28 29 27 0\n"),
     ("hints: what is behind the empty clause is not read", WITH_A + WITH_NO_CLAUSE + "x\n"),
     ("binary: one literal", b"a\x04\x00"),
     ("binary: a negated literal", b"a\x05\x00"),
@@ -108,6 +115,8 @@ REFUSALS = (
     ("hints: one comes too early", WITH_A.replace(" 22 15 ", " 15 22 "), "step 1"),
     ("hints: one is of the clause itself", WITH_A.replace(" 8 ", " 24 "), "step 1"),
     ("hints: they come after a negative one", WITH_A.replace(" 2 21", " -99 2 21"), "step 1"),
+    ("hints: those of one candidate come after the other", OF_BOTH + "30 11 0 -28 24 26 -29 24 25 0\n", "step 7"),
+    ("hints: one candidate has none", OF_BOTH + "30 11 0 -28 24 25 0\n", "step 7"),
     ("hints: there are none", "24 2 0 0\n", "step 1"),
     ("hints: the empty clause at once", "24 0 0\n", "step 1"),
     ("hints: a number without a step", WITH_A + "25", "text at 29"),

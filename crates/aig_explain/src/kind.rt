@@ -309,7 +309,7 @@ impl Kind {
             (Kind::Frat, Part::Proof) =>
                 "aig reads DRAT (cadical without --frat); to make DRAT of it see \"Proof\" in man aig-formats",
             (Kind::BinaryLrat, Part::Proof) =>
-                "aig reads LRAT only as text: have the solver write text (cadical --lrat --no-binary)",
+                "aig reads LRAT only as text: have the solver write it as text",
             (Kind::VeriPb, _) => "aig reads DRAT and LRAT: have the solver write one of them",
             (Kind::MaybeProof, _) =>
                 "aig refute checks a proof; --model names what the solver printed",
