@@ -46,12 +46,12 @@ last_line : (x : ℕ) (line rest : List ℕ) → last_byte x (line ++ 10 ∷ res
 last_line x [] rest = refl
 last_line x (y ∷ line) rest = last_line y line rest
 
-no_space : (b : ℕ) → 32 < b → IsSpace b → ⊥
+pub no_space : (b : ℕ) → 32 < b → IsSpace b → ⊥
 no_space b lt (inl e) = omega (arith, lt, e)
 no_space b lt (inr (inl e)) = omega (arith, lt, e)
 no_space b lt (inr (inr e)) = omega (arith, lt, e)
 
-space_below : (b : ℕ) → IsSpace b → b ≤ 32
+pub space_below : (b : ℕ) → IsSpace b → b ≤ 32
 space_below b (inl e) = omega (arith, e)
 space_below b (inr (inl e)) = omega (arith, e)
 space_below b (inr (inr e)) = omega (arith, e)
@@ -59,11 +59,11 @@ space_below b (inr (inr e)) = omega (arith, e)
 -- ---- what separates
 
 -- this goes on with no space and no comment
-abbrev Stops : List ℕ → Type 0
+abbrev pub Stops : List ℕ → Type 0
 Stops bytes = BeginsNot (λ b. IsSpace b ⊎ (b ≡ 99)) bytes
 
 -- what separates goes on where other bytes that separate end
-peel : {p : ℕ} {h g : List ℕ} (t u : List ℕ) → Gap p h → Gap p g → g ++ t ≡ h ++ u → Stops t
+pub peel : {p : ℕ} {h g : List ℕ} (t u : List ℕ) → Gap p h → Gap p g → g ++ t ≡ h ++ u → Stops t
     → (more : List ℕ) × Gap (last_byte p h) more × (u ≡ more ++ t)
 peel {p} {h} {g} t u Gap.nothing of_g e stops = (g, of_g, sym e)
 peel t u (Gap.space {rest = h} b space of_h) Gap.nothing e stops = absurd (stops b (h ++ u) e (inl space))
@@ -86,7 +86,7 @@ peel t u (Gap.comment {rest = h} line inside of_h) (Gap.comment {rest = g} line'
     (more, subst (λ (n : ℕ). Gap n more) (sym (last_line 99 line h)) of_more, is)
 
 -- where nothing goes on to separate
-none_more : {q : ℕ} {more : List ℕ} (t u : List ℕ) → Gap q more → u ≡ more ++ t → BeginsNot (BeginsGap q) u → u ≡ t
+pub none_more : {q : ℕ} {more : List ℕ} (t u : List ℕ) → Gap q more → u ≡ more ++ t → BeginsNot (BeginsGap q) u → u ≡ t
 none_more t u Gap.nothing e stops = e
 none_more t u (Gap.space {rest = rest} b space of) e stops = absurd (stops b (rest ++ t) e (inl space))
 none_more t u (Gap.comment {rest = rest} line inside of) e stops =
@@ -103,14 +103,14 @@ no_end t line (Gap.comment {rest = rest} line' inside' of) e inside stops =
     lf_inside line' (rest ++ t)
     (subst (All (λ b. b ≢ 10)) (tail ∙ append_assoc line' (10 ∷ rest) t) inside)
 
-unfinished : {p : ℕ} {g : List ℕ} (t bytes : List ℕ) → EndsUnfinished p bytes → Gap p g → bytes ≡ g ++ t → Stops t → ⊥
+pub unfinished : {p : ℕ} {g : List ℕ} (t bytes : List ℕ) → EndsUnfinished p bytes → Gap p g → bytes ≡ g ++ t → Stops t → ⊥
 unfinished t bytes (gap, rest, of, (line, at, inside, is), all) of_g e stops =
     let (more, of_more, is') = peel t rest of of_g (sym e ∙ all) stops in
     no_end t line of_more (sym is ∙ is') inside stops
 
 -- ---- the words of a clause
 
-number_space : (l : ℕ) → variable l < 2147483647 → All (λ b. IsSpace b → ⊥) (number_text l)
+pub number_space : (l : ℕ) → variable l < 2147483647 → All (λ b. IsSpace b → ⊥) (number_text l)
 number_space l below = no_space_in_word 2147483647 [] (Word.literal l) (omega arith) below
 
 -- the number of a literal, by its sign
@@ -131,14 +131,14 @@ number l = elim (eqb_tells (l % 2) 0) [
 ]
 
 -- how it begins
-record Begins (bytes : List ℕ) : Type 0 where
-  first : ℕ
-  rest : List ℕ
-  is : bytes ≡ first ∷ rest
-  least : 45 ≤ first
-  most : first ≤ 57
+pub record Begins (bytes : List ℕ) : Type 0 where
+  pub first : ℕ
+  pub rest : List ℕ
+  pub is : bytes ≡ first ∷ rest
+  pub least : 45 ≤ first
+  pub most : first ≤ 57
 
-number_begins : (l : ℕ) (more : List ℕ) → variable l < 2147483647 → Begins (number_text l ++ more)
+pub number_begins : (l : ℕ) (more : List ℕ) → variable l < 2147483647 → Begins (number_text l ++ more)
 number_begins l more below = by (number l).negated (number l).is
   where
     by : (t : Bool) → number_text l ≡ minus t ++ decimal (variable l + 1) → Begins (number_text l ++ more)
@@ -159,12 +159,12 @@ number_begins l more below = by (number l).negated (number l).is
           most = h.digit.1;
         }
 
-word_begins : (f : Bool) (bytes : List ℕ) → WordToCome f bytes → Begins bytes
+pub word_begins : (f : Bool) (bytes : List ℕ) → WordToCome f bytes → Begins bytes
 word_begins f bytes (WordToCome.end {bytes = rest} ends) =
     record { first = 48; rest = rest; is = refl; least = omega arith; most = omega arith }
 word_begins f bytes (WordToCome.literal {rest = rest} l b below space clause) = number_begins l (b ∷ rest) below
 
-begins_stops : (bytes : List ℕ) → Begins bytes → Stops bytes
+pub begins_stops : (bytes : List ℕ) → Begins bytes → Stops bytes
 begins_stops bytes h = λ b rest e goes.
     let same : h.first ≡ b = let both : h.first ∷ h.rest ≡ b ∷ rest = sym h.is ∙ e in cc in
     elim goes [
@@ -173,14 +173,14 @@ begins_stops bytes h = λ b rest e goes.
     ]
 
 -- a clause is what separates, and its first word
-record FirstWord (f : Bool) (p : ℕ) (bytes : List ℕ) : Type 0 where
-  gap : List ℕ
-  rest : List ℕ
-  of_gap : Gap p gap
-  is : bytes ≡ gap ++ rest
-  word : WordToCome f rest
+pub record FirstWord (f : Bool) (p : ℕ) (bytes : List ℕ) : Type 0 where
+  pub gap : List ℕ
+  pub rest : List ℕ
+  pub of_gap : Gap p gap
+  pub is : bytes ≡ gap ++ rest
+  pub word : WordToCome f rest
 
-clause_word : (f : Bool) (p : ℕ) (bytes text rest clause : List ℕ) → SpellsClause f p text clause → bytes ≡ text ++ rest
+pub clause_word : (f : Bool) (p : ℕ) (bytes text rest clause : List ℕ) → SpellsClause f p text clause → bytes ≡ text ++ rest
     → FirstWord f p bytes
 clause_word f p bytes text rest clause (SpellsClause.end {gap = gap} ends of e) is = record {
   gap = gap;
@@ -321,7 +321,7 @@ addition_after f p q x xs bytes of stops shown other step = by bytes (kind_after
 
 -- ---- words that are none
 
-number_after : (l : ℕ) (more rest : List ℕ) (negated : Bool) → variable l < 2147483647
+pub number_after : (l : ℕ) (more rest : List ℕ) (negated : Bool) → variable l < 2147483647
     → number_text l ++ more ≡ minus negated ++ rest → (negated ≡ false → BeginsNot (λ b. b ≡ 45) rest)
     → decimal (variable l + 1) ++ more ≡ rest
 number_after l more rest negated below e lacks = by (number l).negated negated (number l).is e lacks

@@ -8,7 +8,7 @@ use Rattle.aig_parts.specs.Literal.{variable}
 use Rattle.aig_sat.specs.declared.proof.spelling.Spelling.{Spelling}
 use Rattle.aig_sat.specs.declared.proof.spelling.Spelling.TheVariants.{Text, Binary}
 use Rattle.aig_sat.specs.declared.proof.step.StepKind.{StepKind}
-use Rattle.aig_sat.specs.proof.HintedText.{SpellsHinted}
+use Rattle.aig_sat.specs.proof.HintedText.{HintedStep, SpellsHinted}
 use Rattle.aig_sat.specs.proof.ProofText.{Gap, SpellsStep, last_byte}
 use Rattle.aig_sat.specs.proof.ProofBytes.{SpellsBinaryStep}
 
@@ -131,3 +131,15 @@ NoStep reader left (Some Text) =
     (λ bytes. StepToCome (is_none reader.spelling) reader.block.previous bytes → ⊥)
 NoStep reader left (Some Binary) = IfSome (bytes_to_come reader.block left) (λ bytes. BinaryStepToCome bytes → ⊥)
 NoStep reader left None = ⊥
+
+-- The same of a proof with hints: its bytes to come begin with a step, or only separate up to their end.
+abbrev pub HintedStepToCome : ℕ → List ℕ → Type 0
+HintedStepToCome previous bytes =
+    ((text : List ℕ) × (rest : List ℕ) × (step : HintedStep)
+    × SpellsHinted previous text step × (bytes ≡ text ++ rest))
+    ⊎ Gap previous bytes
+
+-- neither a step with hints nor the end of the proof is next
+abbrev pub NoHintedStep : StepReader → Option (List ℕ) → Type 0
+NoHintedStep reader left =
+    IfSome (text_to_come reader.block left) (λ bytes. HintedStepToCome reader.block.previous bytes → ⊥)

@@ -1,14 +1,15 @@
 //! A proof with hints (LRAT) as text: each step has a number, and one that adds a clause names, after it, the clauses
 //! that it follows from.
-ghost use Rattle.std.specs.Prelude.{◌≡◌, ◌+◌, ◌≤◌, ℕ, List, [], ◌∷◌, ◌++◌, IfOk, IfSome, IsTrue, None, OnOk};
+ghost use Rattle.std.specs.Prelude.{◌≡◌, ◌+◌, ◌≤◌, ℕ, List, [], ◌∷◌, ◌++◌, Err, IfOk, IfSome, IsTrue, None, OnOk, false};
 ghost use Rattle.std.specs.Fmt.{decimal};
+ghost use Rattle.std.specs.Option.{IsSomeAnd};
 ghost use Rattle.aig_bytes.specs.Bytes.{IsAtEnd};
 ghost use Rattle.aig_sat.specs.model.ModelText.{IsSpace};
 ghost use Rattle.aig_sat.specs.proof.HintedText.{ArePositive};
 ghost use Rattle.aig_sat.specs.proof.ProofText.{Gap};
 ghost use Rattle.aig_sat.specs.proof.Reads.{reads_failed};
-ghost use Rattle.aig_sat.specs.proof.Steps.{TakesText, text_to_come};
-ghost use Rattle.aig_sat.specs.proof.state.Taking.{LeadsNumber};
+ghost use Rattle.aig_sat.specs.proof.Steps.{HintedStepToCome, TakesText, text_to_come};
+ghost use Rattle.aig_sat.specs.proof.state.Taking.{LeadsNumber, NumberWordToCome};
 
 use crate::proof::bytes::ProofBytes;
 use crate::proof::fault::ReadFault;
@@ -110,6 +111,8 @@ fn word_number<R: Read>(
     ensures small { IfOk result (λ n. n.value ≤ 2147483647) }
     ensures number { IfOk result (λ n. TakesText bytes.old bytes.new (R.left reader.old) (R.left reader.new)
         (decimal n.value ++ bytes.new.previous ∷ [])) }
+    ensures refused { (at : ℕ) → result ≡ Err (ReadFault.Text at) →
+        IsSomeAnd (text_to_come bytes.old (R.left reader.old)) NumberWordToCome → ⊥ }
 {
     let number = text_number(bytes, reader, at)?;
     end_word(bytes, reader, at)?;
@@ -134,6 +137,8 @@ pub(crate) fn step_number<R: Read>(
     ensures none { IfOk result (λ next. next ≡ None → (taken : List ℕ) × Gap bytes.old.previous taken
         × TakesText bytes.old bytes.new (R.left reader.old) (R.left reader.new) taken
         × IsAtEnd (text_to_come bytes.new (R.left reader.new))) }
+    ensures refused { (at : ℕ) → result ≡ Err (ReadFault.Text at) →
+        IsSomeAnd (text_to_come bytes.old (R.left reader.old)) (HintedStepToCome bytes.old.previous) → ⊥ }
 {
     skip_gap(bytes, reader)?;
     let at = bytes.at();
@@ -145,7 +150,8 @@ pub(crate) fn step_number<R: Read>(
 
 /// Whether none of these is negated.
 pub(crate) fn are_positive(numbers: &[Lit]) -> bool
-    ensures { IsTrue result → ArePositive numbers.now }
+    ensures positive { IsTrue result → ArePositive numbers.now }
+    ensures negative { result ≡ false → ArePositive numbers.now → ⊥ }
 {
     for number in numbers {
         if number.is_neg() {

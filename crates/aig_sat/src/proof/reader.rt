@@ -1,17 +1,18 @@
 //! The steps of a proof, as text and in the binary form.
 ghost use Rattle.std.specs.Prelude.{◌≡◌, ◌+◌, ◌^◌, ◌<◌, ◌≤◌, ℕ, [], Bool, Err, IfOk, IfSome, OnOk, Some, None, false};
+ghost use Rattle.std.specs.Option.{IsSomeAnd};
 ghost use Rattle.aig_bytes.specs.Bytes.{failed};
 ghost use Rattle.aig_parts.specs.Literal.{variable};
 ghost use Rattle.aig_sat.specs.proof.Reads.{reads_failed};
-ghost use Rattle.aig_sat.specs.proof.Steps.{AreLiterals, AreRenamed, BeginsSo, NoStep, Reads, ReadsHinted, TakesText};
-ghost use Rattle.aig_sat.specs.proof.Steps.{bytes_to_come};
+ghost use Rattle.aig_sat.specs.proof.Steps.{AreLiterals, AreRenamed, BeginsSo, NoHintedStep, NoStep, Reads, ReadsHinted};
+ghost use Rattle.aig_sat.specs.proof.Steps.{TakesText, bytes_to_come, text_to_come};
 ghost use Rattle.aig_sat.specs.proof.state.Taking.{Begins, Ends, GoesOn, HasClause, HasStep, Keeps, LeadsBy};
-ghost use Rattle.aig_sat.specs.proof.state.Taking.{TakesAddition, TakesNumbers, to_take};
+ghost use Rattle.aig_sat.specs.proof.state.Taking.{AdditionToCome, NumbersToCome, TakesAddition, TakesNumbers, to_take};
 
 use crate::proof::binary::{binary_kind, binary_literal};
 use crate::proof::bytes::ProofBytes;
 use crate::proof::fault::ReadFault;
-use crate::proof::hinted::{are_positive, is_hinted_text, step_number};
+use crate::proof::hinted::{Number, are_positive, is_hinted_text, step_number};
 use crate::proof::names::Names;
 use crate::proof::spelling::{Spelling, spelling_of};
 use crate::proof::step::StepKind;
@@ -134,7 +135,7 @@ pub struct ProofReader {
     spelled: Vec<Lit>,
     clause: Vec<Lit>,
     // Of a step with hints: its number, and its hints or the numbers of the clauses that it deletes.
-    number: u32,
+    number: Number,
     hints: Vec<Lit>,
 }
 
@@ -163,7 +164,7 @@ impl Model for ProofReader {
       formula = r.names.formula;
       variables = r.names.formula + r.names.own;
       clause = r.clause.items;
-      number = r.number;
+      number = r.number.value;
       hints = r.hints.items;
       spelling = r.spelling;
       block = r.bytes;
@@ -192,7 +193,7 @@ impl ProofReader {
             names: Names::new(alloc, variables),
             spelled: Vec::new(alloc),
             clause: Vec::new(alloc),
-            number: 0,
+            number: Number { value: 0, at: 0 },
             hints: Vec::new(alloc),
         }
     }
@@ -210,7 +211,7 @@ impl ProofReader {
     pub fn number(&self) -> u32
         ensures { result ≡ self.now.number }
     {
-        self.number
+        self.number.value
     }
 
     /// The hints of the last step that was read, or the numbers of the clauses that it deletes.
@@ -316,8 +317,8 @@ impl ProofReader {
         Ok(is_hinted_text(self.bytes.front()))
     }
 
-    // Reads the clause of a step with hints, and its hints. The word of its number is at a place.
-    fn addition<R: Read>(&mut self, reader: &mut R, at: u64) -> Result<(), ReadFault>
+    // Reads the clause of a step with hints, and its hints.
+    fn addition<R: Read>(&mut self, reader: &mut R) -> Result<(), ReadFault>
         ensures formula { self.new.formula ≡ self.old.formula }
         ensures variables { self.old.variables ≤ self.new.variables }
         ensures number { self.new.number ≡ self.old.number }
@@ -326,9 +327,11 @@ impl ProofReader {
         ensures positive { OnOk result (0 < self.old.number) }
         ensures taken { OnOk result (TakesAddition self.old.formula self.old.block self.new.block (R.left reader.old)
             (R.left reader.new) self.new.clause self.new.hints) }
+        ensures refused { (at : ℕ) → result ≡ Err (ReadFault.Text at) → 0 < self.old.number →
+            IsSomeAnd (text_to_come self.old.block (R.left reader.old)) (AdditionToCome self.old.block.previous) → ⊥ }
     {
-        if self.number == 0 {
-            return Err(ReadFault::Text { at });
+        if self.number.value == 0 {
+            return Err(ReadFault::Text { at: self.number.at });
         }
         read_clause(
             Spelling::Text,
@@ -357,6 +360,8 @@ impl ProofReader {
         ensures count { R.failures reader.new ≡ R.failures reader.old + reads_failed result }
         ensures taken { OnOk result (TakesNumbers self.old.block self.new.block (R.left reader.old) (R.left reader.new)
             self.new.hints) }
+        ensures refused { (at : ℕ) → result ≡ Err (ReadFault.Text at) →
+            IsSomeAnd (text_to_come self.old.block (R.left reader.old)) (NumbersToCome self.old.block.previous) → ⊥ }
     {
         self.clause.clear();
         read_clause(
@@ -383,6 +388,7 @@ impl ProofReader {
         ensures count { R.failures reader.new ≡ R.failures reader.old + reads_failed result }
         ensures step { IfOk result (λ kind.
             ReadsHinted self.old self.new (R.left reader.old) (R.left reader.new) kind) }
+        ensures refused { (at : ℕ) → result ≡ Err (ReadFault.Text at) → NoHintedStep self.old (R.left reader.old) }
     {
         let Some(number) = step_number(&mut self.bytes, reader)? else {
             return Ok(None);
@@ -392,10 +398,10 @@ impl ProofReader {
                 at: self.bytes.at(),
             });
         };
-        self.number = number.value;
+        self.number = number;
         match kind {
             StepKind::Add => {
-                self.addition(reader, number.at)?;
+                self.addition(reader)?;
                 Ok(Some(StepKind::Add))
             }
             StepKind::Delete => {

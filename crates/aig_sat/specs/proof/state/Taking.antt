@@ -7,6 +7,7 @@ use Rattle.aig_parts.specs.Literal.{variable}
 use Rattle.aig_sat.specs.declared.proof.spelling.Spelling.{Spelling}
 use Rattle.aig_sat.specs.declared.proof.spelling.Spelling.TheVariants.{Text, Binary}
 use Rattle.aig_sat.specs.declared.proof.step.StepKind.{StepKind}
+use Rattle.aig_sat.specs.declared.proof.step.StepKind.TheVariants.{Add, Delete}
 use Rattle.aig_sat.specs.model.ModelText.{IsSpace, number_text}
 use Rattle.aig_sat.specs.proof.HintedText.{ArePositive}
 use Rattle.aig_sat.specs.proof.ProofText.{EndsStep, Gap, IsBlank, SpellsClause, SpellsStep, last_byte}
@@ -190,6 +191,40 @@ pub record IsNumber (n : ℕ) (digits : List ℕ) : Type 0 where
   pub all : All IsDigit digits
   pub within : n ≤ 2147483647 → digits ≡ decimal n
   pub over : 2147483647 < n → (m : ℕ) → m ≤ 2147483647 → digits ≡ decimal m → ⊥
+
+-- ---- of one with hints
+
+-- a number and the space after it
+abbrev pub NumberWordToCome : List ℕ → Type 0
+NumberWordToCome bytes =
+    (n : ℕ) × (b : ℕ) × (rest : List ℕ) × (n ≤ 2147483647) × IsSpace b × (bytes ≡ decimal n ++ b ∷ rest)
+
+-- a clause and its hints
+abbrev pub AdditionToCome : ℕ → List ℕ → Type 0
+AdditionToCome previous bytes =
+    (text : List ℕ) × (more : List ℕ) × (rest : List ℕ) × (clause : List ℕ) × (hints : List ℕ)
+    × SpellsClause false previous text clause × SpellsClause false (last_byte previous text) more hints
+    × (bytes ≡ text ++ (more ++ rest))
+
+-- the numbers of the clauses that are deleted
+abbrev pub NumbersToCome : ℕ → List ℕ → Type 0
+NumbersToCome previous bytes =
+    (text : List ℕ) × (rest : List ℕ) × (numbers : List ℕ) × SpellsClause false previous text numbers
+    × ArePositive numbers × (bytes ≡ text ++ rest)
+
+-- what follows the number of a step, and the space after it
+abbrev pub BodyToCome : ℕ → ℕ → List ℕ → Type 0
+BodyToCome n previous bytes =
+    ((text : List ℕ) × (more : List ℕ) × (rest : List ℕ) × (clause : List ℕ) × (hints : List ℕ) × (0 < n)
+    × SpellsStep false previous text Add clause × SpellsClause false (last_byte previous text) more hints
+    × (bytes ≡ text ++ (more ++ rest)))
+    ⊎ ((text : List ℕ) × (rest : List ℕ) × (numbers : List ℕ) × SpellsStep false previous text Delete numbers
+    × ArePositive numbers × (bytes ≡ text ++ rest))
+
+-- the same after what begins it
+abbrev pub RestToCome : ℕ → ℕ → StepKind → List ℕ → Type 0
+RestToCome n previous Add bytes = (0 < n) × AdditionToCome previous bytes
+RestToCome n previous Delete bytes = NumbersToCome previous bytes
 
 -- ---- what may be to come of the binary form
 
