@@ -9,6 +9,8 @@ use Rattle.std.proofs.lemmas.Fmt.{decimal_digit, decimal_injective}
 use Rattle.std.proofs.lemmas.List.{append-nil, append_cancel_right}
 use Rattle.std.proofs.lemmas.List.Elements.{All-weaker}
 use Rattle.aig_bytes.specs.Bytes.{before, IsAtEnd}
+use Rattle.aig_bytes.proofs.Cuts.{split_at}
+use Rattle.aig_bytes.proofs.Decimals.{digits-decimal}
 use Rattle.aig_parts.specs.Literal.{variable}
 use Rattle.aig_sat.specs.declared.proof.step.StepKind.{StepKind}
 use Rattle.aig_sat.specs.declared.proof.step.StepKind.TheVariants.{Add, Delete}
@@ -19,8 +21,8 @@ use Rattle.aig_sat.specs.proof.Steps.{HintedStepToCome, StepToCome}
 use Rattle.aig_sat.specs.proof.state.Taking.{AdditionToCome, BeginsGap, BeginsNot, BodyToCome, ClauseToCome, EndsUnfinished}
 use Rattle.aig_sat.specs.proof.state.Taking.{IsDigit, IsNumber, LeadsNumber, LeadsStep, NumbersToCome, NumberWordToCome}
 use Rattle.aig_sat.specs.proof.state.Taking.{RestToCome}
-use Rattle.aig_sat.proofs.models.DigitLemmas.{decimal_head, digits-decimal}
-use Rattle.aig_sat.proofs.models.PieceLemmas.{one_number, split_at}
+use Rattle.aig_sat.proofs.models.DigitLemmas.{decimal_head}
+use Rattle.aig_sat.proofs.models.PieceLemmas.{one_number}
 use Rattle.aig_sat.proofs.reading.TakingLemmas.{after, last_then, mapped, none_after}
 use Rattle.aig_sat.proofs.reading.TextRefusals.{Begins, Stops, begins_stops, clause_word, no_space, none_more, number_after}
 use Rattle.aig_sat.proofs.reading.TextRefusals.{number_begins, number_space, peel, space_below, span, unfinished, word_begins}
@@ -157,7 +159,7 @@ number_stops n b rest small = begins_stops (decimal n ++ b ∷ rest) (number_wor
 no_space_in_number : (n : ℕ) → n ≤ 2147483647 → All (λ b. IsSpace b → ⊥) (decimal n)
 no_space_in_number n small =
     All-weaker IsDigit (λ b. IsSpace b → ⊥) (λ b h. no_space b (omega (arith, h.0))) (decimal n)
-    (digits-decimal n (omega (arith, small)))
+    (digits-decimal n)
 
 one_step_number : {p : ℕ} {g h : List ℕ} (n m b c : ℕ) (t u : List ℕ) → Gap p g → Gap p h → n ≤ 2147483647 → m ≤ 2147483647
     → IsSpace b → IsSpace c → g ++ (decimal n ++ b ∷ t) ≡ h ++ (decimal m ++ c ∷ u) → (n ≡ m) × ((b ≡ c) × (t ≡ u))
@@ -183,7 +185,7 @@ number_refused : (bytes rest digits more : List ℕ) (count m b : ℕ) → bytes
     → bytes ≡ decimal m ++ b ∷ more → ⊥
 number_refused bytes rest digits more count m b e is ends why small space e' = elim (cases_lt 0 count) [
   | inl some ↦
-      let r = span IsDigit digits (decimal m) rest (b ∷ more) is.all (digits-decimal m (omega (arith, small))) (ends some)
+      let r = span IsDigit digits (decimal m) rest (b ∷ more) is.all (digits-decimal m) (ends some)
       (λ c xs k digit. let one : b ≡ c = cc in omega (arith, one, digit.0, space_below b space)) (sym e ∙ e') in
       elim why [ inl lacks ↦ lacks b more r.1 space | inr over ↦ is.over over m small r.0 ]
   | inr le ↦
