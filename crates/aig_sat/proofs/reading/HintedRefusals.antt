@@ -28,8 +28,8 @@ use Rattle.aig_sat.proofs.reading.TextRefusals.{Begins, Stops, begins_stops, cla
 use Rattle.aig_sat.proofs.reading.TextRefusals.{number_begins, number_space, peel, space_below, span, unfinished, word_begins}
 
 pub none_to_come : (P : List ℕ → Type 0) (o : Option (List ℕ)) → (IsSomeAnd o P → ⊥) → IfSome o (λ bytes. P bytes → ⊥)
-none_to_come P None no = tt
-none_to_come P (Some bytes) no = no
+none_to_come P None never = tt
+none_to_come P (Some bytes) never = never
 
 -- ---- what separates, and what does not
 

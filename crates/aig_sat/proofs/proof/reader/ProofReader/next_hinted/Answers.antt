@@ -1,6 +1,7 @@
 use Rattle.std.proofs.Common.{ℕ, Bool, false, List, Option, Some, subst}
 use Rattle.std.specs.Prelude.{IfSome}
 use Rattle.std.specs.Option.{IsSomeAnd}
+use Rattle.aig_bytes.proofs.Results.{has_none}
 use Rattle.aig_sat.specs.declared.proof.hinted.Number.{Number}
 use Rattle.aig_sat.specs.declared.proof.step.StepKind.{StepKind}
 use Rattle.aig_sat.specs.proof.Steps.{HintedStepToCome, StepToCome, TakesText, text_to_come}
@@ -81,8 +82,8 @@ returns-in_err-kind-clause-refused g c =
     c.from_residual-in_err-kind.ensures.1 is)
     false (body_begins om n b.previous (body_after o om a.previous b.previous n xs first.come leads h))))
 
-pub returns-in-None-2-clause-refused : goal.returns-in-None-2-clause-refused
-returns-in-None-2-clause-refused g c =
+pub returns-in_default-2-clause-refused : goal.returns-in_default-2-clause-refused
+returns-in_default-2-clause-refused g c =
     let left = g.R.Read.left in
     let a = c.self.inside.bytes in
     let b = c.step_number.new.bytes in
@@ -93,7 +94,7 @@ returns-in-None-2-clause-refused g c =
     let n = c.in-Some.number.value in
     let (xs, leads, first) = subst (λ (next : Option Number). IfSome next (λ v. (taken : List ℕ)
     × LeadsNumber a.previous b.previous taken v.value × TakesText a b l m taken)) c.in-Some.is c.in_ok-number.ensures.number in
-    let (ys, of, took, at_end) = c.in_ok-kind.ensures.none c.in-None-2.is in
+    let (ys, of, took, at_end) = c.in_ok-kind.ensures.none (has_none c.in_ok-kind.field-0 c.in_default-2.not-Some) in
     let on = text_to_come c.text_kind.new.bytes (left c.text_kind.new.reader) in
     rw (← c.self.view_is) (λ at is. none_to_come (HintedStepToCome a.previous) o
     (λ h. no_body om on n b.previous ys took.come of at_end (body_after o om a.previous b.previous n xs first.come leads h)))
