@@ -46,7 +46,7 @@ returns-in_err-write_all g c =
     let is = c.as_slice.ensures.value ∙ c.in_ok-header.ensures ∙ ap header (sym e.circuit) in
     replay_failed (λ raw start rows text. IsDump raw start rows text) w spells admitted e.circuit
     c.from_residual-in_err-write_all.result c.from_residual-in_err-write_all.ensures.1
-    (dump_no_header {r = Err c.in_err-write_all.field-0.0} ready (writes_same c.in_err-write_all.ensures is) refl)
+    (dump_no_header ready {r = Err c.in_err-write_all.field-0.0} (writes_same c.in_err-write_all.ensures is) refl)
 
 pub returns-in_err-write_frames : goal.returns-in_err-write_frames
 returns-in_err-write_frames g c =
@@ -57,7 +57,7 @@ returns-in_err-write_frames g c =
     let last = c.in_ok-recorder.ensures.last ∙ ap (λ (raw : Raw). replicate (length (signals raw)) 0) (sym e.circuit) in
     replay_failed (λ raw start rows text. IsDump raw start rows text) w spells admitted e.circuit
     c.from_residual-in_err-write_frames.result c.from_residual-in_err-write_frames.ensures.1
-    (dump_no_frames {r = Err c.in_err-write_frames.field-0.0} ready (writes_same c.in_ok-write_all.ensures is)
+    (dump_no_frames ready (writes_same c.in_ok-write_all.ensures is) {r = Err c.in_err-write_frames.field-0.0}
     (c.in_err-write_frames.ensures w ready (record { no_text = refl; none_recorded = last })) refl)
 
 pub returns-in_err-write_end : goal.returns-in_err-write_end
