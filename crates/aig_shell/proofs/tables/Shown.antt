@@ -25,7 +25,6 @@ use Rattle.aig_shell.specs.Tables.{AreBits, IsRowOf, IsShown}
 use Rattle.aig_shell.proofs.editing.Impossible.{small_variables}
 use Rattle.aig_shell.proofs.words.Meanings.{means_none}
 
--- a pair more
 -- one literal more has its value
 pub bits_more : (p : CircuitAndRows) (t : ℕ) (literals : List ℕ) (i l : ℕ) (bits new : List (Option Tern)) (w : Tern)
     → i < length literals → l ≡ get_or literals i l → HasValue p t l w → AreBits p t (take i literals) bits

@@ -101,13 +101,20 @@ fn push_no_name(text: &mut Vec<u8>, session: &Session, word: &[u8]) -> Result<()
     push_pieces(text, &words)
 }
 
+/// How many bits a value says that it has: what stands before its `'`.
+fn said_width(word: &[u8]) -> &[u8] {
+    match word.iter().position(|byte| *byte == b'\'') {
+        Some(end) => &word[..end],
+        None => b"",
+    }
+}
+
 /// Adds how many bits a value says that it has, and how many it should have.
 fn push_other_width(text: &mut Vec<u8>, word: &[u8], bits: usize) -> Result<(), Memory> {
-    let end = word.iter().position(|byte| *byte == b'\'').unwrap_or(0);
     let words = [
         Piece::Shown(word),
         Piece::Text(b" has "),
-        Piece::Shown(&word[..end]),
+        Piece::Shown(said_width(word)),
         Piece::Text(b" bits, not "),
         Piece::Number(bits as u64),
     ];
