@@ -1,3 +1,3 @@
-pub mod Asked
 pub mod Endings
+pub mod Flags
 pub mod Silent

@@ -67,7 +67,7 @@ pub extern "C" fn aig_refute(
     ensures statuses { result ≤ 3 }
 {
     let question = Question::Within { frames, property };
-    let proofs = Proofs { proof, step: b"" };
+    let proofs: Proofs<&[u8], &[u8]> = Proofs { proof, step: b"" };
     refute_by(alloc, Asked { circuit, question }, proofs, room, written)
 }
 
@@ -90,7 +90,7 @@ pub extern "C" fn aig_refute_alive(
     ensures statuses { result ≤ 3 }
 {
     let question = Question::Alive { frames };
-    let proofs = Proofs { proof, step: b"" };
+    let proofs: Proofs<&[u8], &[u8]> = Proofs { proof, step: b"" };
     refute_by(alloc, Asked { circuit, question }, proofs, room, written)
 }
 
@@ -145,6 +145,6 @@ pub extern "C" fn aig_refute_certified(
         certificate,
         property,
     };
-    let proofs = Proofs { proof, step: b"" };
+    let proofs: Proofs<&[u8], &[u8]> = Proofs { proof, step: b"" };
     refute_by(alloc, Asked { circuit, question }, proofs, room, written)
 }

@@ -1,6 +1,6 @@
 use Rattle.std.specs.Prelude.{Ok, length, take}
 use Rattle.aig_commands.specs.Questions.{asked_of}
-use Rattle.aig_c.proofs.Asked.{formula, formula_exceeds, formula_refused}
+use Rattle.aig_c.proofs.Flags.{formula, formula_exceeds, formula_refused}
 use Rattle.aig_c.proofs.formulas.aig_cnf.Goals as goal
 
 pub returns-clause-done : goal.returns-clause-done

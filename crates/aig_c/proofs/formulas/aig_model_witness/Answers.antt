@@ -1,6 +1,6 @@
 use Rattle.std.specs.Prelude.{Ok, length, take}
 use Rattle.aig_commands.specs.Questions.{asked_of}
-use Rattle.aig_c.proofs.Asked.{model, model_exceeds, model_refused}
+use Rattle.aig_c.proofs.Flags.{model, model_exceeds, model_refused}
 use Rattle.aig_c.proofs.formulas.aig_model_witness.Goals as goal
 
 pub returns-clause-done : goal.returns-clause-done
