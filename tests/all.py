@@ -23,7 +23,7 @@ from library.supervised import SECONDS
 WHOLE_SECONDS = 15 * SECONDS
 LARGE = "run_large.py"
 SCRIPTS = ("run_bounds.py", "run_gate.py", "run_program.py", "run_faults.py", "run_random.py", "run_library.py",
-           "run_dist.py", "tour.py")
+           "run_dist.py", "run_hints.py", "tour.py")
 # this runs aig_proof_tests
 STEPS = "run_steps.py"
 # these run the package of Python, and aig-verdicts as far as it needs no other program

@@ -1,6 +1,9 @@
 """Each command of docs/FLOW.md, in their order and in one folder, prints what the page shows. README has the same table of
 the queue, and GTKWave shows in the page's waveform how the queue overflows."""
 
+import os
+
+from hints.programs import built
 from library.runs import EXAMPLES, REPOSITORY, contents
 from library.tour import room, steps, typed
 from tools import viewer
@@ -18,6 +21,7 @@ def flow(program, tally, _):
 def typed_page(program, tally):
     room(program, EXAMPLES, "page")
     on_path(program)
+    os.symlink(built("drat2lrat"), "path/drat2lrat")
     for command, shown in steps("docs/FLOW.md"):
         tally.compare(f"flow: {command}", typed("page", command), shown)
         if command == FIRST:
