@@ -8,7 +8,7 @@ from pathlib import Path
 
 PYTHON = Path(__file__).resolve().parent.parent
 sys.path[:0] = [str(PYTHON.parent / "tests"), str(PYTHON / "src"), str(PYTHON / "tests")]
-from bundles import attacks, ends, judging, searches, tampering, zips  # noqa: E402
+from bundles import attacks, ends, hinted, judging, searches, tampering, zips  # noqa: E402
 from library import runs  # noqa: E402
 
 
@@ -25,6 +25,7 @@ PARTS = {part.__name__: on_program(part) for part in (
     tampering.bits, tampering.forgers, tampering.harmless, tampering.files, tampering.texts,
     zips.zips, zips.hostile_zips, zips.script, zips.shipped,
     searches.found, searches.tools, searches.abc, searches.words,
+    hinted.form, hinted.hints, hinted.later, hinted.failures,
     attacks.folders_of_others, attacks.sizes, attacks.outputs,
     ends.stops, ends.folders, ends.yosys, ends.bounds, ends.executors, judging.judging,
 )}

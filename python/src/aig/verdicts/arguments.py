@@ -83,6 +83,10 @@ def _run(run: argparse.ArgumentParser) -> None:
                         help="ABC; '' for none (berkeley-abc)")
     results = run.add_argument_group("results")
     results.add_argument("-o", "--out", type=Path, metavar="FOLDER", help="the folder of results (NAME.verdicts)")
+    results.add_argument("--hints", action="store_true",
+                         help="store proofs with hints (LRAT), which `recheck` checks in a tenth of the time")
+    results.add_argument("--drat2lrat", metavar="PROGRAM",
+                         help="the program that adds the hints; it implies --hints (drat2lrat)")
     results.add_argument("--json", action="store_true", help="print the manifest in place of the table")
     results.add_argument("--junit", type=Path, metavar="FILE", help="write the table as JUnit XML, for a CI server")
     results.add_argument("--zip", type=Path, metavar="FILE", help="write the folder of results as a .zip")

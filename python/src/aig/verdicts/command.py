@@ -27,7 +27,7 @@ from .recheck import recheck, same_design
 from .row import Row
 from .session import Session
 from .table import junit, plain, text
-from .tools import Stop, Stopped, ToolFailed, version
+from .tools import Stop, Stopped, ToolFailed, found, version
 from .workers import Dask
 
 REJECTED, WRONG_ARGUMENTS, UNREADABLE, STOPPED = 1, 2, 3, 130
@@ -73,12 +73,27 @@ def _page(to: Path, manifest: Dict[str, Any], rows: List[Row], read: Callable[[s
     write_whole(to, page.html().encode("utf-8", "replace"))
 
 
+def _adds_hints(words: argparse.Namespace) -> Optional[str]:
+    """The program that adds hints to proofs, if they are asked for. A cluster has its own."""
+    if not words.hints and words.drat2lrat is None:
+        return None
+    name: str = words.drat2lrat if words.drat2lrat is not None else "drat2lrat"
+    if not words.dask:
+        try:
+            found(name)
+        except ToolFailed as error:
+            raise ToolFailed(f"--hints: {error}; the sources of aig have it (tests/hints/drat2lrat.cpp)") from None
+    return name
+
+
 def run(words: argparse.Namespace, stop: Stop) -> int:
+    adds_hints = _adds_hints(words)
     design = _design(words, stop)
     only = chosen(design, words.only)
     path = words.out or Path(f"{design.name}.verdicts")
     bounds = Bounds(words.frames, words.conflicts, words.seconds, words.megabytes, words.proof_megabytes)
-    session = Session(design, path, bounds, Programs(words.solver, words.abc or None), only, stop)
+    programs = Programs(words.solver, words.abc or None, adds_hints)
+    session = Session(design, path, bounds, programs, only, stop)
     with contextlib.closing(session):
         session.open(words.jobs)
         if not words.quiet:

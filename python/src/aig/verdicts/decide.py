@@ -41,10 +41,12 @@ class Bounds:
 
 @dataclass(frozen=True)
 class Programs:
-    """The solver and ABC, as names or paths. Without ABC there are no invariants."""
+    """The solver, ABC, and the program that adds hints to proofs, as names or paths. Without ABC there are no
+    invariants, and without the last one proofs stay as the solver wrote them."""
 
     solver: str = "cadical"
     abc: Optional[str] = "berkeley-abc"
+    drat2lrat: Optional[str] = None
 
 
 @dataclass(frozen=True)

@@ -100,7 +100,7 @@ class Folder:
     def clean(self) -> None:
         """Removes the files of results that have no row any more."""
         for path in self.path.iterdir():
-            if path.name.endswith((".wit", ".drat", ".cert.aag", ".new")) and path.name not in self.sums:
+            if path.name.endswith((".wit", ".drat", ".lrat", ".cert.aag", ".new")) and path.name not in self.sums:
                 path.unlink()
 
     def write(self, manifest: Dict[str, Any]) -> None:

@@ -158,7 +158,8 @@ def _files(row: Row) -> None:
     shown = WAYS[row.by]
     expect(set(shown.needed) <= set(row.files) <= {*shown.needed, *shown.possible}, f"files of {row.label}")
     for role, name in row.files.items():
-        expect(type(name) is str and name == name_of(row.position, role), f"file {name!r} of {row.label}")
+        possible = [name_of(row.position, role, has_hints) for has_hints in (False, True)]
+        expect(type(name) is str and name in possible, f"file {name!r} of {row.label}")
     expect("shorter" not in row.files or row.frames > 1, f"files of {row.label}")
 
 

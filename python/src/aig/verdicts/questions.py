@@ -9,7 +9,8 @@ from typing import Dict, List, Mapping, NamedTuple, Optional, Sequence, Tuple
 
 from ..errors import AigError
 from .decide import Bounds, Programs
-from .tools import Clock, Ran, Stop, ask, run
+from .hints import has_hints
+from .tools import Clock, Ran, Stop, ToolFailed, ask, run
 
 # All questions of a property together get so many times the seconds of one.
 SEARCH_FACTOR = 5
@@ -24,6 +25,13 @@ class Answer(NamedTuple):
 
     model: Optional[bytes] = None
     proof: Optional[bytes] = None
+
+
+class Refuted(NamedTuple):
+    """The line that `aig refute` printed, and the proofs that it took, by their roles."""
+
+    line: str
+    proofs: Dict[str, bytes]
 
 
 class Questions:
@@ -46,9 +54,50 @@ class Questions:
             good: Sequence[int] = (0,)) -> bytes:
         return ask(self._stop, command, *options, files=files, named=named, good=good)
 
-    def refute(self, *options: str, files: Sequence[bytes], named: Mapping[str, bytes] = {}) -> str:
-        """The line about a proof that is for the whole circuit."""
-        return self.aig("refute", *options, files=[self.circuit, *files], named=named).decode().strip()
+    def refute(self, *options: str, proofs: Dict[str, bytes], named: Mapping[str, bytes] = {}) -> Refuted:
+        """The line about proofs that are for the whole circuit, which has the proofs by their roles. They get hints if
+        there is a program for that."""
+        found = self.hinted(*options, proofs=proofs, named=named)
+        return found if found is not None else Refuted(self._line(options, proofs, named), proofs)
+
+    def hinted(self, *options: str, proofs: Dict[str, bytes], named: Mapping[str, bytes] = {}) -> Optional[Refuted]:
+        """The same with hints, if some of the proofs get them and `aig` takes them."""
+        program = self._programs.drat2lrat
+        if program is None:
+            return None
+        made = {role: self._with_hints(program, role, proof, options, named) for role, proof in proofs.items()}
+        if made == proofs:
+            return None
+        try:
+            return Refuted(self._line(options, made, named), made)
+        except AigError as error:
+            self.note(f"{Path(program).name} wrote hints that are wrong: {error.part}: {error.reason}")
+            return None
+
+    def _line(self, options: Sequence[str], proofs: Mapping[str, bytes], named: Mapping[str, bytes]) -> str:
+        last = next(proof for role, proof in proofs.items() if role != "step")
+        if "step" in proofs:
+            named = {**named, "--step": proofs["step"]}
+        return self.aig("refute", *options, files=[self.circuit, last], named=named).decode().strip()
+
+    def _with_hints(self, program: str, role: str, proof: bytes, options: Sequence[str],
+                    named: Mapping[str, bytes]) -> bytes:
+        """The proof with hints. If the program fails, it is the proof as it was, and a note says why."""
+        if has_hints(proof):
+            return proof
+        more = ["--step"] * (role == "step")
+        formula = self.aig("cnf", *more, *options, files=[self.circuit], named=named)
+        words = [program, "--trim", "cnf", "drat", "lrat"]
+        try:
+            ran, made = self.tool(words, self._bounds.seconds, {"cnf": formula, "drat": proof}, "lrat")
+        except (ToolFailed, OSError) as error:
+            self.note(f"no hints: {error}")
+            return proof
+        if ran.status == 0 and made is not None and has_hints(made):
+            return made
+        said = why(program, ran, self._bounds.seconds) if ran.status != 0 else f"{Path(program).name} wrote none"
+        self.note(f"no hints: {said}")
+        return proof
 
     def part(self, what: str, circuit: bytes, *options: str) -> Answer:
         """A question of the search, about a part of the circuit."""

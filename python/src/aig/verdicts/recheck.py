@@ -14,7 +14,7 @@ from .bundle import MOST_BYTES, Bundle, Wrong
 from .design import properties, symbol
 from .made import made
 from .manifest import SCRIPT_OF_YOSYS, expect
-from .row import CIRCUIT, CONSTRAINTS, Row
+from .row import CIRCUIT, CONSTRAINTS, Row, parts_of
 from .tools import Stop, ask
 
 Read = Callable[[str], bytes]
@@ -34,14 +34,10 @@ def check_row(row: Row, circuit: bytes, read: Read, stop: Stop) -> None:
 
 def _said(row: Row, words: List[str], circuit: bytes, read: Read, stop: Stop) -> str:
     """What `aig` prints for a command whose files are in the bundle."""
-    command, *options, name, last = words
+    command, *_, name, _ = words
     expect(name == CIRCUIT, f"{row.label} is about another circuit")
-    named = {}
-    for option in ("--step", "--certificate"):
-        if option in options:
-            place = options.index(option)
-            named[option] = read(options[place + 1])
-            del options[place : place + 2]
+    options, files, last = parts_of(words)
+    named = {option: read(file) for option, file in files.items()}
     try:
         said = ask(stop, command, *options, files=[circuit, read(last)], named=named, good=(0, 1))
     except AigError as error:

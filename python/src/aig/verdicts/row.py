@@ -29,7 +29,7 @@ WAYS: Dict[str, Shown] = {
     "alive": Shown(("alive",)),
     "": Shown(),
 }
-# How the file of each role ends.
+# How the file of each role ends. A proof with hints ends in lrat.
 ENDINGS = {
     "witness": "wit", "shorter": "shorter.drat", "base": "base.drat", "step": "step.drat", "certificate": "cert.aag",
     "proof": "cert.drat", "alive": "drat",
@@ -43,9 +43,31 @@ class Command(NamedTuple):
     words: List[str]
 
 
-def name_of(position: int, role: str) -> str:
+class Parts(NamedTuple):
+    """The arguments of a command that has files of the bundle: options, the files that options name, and the last file."""
+
+    options: List[str]
+    named: Dict[str, str]
+    last: str
+
+
+def parts_of(words: List[str]) -> Parts:
+    """The parts of a command of a row."""
+    options, named = words[1:-2], {}
+    for option in ("--step", "--certificate"):
+        if option in options:
+            place = options.index(option)
+            named[option] = options[place + 1]
+            del options[place : place + 2]
+    return Parts(options, named, words[-1])
+
+
+def name_of(position: int, role: str, has_hints: bool = False) -> str:
     """The only name that the file of a row can have."""
-    return f"{'alive' if position == CONSTRAINTS else position}.{ENDINGS[role]}"
+    ending = ENDINGS[role]
+    if has_hints and ending.endswith("drat"):
+        ending = f"{ending[:-4]}lrat"
+    return f"{'alive' if position == CONSTRAINTS else position}.{ending}"
 
 
 @dataclass

@@ -92,7 +92,8 @@ class Search:
         if said.proof is not None:
             said = self.ask.whole("constraints", *options)
         if said.proof is not None:
-            self.answer(self.ask.refute(*options, files=[said.proof]), "alive", frames, alive=said.proof)
+            line, proofs = self.ask.refute(*options, proofs={"alive": said.proof})
+            self.answer(line, "alive", frames, **proofs)
         elif said.model is not None:
             self.answer(ALIVE, "", frames)
 
@@ -150,8 +151,7 @@ class Search:
             options = [f"--frames={frames}", self.of_property]
             proof = self.ask.whole(f"run of {frames}", *options).proof
             if proof is not None:
-                self.ask.refute(*options, files=[proof])
-                return {"shorter": proof}
+                return self.ask.refute(*options, proofs={"shorter": proof}).proofs
         self.ask.note("a shorter run was not ruled out")
         return {}
 
@@ -163,8 +163,8 @@ class Search:
         step = self.ask.whole(f"induction of {frames}", "--step", *options).proof
         if step is None:
             return False
-        verdict = self.ask.refute(*options, files=[base], named={"--step": step})
-        return self.answer(verdict, "induction", frames, base=base, step=step)
+        verdict, proofs = self.ask.refute(*options, proofs={"base": base, "step": step})
+        return self.answer(verdict, "induction", frames, **proofs)
 
     def bound(self) -> bool:
         """That no run of so many frames is there; of fewer frames, if that takes too long."""
@@ -173,7 +173,8 @@ class Search:
             options = [f"--frames={frames}", self.of_property]
             proof = self.ask.whole(f"run of {frames}", *options).proof
             if proof is not None:
-                return self.answer(self.ask.refute(*options, files=[proof]), "bound", frames, base=proof)
+                verdict, proofs = self.ask.refute(*options, proofs={"base": proof})
+                return self.answer(verdict, "bound", frames, **proofs)
             frames //= 2
         return False
 
@@ -229,8 +230,8 @@ class Search:
         named = {"--certificate": made}
         said = self.ask.whole("certificate", self.of_property, named=named)
         if said.proof is not None:
-            verdict = self.ask.refute(self.of_property, files=[said.proof], named=named)
-            return self.answer(verdict, "certificate", 0, certificate=made, proof=said.proof)
+            verdict, proofs = self.ask.refute(self.of_property, proofs={"proof": said.proof}, named=named)
+            return self.answer(verdict, "certificate", 0, certificate=made, **proofs)
         if said.model is not None:
             self.ask.note("ABC's invariant made a certificate that is wrong")
         return False

@@ -6,6 +6,7 @@ from __future__ import annotations
 import json
 import os
 import sys
+import tempfile
 from concurrent.futures import FIRST_COMPLETED, Executor, Future, ThreadPoolExecutor, wait
 from dataclasses import asdict
 from pathlib import Path
@@ -16,8 +17,9 @@ from .bundle import MOST_BYTES, Bundle, Wrong, sum_of
 from .decide import Bounds, Found, Programs, Sent, Task
 from .design import Design
 from .folder import TIMES, Folder
+from .hints import has_hints, hinted
 from .manifest import FORMAT, SCRIPT_OF_YOSYS, rows_as_json
-from .questions import NO_ANSWER, NO_TIME
+from .questions import NO_ANSWER, NO_TIME, Questions
 from .recheck import check_row
 from .row import CIRCUIT, CONSTRAINTS, ENDINGS, Row, name_of
 from .tools import Clock, Stop, Stopped, version
@@ -62,6 +64,8 @@ class Session:
         named = {"aig": program(), "solver": self.programs.solver}
         if self.programs.abc:
             named["abc"] = self.programs.abc
+        if self.programs.drat2lrat:
+            named["drat2lrat"] = self.programs.drat2lrat
         if self.design.script:
             named["yosys"] = "yosys"
         return {key: version(name, self.stop) for key, name in named.items()}
@@ -94,9 +98,13 @@ class Session:
         return {row.position: row for row in old.rows}
 
     def _searched_so_far(self, manifest: Dict[str, Any]) -> bool:
-        """Whether the earlier run had the same programs, and bounds that are no smaller."""
+        """Whether the earlier run had the same programs, and bounds that are no smaller. Hints find no verdict."""
+        def searching(versions: Dict[str, str]) -> Dict[str, str]:
+            return {key: value for key, value in versions.items() if key != "drat2lrat"}
+
         try:
-            return manifest["versions"] == self.versions and self.bounds.within(Bounds(**manifest["bounds"]))
+            same_programs = searching(manifest["versions"]) == searching(self.versions)
+            return same_programs and self.bounds.within(Bounds(**manifest["bounds"]))
         except TypeError:  # other bounds
             return False
 
@@ -121,16 +129,28 @@ class Session:
         self.stop.look()
 
     def _wrong(self, row: Row) -> str:
-        """What is wrong with a row of an earlier run. The files of one that is right get their sums."""
+        """What is wrong with a row of an earlier run. The files of one that is right get their sums, and its proofs get
+        hints where they are asked for."""
         try:
             files = {name: self.folder.read(name) for name in row.files.values()}
             check_row(row, self.design.circuit, files.__getitem__, self.stop)
+            self._add_hints(row, files)
         except (Wrong, OSError, MemoryError) as error:
             return str(error)
         except Stopped:
             return "stopped"
         self.folder.sums.update({name: sum_of(data) for name, data in files.items()})
         return ""
+
+    def _add_hints(self, row: Row, files: Dict[str, bytes]) -> None:
+        """Adds hints to the proofs of a row, if a program for that was named."""
+        with tempfile.TemporaryDirectory(prefix="aig-verdicts-") as folder:
+            ask = Questions(self.design.circuit, self.bounds, self.programs, Path(folder), self.stop, row.notes)
+            for role, proof in hinted(row, files, ask).items():
+                del files[row.files[role]]
+                row.files[role] = name_of(row.position, role, True)
+                files[row.files[role]] = proof
+                self.folder.put(row.files[role], proof)
 
     def manifest(self) -> Dict[str, Any]:
         return {
@@ -159,10 +179,11 @@ class Session:
             row.notes = found.notes  # an earlier search knows more
             return
         self._forget(row)
+        files = {role: name_of(row.position, role, has_hints(data)) for role, data in found.files.items()}
         for role, data in found.files.items():
-            self.folder.put(name_of(row.position, role), data)
+            self.folder.put(files[role], data)
         row.verdict, row.by, row.frames, row.notes = found.verdict, found.by, found.frames, found.notes
-        row.files = {role: name_of(row.position, role) for role in found.files}
+        row.files = files
         self.write()
 
     def _forget(self, row: Row) -> None:
