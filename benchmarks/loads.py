@@ -20,6 +20,8 @@ ring SIZE INPUTS LATCHES GATES                 a ring of latches of which one is
                                                is that the first two are 1
 claims KIND SIZE INPUTS LATCHES GATES          a certificate for it: no two latches of the ring are 1; KIND: small, or
                                                copy, with all of the circuit
+multiplier BITS                                two multipliers of so many bits, one of a * b and one of b * a; the bad
+                                               state is that they differ
 
 Shapes of random circuits: in `random` a right side is mostly among the 4,096 variables before the gate, every eighth
 anywhere; in `chain` each gate reads the one before it; in `comb` every second gate reads the gate before it and the one
@@ -360,8 +362,60 @@ def rewires(below, load, shape, rounds, count):
         yield "w %d %d %d\n" % (gate, *sides)
 
 
+# ---- multipliers
+
+class Multipliers:
+    """Gates over the bits of two numbers. Equal gates are one, and constants make none."""
+
+    def __init__(self, bits):
+        self.inputs, self.gates, self.made = 2 * bits, [], {}
+        self.left = [2 * at + 2 for at in range(bits)]
+        self.right = [2 * at + 2 for at in range(bits, 2 * bits)]
+
+    def conjunction(self, a, b):
+        a, b = max(a, b), min(a, b)
+        if b == 0 or a == b ^ 1:
+            return 0
+        if b == 1 or a == b:
+            return a
+        if (a, b) not in self.made:
+            self.made[a, b] = 2 * (self.inputs + len(self.gates) + 1)
+            self.gates.append((self.made[a, b], a, b))
+        return self.made[a, b]
+
+    def disjunction(self, a, b):
+        return self.conjunction(a ^ 1, b ^ 1) ^ 1
+
+    def exclusive(self, a, b):
+        return self.disjunction(self.conjunction(a, b ^ 1), self.conjunction(a ^ 1, b))
+
+    def product(self, a, b):
+        """The bits of a * b, row by row."""
+        rows = [0] * (2 * len(a))
+        for place, bit in enumerate(b):
+            carry = 0
+            for at, other in enumerate(a, place):
+                part = self.conjunction(other, bit)
+                total = self.exclusive(part, rows[at])
+                both = self.conjunction(part, rows[at])
+                rows[at], carry = self.exclusive(total, carry), self.disjunction(both, self.conjunction(total, carry))
+            rows[place + len(a)] = carry
+        return rows
+
+
+def multiplier(_, bits):
+    both = Multipliers(bits)
+    differs = 0
+    for one, other in zip(both.product(both.left, both.right), both.product(both.right, both.left)):
+        differs = both.disjunction(differs, both.exclusive(one, other))
+    yield f"aag {both.inputs + len(both.gates)} {both.inputs} 0 0 {len(both.gates)} 1\n"
+    yield from (f"{literal}\n" for literal in both.left + both.right)
+    yield f"{differs}\n"
+    yield from (f"{gate} {a} {b}\n" for gate, a, b in both.gates)
+
+
 KINDS = {kind.__name__: kind for kind in (circuit, names, comment, stimulus, changing, values, cipher, zeros, edits,
-                                          ascon, rewires, ring, claims)}
+                                          ascon, rewires, ring, claims, multiplier)}
 
 
 def made(kind, *words, seed=SEED):

@@ -8,6 +8,8 @@ Tables:
   edits      aig / C++, of edits of every kind on copies of a cipher
   benches    aig / C++, making a bench of a million gates
   refute     aig / C++, checking proofs that cadical wrote, beside cadical's own time
+  hints      checking them in DRAT, and with hints that tests/hints/drat2lrat.cpp adds, also trimmed, beside a C++ checker
+             of proofs with hints (--jobs picks rows; all take some minutes and 2 GB)
   certified  aig / C++, formulas of certificates, beside `info` of the circuit, and memory beside `cnf --step`
   sizes      aig / C++, how conversions, frames and benches grow from 100,000 to 4,000,000 gates
   memory     the greatest resident sizes of both
@@ -22,7 +24,7 @@ and, which is no table,
 
 It measures the program that --aig names, else the proved crates/aig/out/aig; where that is not there, one is built
 without proofs. It needs c++, 1 GB for files and, for growth, grids and what is built without proofs, rt; for counts
-valgrind; for refute yosys and cadical, without which that table has no rows. What it builds and makes is put into the
+valgrind; for refute and hints yosys and cadical, without which these tables have no rows of circuits. What it builds and makes is put into the
 folder that --room names, for the next call, else into a temporary one. A time is the processor time of the whole
 process, the least of --times runs; where two programs are compared their runs take turns, so that a disturbance meets
 both."""
@@ -43,8 +45,10 @@ import plot as drawing
 BENCHMARKS = os.path.dirname(os.path.abspath(__file__))
 REPOSITORY = os.path.dirname(BENCHMARKS)
 sys.path.insert(0, REPOSITORY + "/tests")
-from library import broken, supervised  # noqa: E402
+from library import broken, families, supervised  # noqa: E402
 from library.runs import DESIGNS, EXAMPLES, contents, contents_of, write  # noqa: E402
+from program.proofs import text_of  # noqa: E402
+from steps.cases import case  # noqa: E402
 
 SOURCES = (1000, 1000, 100)  # inputs, latches, outputs
 MILLION = 1_000_000
@@ -72,6 +76,26 @@ class Programs:
         source, program = BENCHMARKS + "/tuned/main.cpp", os.path.abspath("tuned")
         supervised.run(["c++", "-O2", "-static", "-std=c++17", "-o", program, source], check=True)
         return program
+
+    def drat2lrat(self):
+        return self.of_hints("drat2lrat")
+
+    def lrat_check(self):
+        return self.of_hints("lrat_check")
+
+    @staticmethod
+    def of_hints(name):
+        """A C++ program of the tests of proofs with hints."""
+        source, program = f"{REPOSITORY}/tests/hints/{name}.cpp", os.path.abspath(name)
+        supervised.run(["c++", "-O2", "-static", "-std=c++17", "-o", program, source], check=True)
+        return program
+
+    def aig_proof_tests(self):
+        """It is beside the program that is measured, or proved, or it is built."""
+        name = "aig_proof_tests"
+        proved = f"{REPOSITORY}/crates/{name}/out/{name}"
+        beside = f"{os.path.dirname(self.named)}/{name}" if self.named else proved
+        return next((it for it in (beside, proved) if os.access(it, os.X_OK)), None) or unproved(name, REPOSITORY)
 
     def aig(self):
         proved = REPOSITORY + "/crates/aig/out/aig"
@@ -710,6 +734,80 @@ def refute(programs, chosen):
                 milliseconds(tuned), milliseconds(ours), f"{ours / tuned:.2f}", f"{ours / solver:.2f}", *shown)
 
 
+# Circuits whose property holds within so many frames: a name, how its file is made, the property, and the frames.
+HINTED = (("queue", lambda: circuit_of("queue", f"{EXAMPLES}/queue.v"), 1, (20, 40, 80, 240)),
+          ("fifo", lambda: circuit_of("fifo", f"{DESIGNS}/fifo.v"), 1, (300, )),
+          *((f"multiplier of {bits} bits", lambda bits=bits: load("multiplier", bits), 0, (1, )) for bits in (7, 8, 9)))
+# Cook's refutations of the pigeons, in so many holes, which need no solver and no circuit.
+HOLES = (10, 20, 30)
+
+
+class Hinted:
+    """A proof in DRAT, and two with hints: whole, and trimmed."""
+
+    def __init__(self, programs, formula, drat):
+        self.programs, self.formula, self.drat = programs, formula, drat
+        self.whole, self.trimmed = f"{formula}.lrat", f"{formula}.trimmed.lrat"
+        self.translate([])
+        self.seconds = self.translate(["--trim"])
+
+    def translate(self, words):
+        to = self.trimmed if words else self.whole
+        return Run([self.programs.get("drat2lrat"), *words, self.formula, self.drat, to]).seconds
+
+    def cells(self, times, check):
+        """The cells of a row after the solver's, where `check` gives the arguments that check a proof by `aig`."""
+        proofs = self.drat, self.whole, self.trimmed
+        others = [[self.programs.get("lrat_check"), self.formula, proof] for proof in proofs[1:]]
+        ours = least(times, *map(check, proofs), *others)
+        sizes = [f"{os.path.getsize(proof) / 1e6:.2f} MB" for proof in proofs]
+        drat, whole, trimmed, whole_by_other, trimmed_by_other = map(milliseconds, ours)
+        return [sizes[0], drat, milliseconds(self.seconds), sizes[1], whole, whole_by_other, sizes[2], trimmed,
+                trimmed_by_other]
+
+
+def hints(programs, chosen):
+    """Checking proofs with hints."""
+    head("Checking proofs with hints (processor time; C++ is a plain checker of such proofs).", "formula", "cadical",
+         "DRAT", "aig: DRAT", "drat2lrat --trim", "LRAT", "aig: LRAT", "C++: LRAT", "trimmed", "aig: trimmed",
+         "C++: trimmed")
+    missing = [tool for tool in ("yosys", "cadical") if not shutil.which(tool)]
+    for name, make_circuit, place, all_frames in () if missing else HINTED:
+        for frames in all_frames:
+            title = f"{name}, {frames} frames" if all_frames != (1, ) else name
+            if chosen.jobs not in title:
+                continue
+            proof = Proof(programs, make_circuit(), frames, place)
+            solver = proof.solve()
+            made = Hinted(programs, proof.formula, proof.file)
+            row(title, milliseconds(solver), *made.cells(chosen.times, lambda file, words=proof.words: [
+                programs.get("aig"), *words[:-1], file]))
+    for holes in HOLES:
+        title = f"pigeons in {holes} holes, by Cook"
+        if chosen.jobs in title:
+            row(title, "", *cooked(programs, holes).cells(chosen.times, lambda file: of_case(programs, file)))
+    if missing:
+        print(f"\nNo rows of circuits: {' and '.join(missing)} not found.")
+
+
+def cooked(programs, holes):
+    """The proofs of Cook's refutation. Beside each is a case of aig_proof_tests, which checks it."""
+    variables, clauses, _ = families.pigeons(holes)
+    write(f"pigeons.{holes}.cnf", families.dimacs(variables, clauses))
+    write(f"pigeons.{holes}.drat", text_of(families.cook(holes)))
+    made = Hinted(programs, f"pigeons.{holes}.cnf", f"pigeons.{holes}.drat")
+    for proof in (made.drat, made.whole, made.trimmed):
+        write(f"{proof}.case", case(variables, clauses, contents(proof)))
+        Run(of_case(programs, proof), "line")
+        if not contents("line").endswith(b" refuted\n"):
+            sys.exit(f"{proof} is not taken")
+    return made
+
+
+def of_case(programs, proof):
+    return ["sh", "-c", 'exec "$1" < "$2"', "sh", programs.get("aig_proof_tests"), f"{proof}.case"]
+
+
 # ---- certificates
 
 # A ring of latches, and a random circuit beside it: inputs, latches and gates.
@@ -894,8 +992,8 @@ def compare(programs, chosen):
 
 # ---- command line
 
-TABLES = {made.__name__: made for made in (goals, counts, ratios, edits, benches, refute, certified, sizes, memory, growth,
-                                           rewires, grids, plot, compare)}
+TABLES = {made.__name__: made for made in (goals, counts, ratios, edits, benches, refute, hints, certified, sizes, memory,
+                                           growth, rewires, grids, plot, compare)}
 
 
 def machine(programs, chosen):
@@ -915,7 +1013,7 @@ def main():
     parser.add_argument("--aig", help="the program that is measured")
     parser.add_argument("--room", help="the folder of what is built and made")
     parser.add_argument("--times", type=int, default=5)
-    parser.add_argument("--jobs", default="", help="of ratios and edits, the jobs whose names hold this")
+    parser.add_argument("--jobs", default="", help="of ratios, edits and hints, the jobs whose names hold this")
     parser.add_argument("--shapes", default="", help="of ratios and edits, the shapes whose names hold this")
     parser.add_argument("--svg", type=os.path.abspath, help="of plot, the picture that it draws")
     parser.add_argument("--list", action="store_true", help="names the jobs of ratios alone")

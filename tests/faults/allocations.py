@@ -39,6 +39,7 @@ RUNS = (
     ("refute", ["refute", "--frames", "1", "never", "own"]),
     ("refute by a proof that deletes", ["refute", "--frames", "3", f"{EXAMPLES}/wraps.aag", f"{EXAMPLES}/wraps.drat"]),
     ("refute by a proof with hints", ["refute", "--frames", "1", "never", "hinted"]),
+    ("refute by a long proof with hints", ["refute", "--frames", "1", "never", "long_hinted"]),
     ("refute with a step", ["refute", "--frames", "1", "--step", "step", "never", "proof"]),
     ("reduce", ["reduce", f"{EXAMPLES}/wraps.aag", f"{EXAMPLES}/wraps.wit"]),
     ("why", ["why", "--of", "count", f"{EXAMPLES}/counter.aag", f"{EXAMPLES}/counter.stim"]),
@@ -60,6 +61,13 @@ RUNS = (
 OWN = [*one_bit([97]), *deletions(200)[35:40], (False, [2])]
 # One with hints, and a definition that is deleted.
 HINTED = "24 -11 2 0 0\n25 -11 3 0 0\n26 11 -2 -3 0 -24 -25 0\n26 d 26 25 24 0\n" + RENUMBERED
+# One with many clauses and variables of its own, numbers with gaps, and a long list of each kind.
+OWN_LITERALS = " ".join(str(at) for at in range(11, 1011))
+MANY_NUMBERS = " ".join(str(at) for at in range(30, 3030, 3))
+LONG_HINTED = "".join([
+    *(f"{number} {own} 0 0\n" for number, own in zip(range(30, 3030, 3), range(11, 1011))),
+    f"3030 {OWN_LITERALS} 0 0\n3040 1011 0 {MANY_NUMBERS} 0\n3040 d {MANY_NUMBERS} 0\n",
+    RENUMBERED.replace("27 ", "3050 ").replace("28 ", "3060 ")])
 
 # No run reaches the bad state; propagation alone shows it of no frame.
 NEVER = "aag 9 2 0 0 7 1\n2\n4\n18\n6 5 3\n8 4 3\n10 5 2\n12 4 2\n14 9 7\n16 13 11\n18 16 14\n"
@@ -142,7 +150,7 @@ def allocations(program, tally, _):
     for name, text in (("never", NEVER), ("never_kept", never_kept), ("proof", "2 3 0\n2 0\n"), ("step", "4 0\n"),
                        ("model", "-2 3 4 5 0\n"), ("named", NAMED), ("claims", CLAIMS), ("start", "-2 8 -9 10 0\n"),
                        ("no_claim", "aag 0 0 0 0 0\n"), ("never_proof", "-12 2 0\n-12 0\n4 0\n"),
-                       ("own", text_of(OWN)), ("hinted", HINTED)):
+                       ("own", text_of(OWN)), ("hinted", HINTED), ("long_hinted", LONG_HINTED)):
         write(name, text)
     for name, words in RUNS:
         each(beneath, tally, name, words)

@@ -8,6 +8,7 @@ from concurrent.futures import ProcessPoolExecutor
 from pathlib import Path
 from subprocess import DEVNULL
 
+from hints.programs import built
 from library import supervised
 from library.runs import REPOSITORY, LeftOut
 from library.supervised import SCRIPT_SECONDS
@@ -24,6 +25,8 @@ from bundles.common import (  # noqa: E402
 )
 
 EVERY = HERE / "every.verdicts" / "sources" / "every.v"
+# The roles of proofs that these designs have.
+PROOFS = ("shorter", "base", "step", "proof", "alive")
 # A Python that has Dask.
 DASK = os.environ.get("AIG_DASK_PYTHON", "/usr/bin/python3")
 DECIMAL = """\
@@ -47,6 +50,7 @@ def aig_verdicts(program, tally, _):
     os.environ["AIG_PROGRAM"] = program.path
     kinds(tally)
     by_abc(tally)
+    hints(tally)
     sources(tally)
     hostile(tally)
     again(tally)
@@ -94,6 +98,26 @@ def by_abc(tally):
     tally.compare("by ABC: without it", (status, rows_of("bounded")["a"]["verdict"]), (4, "unreachable within 5"))
     status, _, _ = run("counter.v", "--frames", "5", out="bounded")
     tally.compare("by ABC: later", (status, rows_of("bounded")["a"]["frames"]), (5, 41))
+
+
+def hints(tally):
+    """Proofs of each kind with hints, where there is a compiler of C++: the verdicts are as without them."""
+    try:
+        words = ("--frames", "5", "--drat2lrat", built("drat2lrat"))
+    except LeftOut as reason:
+        print(f"hints: left out: {reason}", flush=True)
+        return
+    roles = set()
+    for name, source in (("every", EVERY), ("contradiction", HERE / "contradiction.verdicts/sources/contradiction.v"),
+                         ("decimal", written("decimal.v", DECIMAL)), ("counter", written("counter.v", COUNTER))):
+        run(source, "--frames", "5", out=f"{name}_drat")
+        run(source, *words, out=f"{name}_lrat")
+        tally.compare(f"hints: {name}", judged(f"{name}_lrat"), judged(f"{name}_drat"))
+        for row in manifest_of(f"{name}_lrat")["rows"]:
+            proofs = {role: file for role, file in row.get("files", {}).items() if role not in ("witness", "certificate")}
+            tally.check(f"hints: {name}: {row['position']}", all(it.endswith(".lrat") for it in proofs.values()), row)
+            roles |= set(proofs)
+    tally.compare("hints: of each kind", roles & {*PROOFS}, {*PROOFS})
 
 
 def sources(tally):

@@ -84,7 +84,7 @@ def _run(run: argparse.ArgumentParser) -> None:
     results = run.add_argument_group("results")
     results.add_argument("-o", "--out", type=Path, metavar="FOLDER", help="the folder of results (NAME.verdicts)")
     results.add_argument("--hints", action="store_true",
-                         help="store proofs with hints (LRAT), which `recheck` checks in a tenth of the time")
+                         help="store proofs with hints (LRAT), which `recheck` checks in much less time")
     results.add_argument("--drat2lrat", metavar="PROGRAM",
                          help="the program that adds the hints; it implies --hints (drat2lrat)")
     results.add_argument("--json", action="store_true", help="print the manifest in place of the table")
