@@ -10,6 +10,7 @@ from large.crowded_names import NAMES, crowded_names
 from large.deep import deep
 from large.explanations import explanations
 from large.files import large_files
+from large.first_literals import first_literals
 from large.hostile_proofs import hostile_proofs
 from large.hubs import hubs
 from large.limits import limits
@@ -18,8 +19,8 @@ from large.reductions import reductions
 from library import runs
 
 PARTS = {"block_edges": block_edges, "files": large_files, "long_run": long_run, "names": crowded_names, "hubs": hubs,
-         "limits": limits, "reductions": reductions, "explanations": explanations, "deep": deep, "claims": claims,
-         "proofs": hostile_proofs}
+         "limits": limits, "reductions": reductions, "explanations": explanations,
+         "first_literals": first_literals, "deep": deep, "claims": claims, "proofs": hostile_proofs}
 
 
 def options(parser):

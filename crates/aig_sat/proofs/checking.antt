@@ -9,4 +9,5 @@ pub mod ForgetLemmas
 pub mod HoldingLemmas
 pub mod FirstLemmas
 pub mod StartLemmas
+pub mod ListingLemmas
 pub mod RefutationLemmas

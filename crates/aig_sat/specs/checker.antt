@@ -5,6 +5,7 @@ pub mod Distinct
 pub mod First
 pub mod Holding
 pub mod Knowledge
+pub mod Listing
 pub mod Standing
 pub mod Visits
 pub mod Words

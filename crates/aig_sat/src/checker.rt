@@ -8,6 +8,7 @@ mod hints;
 mod ids;
 mod known;
 mod marks;
+mod places;
 mod propagator;
 mod refutation;
 mod watches;

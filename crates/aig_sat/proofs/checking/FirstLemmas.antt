@@ -12,7 +12,7 @@ use Rattle.aig_sat.specs.declared.checker.checker.Checker.{Checker}
 use Rattle.aig_sat.specs.declared.checker.propagator.Propagator.{Propagator}
 use Rattle.aig_sat.specs.checker.Agreement.{Agrees, Implies, Narrows}
 use Rattle.aig_sat.specs.checker.Clause.{is_true, meets}
-use Rattle.aig_sat.specs.checker.First.{IsSettled, IsWithout, MayStand, MeetsOther, Settles}
+use Rattle.aig_sat.specs.checker.First.{IsSettled, MayStand, MeetsOther, Settles}
 use Rattle.aig_sat.specs.checker.Holding.{KeepsHolding, KeepsMeeting, KeepsSomeHolding}
 use Rattle.aig_sat.specs.checker.Knowledge.{IsKnown, MakesTrue}
 use Rattle.aig_sat.specs.checker.Words.{HasTrue, IsClauseAt, Shrinks, StandsAt, literal_at, size_at}
@@ -127,15 +127,6 @@ settled_later old mid new clause lie p before n v a untrue stands =
 pub settled_earlier : (old mid new : Propagator) (clause : List ℕ) (lie p : ℕ) → Narrows old mid
     → IsSettled mid new clause lie p → IsSettled old new clause lie p
 settled_earlier old mid new clause lie p n now v a untrue stands = now v (agrees_narrowed old mid n v a) untrue stands
-
--- one more place
-pub settled_more : (old mid new : Propagator) (clause : List ℕ) (lie n : ℕ) → Narrows old mid → Narrows mid new
-    → ((p : ℕ) → p < n → IsSettled old mid clause lie p) → IsSettled mid new clause lie n
-    → (p : ℕ) → p < n + 1 → IsSettled old new clause lie p
-settled_more old mid new clause lie n first second before now p below = elim (cases_eq p n) [
-  | inl e ↦ subst (λ (x : ℕ). IsSettled old new clause lie x) (sym e) (settled_earlier old mid new clause lie n first now)
-  | inr ne ↦ settled_later old mid new clause lie p (before p (omega (arith, ne, below))) second
-]
 
 -- ---- the clause may stand
 

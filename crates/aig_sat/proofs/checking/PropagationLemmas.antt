@@ -33,14 +33,14 @@ taken_true values literal old new t before now l h = elim (taken_known literal o
   | inr e ↦ ap (is_true values) e ∙ now
 ]
 
-in_more : (list : List ℕ) (x l : ℕ) → IsIn list l → IsIn (list ++ x ∷ []) l
+pub in_more : (list : List ℕ) (x l : ℕ) → IsIn list l → IsIn (list ++ x ∷ []) l
 in_more list x l (k, inside, is) = (
   k,
   (let e : length (list ++ x ∷ []) ≡ length list + 1 = length-append list (x ∷ []) in omega (arith, e, inside)),
   get_or_append_left list (x ∷ []) 0 k inside ∙ is,
 )
 
-in_last : (list : List ℕ) (x : ℕ) → IsIn (list ++ x ∷ []) x
+pub in_last : (list : List ℕ) (x : ℕ) → IsIn (list ++ x ∷ []) x
 in_last list x =
     (length list, (let e : length (list ++ x ∷ []) ≡ length list + 1 = length-append list (x ∷ []) in omega (arith, e)), get_or-append_seam list x [] 0)
 

@@ -5,10 +5,6 @@ use Rattle.aig_sat.specs.checker.Agreement.{Agrees}
 use Rattle.aig_sat.specs.checker.Clause.{is_true, meets}
 use Rattle.aig_sat.specs.checker.Words.{StandsAt, literal_at, size_at}
 
--- the literal is none of these
-abbrev pub IsWithout : List ℕ → ℕ → Type 0
-IsWithout literals lie = (k : ℕ) → k < length literals → slice_index literals k ≢ lie
-
 -- another one of these is true
 abbrev pub MeetsOther : (ℕ → Bool) → List ℕ → ℕ → Type 0
 MeetsOther values literals lie =

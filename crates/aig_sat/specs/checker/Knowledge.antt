@@ -1,5 +1,5 @@
 -- The literals that are known to be true, and the trail of those that were found.
-use Rattle.std.specs.Prelude.{◌≡◌, ◌⊎◌, ℕ, ◌<◌, Bool, true, false, List, [], ◌∷◌, ◌++◌, length, slice_index}
+use Rattle.std.specs.Prelude.{◌≡◌, ◌≢◌, ◌⊎◌, ℕ, ◌<◌, Bool, true, false, List, [], ◌∷◌, ◌++◌, length, slice_index}
 use Rattle.std.specs.Prelude.{slice_index_or, slice_set}
 use Rattle.aig_parts.specs.Literal.{negation}
 use Rattle.aig_sat.specs.declared.checker.known.Known.{Known}
@@ -14,6 +14,10 @@ MakesTrue values truths = (l : ℕ) → IsKnown truths l → is_true values l �
 
 abbrev pub IsIn : List ℕ → ℕ → Type 0
 IsIn list l = (k : ℕ) × (k < length list) × (slice_index list k ≡ l)
+
+-- the literal is none of these
+abbrev pub IsWithout : List ℕ → ℕ → Type 0
+IsWithout literals l = (k : ℕ) → k < length literals → slice_index literals k ≢ l
 
 -- what is known was known before, or is in the trail
 abbrev pub IsFound : List Bool → Known → Type 0

@@ -20,6 +20,8 @@ pub(crate) struct Checker {
     pub(crate) marks: Marks,
     // The clause that was last tried in place of one that is added on its first literal, for its memory.
     pub(crate) resolvent: Vec<Lit>,
+    // The places of the clauses that it was last tried for.
+    pub(crate) candidates: Vec<usize>,
     pub(crate) refuted: bool,
     // Whether steps have hints. Then nothing is watched, and nothing is known between steps.
     pub(crate) is_hinted: bool,
@@ -39,6 +41,7 @@ impl Checker {
             finder: Finder::new(alloc)?,
             marks: Marks::new(alloc, 2 * variables as usize)?,
             resolvent: Vec::new(alloc),
+            candidates: Vec::new(alloc),
             refuted: false,
             is_hinted,
             next: 1,

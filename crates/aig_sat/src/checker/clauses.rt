@@ -1,11 +1,14 @@
 //! The clauses that stand, in one list of words.
-ghost use Rattle.std.specs.Prelude.{◌≡◌, ℕ, ◌+◌, ◌<◌, ◌≤◌, length, slice_set};
+ghost use Rattle.std.specs.Prelude.{◌≡◌, ◌≢◌, ℕ, ◌+◌, ◌<◌, ◌≤◌, length, slice_set};
 ghost use Rattle.aig_parts.specs.Literal.{variable};
-ghost use Rattle.std.specs.Prelude.{Bool, true, IsTrue, IfNone, IfSome, IfOk, OnOk, slice_index};
+ghost use Rattle.std.specs.Prelude.{Bool, true, false, IsTrue, IfNone, IfSome, IfOk, OnOk, slice_index};
 ghost use Rattle.aig_sat.specs.checker.Clause.{meets};
+ghost use Rattle.aig_sat.specs.checker.Knowledge.{IsIn, IsWithout};
+ghost use Rattle.aig_sat.specs.checker.Listing.{FindsAll, ListsAll};
 ghost use Rattle.aig_sat.specs.checker.Words.{AreLiterals, AreNamed, Begins, IsClauseAt, IsLaidOut, IsLast, IsPut};
-ghost use Rattle.aig_sat.specs.checker.Words.{KeepsMet, MeetsAll, Shrinks, StandsAt, literal_at};
+ghost use Rattle.aig_sat.specs.checker.Words.{KeepsMet, MeetsAll, Shrinks, StandsAt, literal_at, size_at};
 
+use crate::checker::places::Places;
 use aig_bytes::Memory;
 use std::alloc::Global;
 
@@ -15,7 +18,7 @@ pub(crate) const HEAD: u32 = 0x8000_0000;
 
 /// How many words a clause has before its literals: the head, the next clause of its chain, its watched literals as
 /// their exclusive or, and where among its literals the last search for a free one ended.
-const BEFORE: usize = 4;
+pub(crate) const BEFORE: usize = 4;
 
 /// The clauses that stand, by the place of their first word. A clause that is deleted loses its head, and its words are
 /// never used again.
@@ -26,8 +29,15 @@ pub(crate) struct Clauses {
     pub(crate) starts: Vec<u32>,
     // Each variable that a clause has is below this.
     pub(crate) named: u32,
+    // The clauses before the end `listed` by their literals; 0 where nothing is listed.
+    pub(crate) places: Places,
+    pub(crate) listed: usize,
+    // How many words and places were read in search of clauses with a literal, since the last lists were made.
+    read: usize,
     ghost laid_out: { IsLaidOut words.items },
     ghost begins: { Begins starts.items named words.items },
+    ghost lists: { ListsAll places.heads.items places.links.items words.items listed },
+    ghost within: { listed ≤ length words.items },
 }
 
 /// A clause that stands.
@@ -64,6 +74,18 @@ fn above(literals: &[u32], named: u32) -> u32
     above
 }
 
+// Whether the literal is one of these.
+pub(crate) fn has(literals: &[u32], literal: u32) -> bool
+    ensures { result ≡ false → IsWithout literals.now literal }
+{
+    for other in literals {
+        if *other == literal {
+            return true;
+        }
+    }
+    false
+}
+
 impl Clauses {
     /// No clauses over so many variables.
     pub(crate) fn new(alloc: Global, variables: usize) -> Result<Clauses, Memory>
@@ -74,6 +96,9 @@ impl Clauses {
             words: vec![in alloc; 0; 1]?,
             starts: vec![in alloc; 0; variables]?,
             named: 0,
+            places: Places::new(alloc, 0)?,
+            listed: 0,
+            read: 0,
         })
     }
 
@@ -200,6 +225,7 @@ impl Clauses {
         ensures met { KeepsMet self.old.words.items self.new.words.items }
         ensures starts { self.new.starts.items ≡ self.old.starts.items }
         ensures named { self.new.named ≡ self.old.named }
+        ensures listed { self.new.listed ≡ self.old.listed }
         ensures ok { OnOk result (IsPut self.old.words.items literals.now self.new.words.items) }
     {
         let before = [0, next % HEAD, watched % HEAD, 0];
@@ -221,6 +247,7 @@ impl Clauses {
         requires size { size < 0x8000_0000 }
         requires last { IsLast self.old.words.items place size }
         requires begun { (x : ℕ) → slice_index self.old.starts.items x ≤ place }
+        requires unlisted { self.old.listed ≤ place }
         requires named { (k : ℕ) → k < size → variable (literal_at self.old.words.items place k) < self.old.named }
         ensures { self.new.words.items ≡ slice_set self.old.words.items place (0x8000_0000 + size) }
     {
@@ -240,6 +267,87 @@ impl Clauses {
         self.put(next, watched, literals)?;
         self.stand(place, literals.len() as u32);
         Ok(place as u32)
+    }
+
+    // Finds the clause at a place, if it has a literal.
+    fn find_at(&self, place: usize, literal: u32, found: &mut Vec<usize>) -> Result<(), Memory>
+        ensures kept { (p : ℕ) → IsIn found.old.items p → IsIn found.new.items p }
+        ensures found { OnOk result ((k : ℕ) → StandsAt self.now.words.items place
+            → k < size_at self.now.words.items place → literal_at self.now.words.items place k ≡ literal
+            → IsIn found.new.items place) }
+    {
+        if let Some(literals) = self.literals(place) {
+            if has(literals, literal) {
+                found.push(place)?;
+            }
+        }
+        Ok(())
+    }
+
+    // Finds the clauses from a start on that have a literal, the last one first.
+    fn scan(&self, start: usize, literal: u32, found: &mut Vec<usize>) -> Result<(), Memory>
+        requires { (p k : ℕ) → p < start → StandsAt self.now.words.items p → k < size_at self.now.words.items p
+            → literal_at self.now.words.items p k ≢ literal }
+        ensures { OnOk result (FindsAll self.now.words.items literal found.new.items) }
+    {
+        found.clear();
+        let end = self.words.len();
+        for read in 0..end.saturating_sub(start) {
+            self.find_at(end - 1 - read, literal, found)?;
+        }
+        Ok(())
+    }
+
+    // Begins with new lists, where there are none or too much of them was read.
+    fn renew_lists(&mut self) -> Result<(), Memory>
+        ensures { self.new.words.items ≡ self.old.words.items }
+    {
+        if self.listed == 0 || self.read >= self.words.len() {
+            self.listed = 0;
+            self.read = 0;
+            self.places.clear(self.starts.len().saturating_mul(2))?;
+        }
+        Ok(())
+    }
+
+    // Lists all clauses that stand.
+    fn list_all(&mut self) -> Result<(), Memory>
+        ensures same { self.new.words.items ≡ self.old.words.items }
+        ensures all { OnOk result (ListsAll self.new.places.heads.items self.new.places.links.items
+            self.new.words.items (length self.new.words.items)) }
+    {
+        self.renew_lists()?;
+        self.places.add_from(&self.words, self.listed)?;
+        self.listed = self.words.len();
+        Ok(())
+    }
+
+    // Finds the clauses that have a literal by the lists.
+    fn find_listed(&mut self, literal: u32, found: &mut Vec<usize>) -> Result<(), Memory>
+        ensures same { self.new.words.items ≡ self.old.words.items }
+        ensures all { OnOk result (FindsAll self.new.words.items literal found.new.items) }
+    {
+        self.list_all()?;
+        self.places.find(literal, found)?;
+        self.read = self.read.saturating_add(found.len());
+        Ok(())
+    }
+
+    /// Finds the place of each clause that stands and has a literal, the last one first. It may find other places. It
+    /// goes through the words until it has read as many as there are. From then on clauses are listed by their literals,
+    /// and the lists are made anew where as many places of them were read: those of deleted clauses are gone then.
+    pub(crate) fn find(&mut self, literal: u32, found: &mut Vec<usize>) -> Result<(), Memory>
+        ensures same { self.new.words.items ≡ self.old.words.items }
+        ensures all { OnOk result (FindsAll self.new.words.items literal found.new.items) }
+    {
+        let start = self.start(literal);
+        let words = self.words.len().saturating_sub(start);
+        let left = self.words.len().saturating_sub(self.read);
+        if self.listed > 0 || words > left {
+            return self.find_listed(literal, found);
+        }
+        self.read = self.read.saturating_add(words);
+        self.scan(start, literal, found)
     }
 
     /// Deletes a clause.

@@ -5,27 +5,17 @@ ghost use Rattle.std.specs.Prelude.{◌≡◌, ◌≢◌, ◌⊎◌, ℕ, Bool, 
 ghost use Rattle.aig_parts.specs.Literal.{negation};
 ghost use Rattle.aig_sat.specs.checker.Agreement.{Narrows};
 ghost use Rattle.aig_sat.specs.checker.Clause.{is_true, meets};
-ghost use Rattle.aig_sat.specs.checker.First.{IsSettled, IsWithout, MayStand, MeetsOther};
+ghost use Rattle.aig_sat.specs.checker.First.{IsSettled, MayStand, MeetsOther};
 ghost use Rattle.aig_sat.specs.checker.Holding.{KeepsHolding, KeepsMeeting, KeepsSomeHolding};
 ghost use Rattle.aig_sat.specs.checker.Knowledge.{IsKnown};
+ghost use Rattle.aig_sat.specs.checker.Listing.{FindsAll};
 
 use crate::checker::checker::Checker;
+use crate::checker::clauses::has;
 use crate::checker::hints::group_of;
 use crate::checker::known::negated;
 use aig_bytes::Memory;
 use aig_parts::Lit;
-
-// Whether the literal is one of these.
-fn has(literals: &[u32], lie: u32) -> bool
-    ensures { result ≡ false → IsWithout literals.now lie }
-{
-    for literal in literals {
-        if *literal == lie {
-            return true;
-        }
-    }
-    false
-}
 
 // Adds a literal, unless it is this one.
 fn push_other(resolvent: &mut Vec<Lit>, literal: u32, lie: u32) -> Result<(), Memory>
@@ -76,6 +66,7 @@ impl Checker {
         place: usize,
     ) -> Result<bool, Memory>
         ensures same { self.new.refuted ≡ self.old.refuted }
+        ensures candidates { self.new.candidates.items ≡ self.old.candidates.items }
         ensures narrows { Narrows self.old.propagator self.new.propagator }
         ensures settled { IfOk result (λ settled. IsTrue settled
             → IsSettled self.old.propagator self.new.propagator clause.now lie place) }
@@ -93,6 +84,30 @@ impl Checker {
             .follows_soon(&self.resolvent, group.way, group.passed)
     }
 
+    // Whether each of the candidates has another literal that is true where the clause that is added is not met, if it
+    // has the negation of the first literal. The first clause is the last one that was found.
+    fn settles_found(
+        &mut self,
+        clause: &[Lit],
+        hints: Option<&[Lit]>,
+        lie: u32,
+    ) -> Result<bool, Memory>
+        requires { FindsAll self.old.propagator.clauses.words.items lie self.old.candidates.items }
+        ensures same { self.new.refuted ≡ self.old.refuted }
+        ensures narrows { Narrows self.old.propagator self.new.propagator }
+        ensures settled { IfOk result (λ settled. IsTrue settled
+            → (p : ℕ) → IsSettled self.old.propagator self.new.propagator clause.now lie p) }
+    {
+        let count = self.candidates.len();
+        for tried in 0..count {
+            let place = self.candidates[count - 1 - tried];
+            if !self.settles(clause, hints, lie, place)? {
+                return Ok(false);
+            }
+        }
+        Ok(true)
+    }
+
     // Whether each clause that has the negation of the first literal has another literal that is true where the clause
     // that is added is not met.
     fn settles_all(
@@ -106,13 +121,8 @@ impl Checker {
         ensures settled { IfOk result (λ settled. IsTrue settled
             → (p : ℕ) → IsSettled self.old.propagator self.new.propagator clause.now lie p) }
     {
-        let start = self.propagator.clauses.start(lie);
-        for place in start..self.propagator.clauses.len() {
-            if !self.settles(clause, hints, lie, place)? {
-                return Ok(false);
-            }
-        }
-        Ok(true)
+        self.propagator.clauses.find(lie, &mut self.candidates)?;
+        self.settles_found(clause, hints, lie)
     }
 
     // Whether a clause may stand on this literal of it.

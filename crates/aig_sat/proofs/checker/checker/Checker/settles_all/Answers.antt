@@ -1,15 +1,18 @@
-use Rattle.std.proofs.Common.{◌∙◌}
-use Rattle.aig_sat.proofs.checking.FirstLemmas.{settled_more}
+use Rattle.std.proofs.Common.{List, ℕ, sym, subst}
+use Rattle.aig_sat.specs.checker.Agreement.{Narrows}
+use Rattle.aig_sat.specs.checker.Words.{Shrinks}
+use Rattle.aig_sat.proofs.checking.ListingLemmas.{found_narrows, settled_since}
 use Rattle.aig_sat.proofs.checking.PropagationLemmas.{narrows_then}
 use Rattle.aig_sat.proofs.checker.checker.Checker.settles_all.Goals as goal
 
-pub loop-place-preserved : goal.loop-place-preserved
-loop-place-preserved c =
-    let before = c.loop-place.invariant in
-    let now = c.in_ok-settles.ensures in
-    record {
-      same = c.settles.ensures.same ∙ before.same;
-      narrows = narrows_then _ _ _ before.narrows c.settles.ensures.narrows;
-      settled = settled_more c.args.self.now.propagator c.loop-place.self.propagator c.settles.new.self.propagator c.args.clause.now
-          c.args.lie c.loop-place.place before.narrows c.settles.ensures.narrows before.settled (now.settled c.if-not-branch.false);
-    }
+pub returns-in_err-find-clause-narrows : goal.returns-in_err-find-clause-narrows
+returns-in_err-find-clause-narrows c = found_narrows _ _ c.find.ensures.same (λ l h. h)
+
+pub returns-clause-narrows : goal.returns-clause-narrows
+returns-clause-narrows c =
+    narrows_then _ _ _ (found_narrows _ _ c.find.ensures.same (λ l h. h)) c.settles_found.ensures.narrows
+
+pub returns-clause-settled : goal.returns-clause-settled
+returns-clause-settled c =
+    settled_since c.settles_found.result _ _ _ c.args.clause.now c.args.lie (found_narrows _ _ c.find.ensures.same (λ l h. h))
+    c.settles_found.ensures.settled

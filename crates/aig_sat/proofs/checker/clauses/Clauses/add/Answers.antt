@@ -15,6 +15,7 @@ stand-requires c =
           let same : get_or c.put.new.self.starts.items x 0 ≡ get_or c.args.self.now.starts.items x 0 =
           ap (λ xs. get_or xs x 0) c.in_ok-put.ensures.starts in
           omega (arith, same, c.args.self.now.begins.within x, place_is);
+      unlisted = omega (arith, c.in_ok-put.ensures.listed, c.args.self.now.within, place_is);
       named = λ k inside.
           let at : get_or c.put.new.self.words.items (c.len-place.result + (4 + k)) 0 ≡ get_or c.args.literals.now k 0 =
           ap (λ n. get_or c.put.new.self.words.items (n + (4 + k)) 0) place_is ∙ c.in_ok-put.ensures.ok.items k inside in

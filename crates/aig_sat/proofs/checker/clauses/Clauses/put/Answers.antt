@@ -1,6 +1,8 @@
-use Rattle.std.proofs.Common.{◌≡◌, Bool, true, false, cond, List, ℕ, ◌++◌, ◌%◌, arith, subst}
+use Rattle.std.proofs.Common.{◌≡◌, Bool, true, false, cond, List, ℕ, ◌++◌, ◌%◌, ◌≤◌, length, arith, subst}
 use Rattle.std.proofs.Common.{sym}
+use Rattle.aig_sat.specs.checker.Listing.{ListsAll}
 use Rattle.aig_sat.specs.checker.Words.{AreLiterals, Begins, IsLaidOut}
+use Rattle.aig_sat.proofs.checking.ListingLemmas.{append_lists, appended_lists, appended_within}
 use Rattle.aig_sat.proofs.checking.PutLemmas.{append_laid_out, four_small}
 use Rattle.aig_sat.proofs.checking.StartLemmas.{append_begins, appended_begins}
 use Rattle.aig_sat.proofs.checker.clauses.Clauses.put.Goals as goal
@@ -21,7 +23,16 @@ invariant_of-self-2 c =
     let begun : Begins c.args.self.now.starts.items c.args.self.now.named c.extend_from_slice.new.self.items =
     subst (Begins c.args.self.now.starts.items c.args.self.now.named) (sym c.in_ok-extend_from_slice.ensures.items)
     (append_begins _ _ _ _ c.args.self.now.laid_out (four_small a b (omega arith) (omega arith)) c.args.self.now.begins) in
+    let listed : ListsAll c.args.self.now.places.heads.items c.args.self.now.places.links.items
+    c.extend_from_slice.new.self.items c.args.self.now.listed =
+    subst (λ (xs : List ℕ). ListsAll c.args.self.now.places.heads.items c.args.self.now.places.links.items xs c.args.self.now.listed)
+    (sym c.in_ok-extend_from_slice.ensures.items)
+    (append_lists _ _ _ _ _ c.args.self.now.laid_out (four_small a b (omega arith) (omega arith)) c.args.self.now.lists) in
+    let inside : c.args.self.now.listed ≤ length c.extend_from_slice.new.self.items =
+    appended_within true _ _ _ _ c.in_ok-extend_from_slice.ensures.items c.args.self.now.within in
     record {
       laid_out = either _ _ c.args.literals.now _ laid c.requires c.extend_from_slice-2.ensures.items;
       begins = appended_begins _ _ _ _ c.args.literals.now _ laid c.requires c.extend_from_slice-2.ensures.items begun;
+      lists = appended_lists _ _ _ _ c.args.literals.now _ _ laid c.requires c.extend_from_slice-2.ensures.items listed;
+      within = appended_within _ _ c.args.literals.now _ _ c.extend_from_slice-2.ensures.items inside;
     }
