@@ -1,6 +1,3 @@
-use Rattle.std.proofs.Common.{List, ℕ, sym, subst}
-use Rattle.aig_sat.specs.checker.Agreement.{Narrows}
-use Rattle.aig_sat.specs.checker.Words.{Shrinks}
 use Rattle.aig_sat.proofs.checking.ListingLemmas.{found_narrows, settled_since}
 use Rattle.aig_sat.proofs.checking.PropagationLemmas.{narrows_then}
 use Rattle.aig_sat.proofs.checker.checker.Checker.settles_all.Goals as goal
@@ -14,5 +11,5 @@ returns-clause-narrows c =
 
 pub returns-clause-settled : goal.returns-clause-settled
 returns-clause-settled c =
-    settled_since c.settles_found.result _ _ _ c.args.clause.now c.args.lie (found_narrows _ _ c.find.ensures.same (λ l h. h))
-    c.settles_found.ensures.settled
+    settled_since c.settles_found.result _ _ c.settles_found.new.self.propagator c.args.clause.now c.args.lie
+    (found_narrows _ _ c.find.ensures.same (λ l h. h)) c.settles_found.ensures.settled

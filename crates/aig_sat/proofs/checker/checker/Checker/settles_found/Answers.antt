@@ -1,4 +1,4 @@
-use Rattle.std.proofs.Common.{ℕ, List, length, sym, ap, subst, ◌∙◌, arith}
+use Rattle.std.proofs.Common.{◌≡◌, ℕ, ◌-◌, ◌<◌, List, length, get_or, sym, ap, subst, ◌∙◌, arith}
 use Rattle.std.proofs.lemmas.List.{get_or_read}
 use Rattle.aig_sat.specs.checker.First.{IsSettled}
 use Rattle.aig_sat.specs.checker.Listing.{FindsAll}
@@ -10,6 +10,10 @@ pub loop-tried-preserved : goal.loop-tried-preserved
 loop-tried-preserved c =
     let before = c.loop-tried.invariant in
     let now = c.in_ok-settles.ensures in
+    let places = c.loop-tried.self.candidates.items in
+    let at = c.len-count.result - 1 - c.loop-tried.tried in
+    let inside : at < length places = omega (arith, before.count) in
+    let is : c.index-place.result.now ≡ get_or places at 0 = get_or_read places at _ inside c.index-place.ensures 0 in
     record {
       same = c.settles.ensures.same ∙ before.same;
       narrows = narrows_then _ _ _ before.narrows c.settles.ensures.narrows;
@@ -17,7 +21,8 @@ loop-tried-preserved c =
       finds = subst (λ (xs : List ℕ). FindsAll c.settles.new.self.propagator.clauses.words.items c.args.lie xs)
           (sym c.settles.ensures.candidates) (finds_shrunk _ _ _ _ c.settles.ensures.narrows.same before.finds);
       settled = settled_next c.args.self.now.propagator c.loop-tried.self.propagator c.settles.new.self.propagator
-          c.args.clause.now c.args.lie _ c.loop-tried.tried c.loop-tried.self.candidates.items
-          c.settles.new.self.candidates.items c.settles.ensures.candidates before.narrows c.settles.ensures.narrows
-          before.settled (now.settled c.if-not-branch.false);
+          c.args.clause.now c.args.lie c.len-count.result c.loop-tried.tried places c.settles.new.self.candidates.items
+          c.settles.ensures.candidates before.narrows c.settles.ensures.narrows before.settled
+          (subst (λ (p : ℕ). IsSettled c.loop-tried.self.propagator c.settles.new.self.propagator c.args.clause.now c.args.lie p)
+          is (now.settled c.if-not-branch.false));
     }

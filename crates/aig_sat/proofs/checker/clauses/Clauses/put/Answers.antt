@@ -12,7 +12,6 @@ either : (b : Bool) (words tail new : List ℕ) → IsLaidOut words → AreLiter
 either true words tail new laid small e = subst IsLaidOut (sym e) (append_laid_out words tail laid small)
 either false words tail new laid small e = subst IsLaidOut (sym e) laid
 
--- src/clauses.rt:118:9
 pub invariant_of-self-2 : goal.invariant_of-self-2
 invariant_of-self-2 c =
     let a = c.args.next % 0x8000_0000 in

@@ -1,4 +1,4 @@
-use Rattle.std.proofs.Common.{arith}
+use Rattle.std.proofs.Common.{◌+◌, arith}
 use Rattle.std.proofs.lemmas.List.{length-set}
 use Rattle.aig_sat.proofs.checking.ListingLemmas.{lists_stand}
 use Rattle.aig_sat.proofs.checking.PutLemmas.{stand_laid_out}
