@@ -10,4 +10,5 @@ pub mod HoldingLemmas
 pub mod FirstLemmas
 pub mod StartLemmas
 pub mod ListingLemmas
+pub mod PlacesLemmas
 pub mod RefutationLemmas
