@@ -181,6 +181,18 @@ def wrong(program, tally, _):
             tally.check(f"wrong: a part that {name}", found.is_seen is is_seen, found)
 
 
+# Processors and gigabytes, and how many crates are then proved side by side.
+LANES = ((2, 8, None), (2, 13, None), (2, 16, 2), (4, 16, 2), (4, 23, 3), (4, 24, 4), (8, 32, 5), (1, 64, 1))
+
+
+def side_by_side(_, tally, __):
+    """As many crates are proved side by side as there are processors and memory for."""
+    for processors, gigabytes, wanted in LANES:
+        tally.compare(f"lanes: {processors} and {gigabytes} GB", gate.lanes(processors, gigabytes * 1e9), wanted)
+    processors, memory = gate.of_this_machine()
+    tally.check("lanes: of this machine", processors > 0 and memory > 0)
+
+
 def scripts(_, tally, __):
     """Each file that names its interpreter can be run by its name, as `tests/all.py` and pages do."""
     folders = ("tests", "tools", "benchmarks", "python", ".ci")
@@ -230,7 +242,7 @@ def with_kit(part):
 
 
 PARTS = {"cited": cited, "sums": with_kit(sums), "again": with_kit(again), "wrong": wrong, "scripts": scripts,
-         "report": report}
+         "lanes": side_by_side, "report": report}
 
 if __name__ == "__main__":
     runs.main(__doc__, PARTS)

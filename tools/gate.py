@@ -2,6 +2,7 @@
 """The record of the last gate that passed, build/gate. `.ci/run` writes it; `make install` and `make dist` read it.
 
   begin               removes the record, and prints the state of the repository
+  lanes               prints how many crates this machine can prove side by side, if they are two or more
   end BEGAN COSTS FILE..
                       writes the record: the state in the file BEGAN, the last line of each FILE, how long the gate took,
                       and what the checks of each crate cost, which COSTS has (tools/costs.py), if it is there
@@ -11,6 +12,7 @@
 
 import hashlib
 import os
+import re
 import subprocess
 import sys
 import time
@@ -26,6 +28,11 @@ UNPROVED = "build/aig"
 # the folders of the library for C
 PROVED_LIBRARY = "crates/aig_c/out/lib"
 UNPROVED_LIBRARY = "build/lib"
+# bytes of memory that the proofs of a large crate take, and that the planted bugs and the library for C take meanwhile
+LARGE, BESIDE = 5e9, 4e9
+# files of the system with what may be used: the bytes of memory, and the processor's time with what it is a part of
+FREE = (("/proc/meminfo", r"MemAvailable:\s+(\d+) kB", 1024), ("/sys/fs/cgroup/memory.max", r"(\d+)", 1))
+SHARE = ("/sys/fs/cgroup/cpu.max", r"(\d+) (\d+)")
 # what the gate makes, by the names of the record
 MADE = {"program": PROVED, "archive": PROVED_LIBRARY + "/libaig.a", "shared": PROVED_LIBRARY + "/libaig.so"}
 
@@ -142,6 +149,31 @@ def refusal(record, now, sums):
     return None
 
 
+def numbers(name, pattern):
+    """Returns the numbers that a file of the system has, or none."""
+    try:
+        with open(name, encoding="utf-8") as file:
+            found = re.match(pattern, file.read()) if name.startswith("/sys") else re.search(pattern, file.read())
+    except OSError:
+        return []
+    return [int(number) for number in found.groups()] if found else []
+
+
+def lanes(processors, memory):
+    """Returns how many crates can be proved side by side, or nothing where two large ones have no room. `rt ci` goes by
+    the lines of a crate, counts twice as much, and so lets processors stand idle; where memory is small it knows best."""
+    fit = int((memory - BESIDE) // LARGE)
+    return min(processors, fit) if fit > 1 else None
+
+
+def of_this_machine():
+    """Returns how many processors there are to use, and how many bytes of memory."""
+    processors, share = len(os.sched_getaffinity(0)), numbers(*SHARE)
+    if share:
+        processors = min(processors, max(1, share[0] // share[1]))
+    return processors, min([unit * number for name, pattern, unit in FREE for number in numbers(name, pattern)], default=0)
+
+
 def main(words):
     if words == ["begin"]:
         if os.path.exists(RECORD):
@@ -149,6 +181,8 @@ def main(words):
         print(text_of(state()), end="")
     elif words[:1] == ["end"] and len(words) > 2:
         end(words[1], words[2], words[3:])
+    elif words == ["lanes"]:
+        print(lanes(*of_this_machine()) or "")
     elif words == ["report"]:
         record = read(RECORD)
         said = costs.table(costs_in(RECORD)) + f"{record.get('seconds')} s in all" if record else ""
