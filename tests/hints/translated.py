@@ -12,7 +12,7 @@ from library.runs import EXAMPLES, contents, refused, write
 from program.proofs import SPELLINGS
 from program.refute import NEVER_KEPT_TO
 from program.rows import Rows
-from steps.at_random import Formula
+from steps.at_random import with_proofs
 from steps.cases import DELETED, ON_FIRST, OPEN, REFUTED, WRONG, case, lines_of
 from steps.extended import STYLES
 
@@ -114,7 +114,7 @@ def random_proofs(tally, checker, seed):
     """Proofs of random formulas: right steps, deletions of clauses of all kinds, wrong steps and changed bytes."""
     counts = {"refuted": 0, "step": 0, "text": 0, OPEN: 0}
     for number in range(RANDOM):
-        formula = Formula(seed, number)
+        formula = with_proofs(seed, number)
         for place, (whole, wanted) in enumerate(zip(formula.cases, formula.wanted)):
             sizes, _, data = whole.partition(b"\n")
             variables, size, _ = map(int, sizes.split())

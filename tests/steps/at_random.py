@@ -50,10 +50,15 @@ def random_step(rng, checker, names, own, late):
     return False, clause if rng.randrange(20) else []
 
 
+def random_own(rng, variables):
+    """Some variables of a proof's own."""
+    last = rng.choice((variables + 9, 2_000_000_000, MOST))
+    return rng.sample([variables + 1, variables + 2, variables + 4, last - 1, last], rng.randrange(4))
+
+
 def random_steps(rng, variables, clauses):
     """Steps and their marks, up to the refutation."""
-    last = rng.choice((variables + 9, 2_000_000_000, MOST))
-    own = rng.sample([variables + 1, variables + 2, variables + 4, last - 1, last], rng.randrange(4))
+    own = random_own(rng, variables)
     names = [*range(1, variables + 1), *own]
     checker, steps, marks = Checker(clauses), [], ""
     for tried in range(TRIES):
@@ -84,44 +89,62 @@ def changed(rng, data):
 class Formula:
     """A random formula and its proofs, with the lines that the program has to print."""
 
-    def __init__(self, seed, number):
-        rng = random.Random(f"{seed} {number}")
-        self.name = f"seed {seed}, formula {number}"
-        variables, clauses = random_formula(rng)
+    def __init__(self, name, variables, clauses):
+        self.name, self.variables, self.clauses = name, variables, clauses
         self.is_satisfiable = is_satisfiable(variables, clauses)
-        steps, marks, self.has_proof = random_steps(rng, variables, clauses)
-        self.marks = marks
-        right = [step for step, mark in zip(steps, marks) if mark != WRONG]
-        is_text = rng.randrange(2)
-        spelled = SPELLINGS[1 - is_text][1]
-        proofs = [spelled(steps), spelled(right)]
-        if is_text and rng.randrange(2):
-            proofs = [loose_text(rng, proof) for proof in proofs]
-        proofs.append(changed(rng, rng.choice(proofs)))
-        end = REFUTED if self.has_proof else OPEN
-        self.wanted = [f"{marks} {end}", f"{marks.replace(WRONG, '')} {end}", line_of(clauses, proofs[2])]
-        self.cases = [case(variables, clauses, proof) for proof in proofs]
+        self.has_proof, self.wanted, self.cases = False, [], []
+
+    def wants(self, has_proof, proofs, wanted):
+        """Notes its proofs, and the line of each."""
+        self.has_proof, self.wanted = has_proof, wanted
+        self.cases = [case(self.variables, self.clauses, proof) for proof in proofs]
 
     def why(self, lines):
         """What is wrong with the lines that the program prints."""
         if self.is_satisfiable and any(line.endswith(REFUTED) for line in lines):
             return f"an assignment satisfies it, and it is refuted: {self.cases}"
+        if self.has_proof and not lines[0].endswith(REFUTED):
+            return f"a right proof is refused: {lines[0]}: {self.cases[0]}"
         return "" if lines == self.wanted else f"{lines}, wanted {self.wanted}: {self.cases}"
 
 
-def at_random(program, tally, chosen):
+def with_proofs(seed, number):
+    """A random formula with its three proofs."""
+    rng = random.Random(f"{seed} {number}")
+    formula = Formula(f"seed {seed}, formula {number}", *random_formula(rng))
+    steps, marks, has_proof = random_steps(rng, formula.variables, formula.clauses)
+    right = [step for step, mark in zip(steps, marks) if mark != WRONG]
+    is_text = rng.randrange(2)
+    spelled = SPELLINGS[1 - is_text][1]
+    proofs = [spelled(steps), spelled(right)]
+    if is_text and rng.randrange(2):
+        proofs = [loose_text(rng, proof) for proof in proofs]
+    proofs.append(changed(rng, rng.choice(proofs)))
+    end = REFUTED if has_proof else OPEN
+    wanted = [f"{marks} {end}", f"{marks.replace(WRONG, '')} {end}", line_of(formula.clauses, proofs[2])]
+    formula.wants(has_proof, proofs, wanted)
+    return formula
+
+
+def try_formulas(program, tally, chosen, make):
+    """Tries the formulas that are made of the seed and of their numbers, and returns what they were."""
     satisfiable = right = 0
     counts = dict.fromkeys((DELETED, FOLLOWS, ON_FIRST, WRONG), 0)
     numbers = [*range(chosen.count)] if chosen.only is None else [chosen.only]
     for begin in range(0, len(numbers), BATCH):
-        formulas = [Formula(chosen.seed, number) for number in numbers[begin:begin + BATCH]]
+        formulas = [make(chosen.seed, number) for number in numbers[begin:begin + BATCH]]
         lines = lines_of(program, [each for formula in formulas for each in formula.cases])
         for place, formula in enumerate(formulas):
-            why = formula.why(lines[3 * place:3 * place + 3])
+            three = lines[3 * place:3 * place + 3]
+            why = formula.why(three)
             tally.check(formula.name, not why, why)
             satisfiable += formula.is_satisfiable
             right += formula.has_proof
             for mark in counts:
-                counts[mark] += formula.marks.count(mark)
+                counts[mark] += sum(line.split(" ")[0].count(mark) for line in three)
     told = ", ".join(f"{counts[mark]} steps {mark}" for mark in counts)
     return f"{satisfiable} satisfiable formulas, {right} right proofs, {told}: "
+
+
+def at_random(program, tally, chosen):
+    return try_formulas(program, tally, chosen, with_proofs)

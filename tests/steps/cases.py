@@ -36,9 +36,9 @@ def done(checker, step):
     return mark
 
 
-def line_of(clauses, proof):
-    """The line of a case by the plain reader and the plain checker."""
-    checker, marks, end, steps = Checker(clauses), "", OPEN, steps_of(proof)
+def line_by(checker, steps, do):
+    """The line of a case by a plain checker that does these steps, each in this way."""
+    marks = ""
     while not checker.refuted:
         try:
             step = next(steps, None)
@@ -46,5 +46,10 @@ def line_of(clauses, proof):
             return f"{marks} text at {fault.place}"
         if step is None:
             return f"{marks} {OPEN}"
-        marks += done(checker, step)
+        marks += do(checker, step)
     return f"{marks} {REFUTED}"
+
+
+def line_of(clauses, proof):
+    """The line of a case by the plain reader and the plain checker."""
+    return line_by(Checker(clauses), steps_of(proof), done)

@@ -6,9 +6,8 @@ satisfies."""
 import random
 
 from library.plain_hints import HintedChecker, hinted_steps, is_hinted
-from library.plain_steps import MOST, NoStep
-from steps.at_random import BATCH, changed, is_satisfiable, random_clause, random_formula
-from steps.cases import DELETED, FOLLOWS, ON_FIRST, OPEN, REFUTED, WRONG, case, line_of, lines_of
+from steps.at_random import Formula, changed, random_clause, random_formula, random_own, try_formulas
+from steps.cases import DELETED, FOLLOWS, ON_FIRST, WRONG, line_by, line_of
 
 TRIES = 60
 
@@ -32,16 +31,7 @@ def line_of_hinted(clauses, proof):
     """The line of a case by the plain reader and the plain checker."""
     if not is_hinted(proof):
         return line_of(clauses, proof)
-    checker, marks, steps = HintedChecker(clauses), "", hinted_steps(proof)
-    while not checker.refuted:
-        try:
-            step = next(steps, None)
-        except NoStep as fault:
-            return f"{marks} text at {fault.place}"
-        if step is None:
-            return f"{marks} {OPEN}"
-        marks += done(checker, step)
-    return f"{marks} {REFUTED}"
+    return line_by(HintedChecker(clauses), hinted_steps(proof), done)
 
 
 def found(checker, clause):
@@ -89,8 +79,7 @@ def with_more(rng, checker, hints):
 
 
 def random_steps(rng, variables, clauses):
-    last = rng.choice((variables + 9, 2_000_000_000, MOST))
-    own = rng.sample([variables + 1, variables + 2, variables + 4, last - 1, last], rng.randrange(4))
+    own = random_own(rng, variables)
     names = [*range(1, variables + 1), *own]
     checker, steps = HintedChecker(clauses), []
     for tried in range(TRIES):
@@ -151,43 +140,16 @@ def spelled(rng, steps):
     return b"c 1 0\n\n" + lines[0] + b"\n" + words if lines else b""
 
 
-class Formula:
-    """A random formula and its proofs, with the lines that the program has to print."""
-
-    def __init__(self, seed, number):
-        rng = random.Random(f"hinted {seed} {number}")
-        self.name = f"seed {seed}, formula {number} with hints"
-        variables, clauses = random_formula(rng)
-        self.is_satisfiable = is_satisfiable(variables, clauses)
-        steps, self.has_proof = random_steps(rng, variables, clauses)
-        proofs = [spelled(rng, steps), spelled(rng, wrong_steps(rng, steps))]
-        proofs.append(changed(rng, rng.choice(proofs)))
-        self.wanted = [line_of_hinted(clauses, proof) for proof in proofs]
-        self.cases = [case(variables, clauses, proof) for proof in proofs]
-
-    def why(self, lines):
-        """What is wrong with the lines that the program prints."""
-        if self.is_satisfiable and any(line.endswith(REFUTED) for line in lines):
-            return f"an assignment satisfies it, and it is refuted: {self.cases}"
-        if self.has_proof and not lines[0].endswith(REFUTED):
-            return f"a right proof is refused: {lines[0]}: {self.cases[0]}"
-        return "" if lines == self.wanted else f"{lines}, wanted {self.wanted}: {self.cases}"
+def with_hints(seed, number):
+    """A random formula with its three proofs."""
+    rng = random.Random(f"hinted {seed} {number}")
+    formula = Formula(f"seed {seed}, formula {number} with hints", *random_formula(rng))
+    steps, has_proof = random_steps(rng, formula.variables, formula.clauses)
+    proofs = [spelled(rng, steps), spelled(rng, wrong_steps(rng, steps))]
+    proofs.append(changed(rng, rng.choice(proofs)))
+    formula.wants(has_proof, proofs, [line_of_hinted(formula.clauses, proof) for proof in proofs])
+    return formula
 
 
 def hinted(program, tally, chosen):
-    satisfiable = right = 0
-    counts = dict.fromkeys((DELETED, FOLLOWS, ON_FIRST, WRONG), 0)
-    numbers = [*range(chosen.count)] if chosen.only is None else [chosen.only]
-    for begin in range(0, len(numbers), BATCH):
-        formulas = [Formula(chosen.seed, number) for number in numbers[begin:begin + BATCH]]
-        lines = lines_of(program, [each for formula in formulas for each in formula.cases])
-        for place, formula in enumerate(formulas):
-            three = lines[3 * place:3 * place + 3]
-            why = formula.why(three)
-            tally.check(formula.name, not why, why)
-            satisfiable += formula.is_satisfiable
-            right += formula.has_proof
-            for mark in counts:
-                counts[mark] += sum(line.split(" ")[0].count(mark) for line in three)
-    told = ", ".join(f"{counts[mark]} steps {mark}" for mark in counts)
-    return f"{satisfiable} satisfiable formulas, {right} right proofs with hints, {told}: "
+    return try_formulas(program, tally, chosen, with_hints)
