@@ -1,10 +1,8 @@
 -- A clause that is added on its first literal.
-use Rattle.std.proofs.Common.{◌≡◌, ◌≢◌, ◌⊎◌, inl, inr, ℕ, ◌+◌, ◌-◌, ◌<◌, ◌%◌, Bool, true, false, not, ◌||◌, List, []}
-use Rattle.std.proofs.Common.{◌∷◌, ◌++◌}
-use Rattle.std.proofs.Common.{length, get_or, refl, sym, ap, subst, ◌∙◌, arith}
+use Rattle.std.proofs.Common.{◌≡◌, ◌≢◌, inl, inr, ℕ, ◌+◌, ◌-◌, ◌<◌, ◌%◌, Bool, true, false, not, List, length, get_or}
+use Rattle.std.proofs.Common.{refl, sym, ap, subst, ◌∙◌, arith}
 use Rattle.std.specs.Prelude.{nat_eq, if◌then◌else◌, IsTrue, IfOk, Result, Ok, Err}
-use Rattle.std.proofs.lemmas.List.Folds.{list_any-append, list_any_at}
-use Rattle.std.proofs.lemmas.List.{get_or_past}
+use Rattle.std.proofs.lemmas.List.Folds.{list_any_at}
 use Rattle.std.proofs.lemmas.Bool.{cases_eq, eq-eqb, ne_eqb}
 use Rattle.aig_bytes.specs.declared.fault.Memory.{Memory}
 use Rattle.aig_parts.specs.Literal.{variable, negation}
@@ -70,8 +68,6 @@ known_still v truths l makes unknown unknown_too m known =
     (λ e. unknown (subst (λ (x : ℕ). IsKnown truths x) e known))
     (λ e. unknown_too (subst (λ (x : ℕ). IsKnown truths x) e known))
     ∙ makes m known
-
--- ---- resolvents
 
 -- ---- candidates
 

@@ -235,10 +235,6 @@ abbrev pub FindsFrom : List ℕ → ℕ → ℕ → ℕ → List ℕ → Type 0
 FindsFrom words end read literal found =
     (p k : ℕ) → end ≤ p + read → StandsAt words p → k < size_at words p → literal_at words p k ≡ literal → IsIn found p
 
-pub finds_first : (words : List ℕ) (end literal : ℕ) (found : List ℕ) → IsLaidOut words → end ≡ length words
-    → FindsFrom words end 0 literal found
-finds_first words end literal found laid e p k above stands inside is = absurd (omega (arith, (laid p stands).0, above, e))
-
 pub finds_next : (words : List ℕ) (end read literal : ℕ) (found now : List ℕ)
     → ((p : ℕ) → IsIn found p → IsIn now p) → FindsFrom words end read literal found
     → ((k : ℕ) → StandsAt words (end - 1 - read) → k < size_at words (end - 1 - read)
@@ -253,14 +249,6 @@ finds_next words end read literal found now kept finds here p k above stands ins
           (here k) stands inside is
     ]
 
-pub finds_whole : (words : List ℕ) (end start literal : ℕ) (found : List ℕ)
-    → ((p k : ℕ) → p < start → StandsAt words p → k < size_at words p → literal_at words p k ≢ literal)
-    → FindsFrom words end (end - start) literal found → FindsAll words literal found
-finds_whole words end start literal found none finds p k stands inside is = elim (cases_lt p start) [
-  | inl below ↦ absurd (none p k below stands inside is)
-  | inr above ↦ finds p k (omega (arith, above)) stands inside is
-]
-
 -- ---- words that change
 
 -- no clause comes to stand
@@ -272,60 +260,12 @@ lists_shrunk heads links old new end s lists p k below stands inside =
     subst (λ (l : ℕ). Lists heads links l p) (sym same)
     (lists p k below (omega (arith, e, stands)) (omega (arith, e, inside)))
 
-pub laid_shrunk : (old new : List ℕ) → Shrinks old new → length old ≤ length new → IsLaidOut old → IsLaidOut new
-laid_shrunk old new s len laid p now =
-    let e : get_or new p 0 ≡ get_or old p 0 = s.heads p now in
-    let was = laid p (omega (arith, e, now)) in (
-      omega (arith, len, e, was.0),
-      λ q from to. elim (cases_lt (get_or new q 0) 0x8000_0000) [
-        | inl less ↦ less
-        | inr more ↦ absurd (omega (arith, s.heads q more, was.1 q from (omega (arith, e, to)), more))
-      ],
-    )
-
 pub finds_shrunk : (old new : List ℕ) (literal : ℕ) (found : List ℕ) → Shrinks old new → FindsAll old literal found
     → FindsAll new literal found
 finds_shrunk old new literal found s finds p k stands inside is =
     let e : get_or new p 0 ≡ get_or old p 0 = s.heads p stands in
     let same : get_or new (p + (4 + k)) 0 ≡ get_or old (p + (4 + k)) 0 = s.rest p (p + (4 + k)) stands (omega arith) (omega (arith, inside)) in
     finds p k (omega (arith, e, stands)) (omega (arith, e, inside)) (sym same ∙ is)
-
--- another word of a clause is written
-pub written_shrinks : (words : List ℕ) (n offset x : ℕ) → IsLaidOut words → StandsAt words n → 0 < offset → offset < 4
-    → x < 0x8000_0000 → Shrinks words (set words (n + offset) x)
-written_shrinks words n offset x laid stands more less small = record {
-  heads = λ p now. get_or-set_other words (n + offset) p x 0 (other p now);
-  rest = λ p q now from to. get_or-set_other words (n + offset) q x 0 (λ e.
-      let was : get_or (set words (n + offset) x) p 0 ≡ get_or words p 0 =
-      get_or-set_other words (n + offset) p x 0 (other p now) in
-      elim (cases_lt p n) [
-        | inl below ↦ omega (arith, (laid p (omega (arith, was, now))).1 n below (omega (arith, was, e, to)), stands)
-        | inr above ↦ omega (arith, e, from, above, less)
-      ]);
-}
-  where
-    other : (p : ℕ) → StandsAt (set words (n + offset) x) p → p ≢ n + offset
-    other p now e =
-        let inside : n + offset < length words = omega (arith, (laid n stands).0, less) in
-        let is : get_or (set words (n + offset) x) p 0 ≡ x =
-        ap (λ i. get_or (set words (n + offset) x) i 0) e ∙ get_or-set_same words (n + offset) x 0 inside in
-        omega (arith, is, now, small)
-
--- a clause is deleted
-pub removed_shrinks : (words : List ℕ) (n : ℕ) → IsLaidOut words → StandsAt words n → Shrinks words (set words n 0)
-removed_shrinks words n laid stands = record {
-  heads = λ p now. get_or-set_other words n p 0 0 (other p now);
-  rest = λ p q now from to. get_or-set_other words n q 0 0 (λ e.
-      let was : get_or (set words n 0) p 0 ≡ get_or words p 0 = get_or-set_other words n p 0 0 (other p now) in
-      omega (arith, (laid p (omega (arith, was, now))).1 n (omega (arith, e, from)) (omega (arith, was, e, to)), stands));
-}
-  where
-    other : (p : ℕ) → StandsAt (set words n 0) p → p ≢ n
-    other p now e =
-        let inside : n < length words = omega (arith, (laid n stands).0) in
-        let is : get_or (set words n 0) p 0 ≡ 0 =
-        ap (λ i. get_or (set words n 0) i 0) e ∙ get_or-set_same words n 0 0 inside in
-        omega (arith, is, now)
 
 pub append_lists : (heads : List ℕ) (links : List Link) (words tail : List ℕ) (end : ℕ) → IsLaidOut words
     → AreLiterals tail → ListsAll heads links words end → ListsAll heads links (words ++ tail) end
@@ -361,21 +301,6 @@ lists_stand heads links words n size end is before lists p k below now inside =
 
 -- ---- candidates
 
--- the literal is one of the first n of the clause at p, or none of them
-has_or_lacks : (words : List ℕ) (p lie n : ℕ)
-    → ((k : ℕ) × (k < n) × (literal_at words p k ≡ lie)) ⊎ ((k : ℕ) → k < n → literal_at words p k ≢ lie)
-has_or_lacks words p lie zero = inr (λ k inside. absurd (omega (arith, inside)))
-has_or_lacks words p lie (suc n) = elim (has_or_lacks words p lie n) [
-  | inl (k, inside, is) ↦ inl (k, omega (arith, inside), is)
-  | inr none ↦ elim (cases_eq (literal_at words p n) lie) [
-    | inl is ↦ inl (n, omega arith, is)
-    | inr ne ↦ inr (λ k inside. elim (cases_eq k n) [
-      | inl e ↦ subst (λ (x : ℕ). literal_at words p x ≢ lie) (sym e) ne
-      | inr other ↦ none k (omega (arith, other, inside))
-    ])
-  ]
-]
-
 -- one more place, from the last one on
 pub settled_next : (old mid new : Propagator) (clause : List ℕ) (lie count tried : ℕ) (before now : List ℕ) → now ≡ before
     → Narrows old mid → Narrows mid new
@@ -388,19 +313,6 @@ settled_next old mid new clause lie count tried before now e first second were i
           (subst (λ (x : ℕ). IsSettled mid new clause lie (get_or before x 0)) (sym at) is)
       | inr ne ↦ settled_later old mid new clause lie (get_or before j 0) (were j (omega (arith, ne, above)) below) second
     ])
-
--- a clause that was not found does not have the literal
-pub settled_all : (old new : Propagator) (clause : List ℕ) (lie : ℕ) (found : List ℕ)
-    → FindsAll new.clauses.words.items lie found
-    → ((j : ℕ) → j < length found → IsSettled old new clause lie (get_or found j 0))
-    → (p : ℕ) → IsSettled old new clause lie p
-settled_all old new clause lie found finds settled p v a untrue stands =
-    elim (has_or_lacks new.clauses.words.items p lie (size_at new.clauses.words.items p)) [
-      | inr none ↦ inl none
-      | inl (k, inside, is) ↦
-          let (j, there, at) = finds p k stands inside is in
-          subst (λ (x : ℕ). IsSettled old new clause lie x) at (settled j there) v a untrue stands
-    ]
 
 -- the same of what a search returns, where it begins after the clauses were found
 pub settled_since : (r : Result Bool Memory) (old mid new : Propagator) (clause : List ℕ) (lie : ℕ) → Narrows old mid

@@ -1,4 +1,3 @@
-use Rattle.std.proofs.Common.{refl}
 use Rattle.aig_sat.proofs.checking.ListingLemmas.{finds_next}
 use Rattle.aig_sat.proofs.checker.clauses.Clauses.scan.Goals as goal
 
