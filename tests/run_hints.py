@@ -3,14 +3,13 @@
 a program in C++ makes of proofs in DRAT. A part that needs a compiler of C++ is left out where there is none."""
 
 from hints.formulas import formulas, options
-from hints.hostile import early, hostile
+from hints.hostile import hostile
 from hints.pipes import pipes
 from hints.sizes import sizes
 from hints.translated import translated
 from library import runs
 
-PARTS = {"formulas": formulas, "translated": translated, "sizes": sizes, "pipes": pipes, "hostile": hostile,
-         "early": early}
+PARTS = {"formulas": formulas, "translated": translated, "sizes": sizes, "pipes": pipes, "hostile": hostile}
 
 if __name__ == "__main__":
-    runs.main(__doc__, PARTS, outside=("early", ), options=options)
+    runs.main(__doc__, PARTS, options=options)

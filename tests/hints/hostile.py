@@ -1,7 +1,6 @@
 """Proofs with hints that were written to be slow to check, of 1 and 4 MB. Their steps are right, and none refutes the
 formula. The time of a proof of S bytes may grow as S times its square root, and no more: so one of 4 MB takes at most
-eight times as long as one of 1 MB, and neither takes longer than these seconds of processor time. One family takes
-longer today, as docs/NEXT.md says; the part `early` has it."""
+eight times as long as one of 1 MB, and neither takes longer than these seconds of processor time."""
 
 from library.runs import EXAMPLES, refused, write
 from library.times import processor_time
@@ -14,11 +13,10 @@ MOST_SECONDS = {1: 3, 4: 15}
 GROWTH, SLACK = 8, 0.5
 TURNS = 2
 ASKED = ["--frames", "20", "--property", "1", f"{EXAMPLES}/queue.aig"]
-EARLY_SIZES = (0.25, 0.5, 1)
 
 
 class Proof:
-    """Lines of a proof, up to a size. Numbers of clauses and of variables are the next ones."""
+    """Lines of a proof with hints, up to a size. Numbers of clauses and of variables are the next ones."""
 
     def __init__(self, clauses, variables, size):
         self.number, self.variable, self.left, self.lines = clauses, variables + 1, size, []
@@ -93,9 +91,9 @@ def deletions(proof):
         proof.left -= len(text) + 1
 
 
-def early_variable(proof):
+def early(proof):
     """Clauses on a first literal whose variable has a clause at the beginning. Each is right, as no clause has the
-    negation, and to know that the checker reads all clauses since then."""
+    negation. A checker that reads all clauses since then to know that takes the square of the size."""
     first = proof.own(1)[0]
     half = proof.left // 2
     proof.add([first, *proof.own(1)], [])
@@ -105,7 +103,7 @@ def early_variable(proof):
         proof.add([first, *proof.own(1)], [])
 
 
-FAMILIES = (again, many, one_step, groups, gaps, deletions)
+FAMILIES = (again, many, one_step, groups, gaps, deletions, early)
 
 
 def seconds(program, tally, name, words):
@@ -122,28 +120,21 @@ def timed(program, tally, family, size):
     """The time of a proof of a family, of so many MB."""
     header = next(line for line in program.run("cnf", *ASKED).out.split(b"\n") if line.startswith(b"p cnf "))
     variables, clauses = map(int, header.split()[2:])
-    proof = Proof(clauses, variables, int(size * MEGABYTE))
+    proof = Proof(clauses, variables, size * MEGABYTE)
     family(proof)
     write("proof", "\n".join(proof.lines) + "\n")
     return seconds(program, tally, f"{family.__name__}, {size} MB", ["refute", *ASKED, "proof"])
 
 
-def early(program, tally, _):
-    """A family of proofs whose time still grows as the square of their size."""
-    times = {size: timed(program, tally, early_variable, size) for size in EARLY_SIZES}
-    return f"{', '.join(f'{size} MB {taken:.2f} s' for size, taken in times.items())}: "
-
-
 def hostile(program, tally, _):
     told = []
     for family in FAMILIES:
-        found = {}
+        name, found = family.__name__, {}
         for size in SIZES:
-            name = f"{family.__name__}, {size} MB"
             found[size] = timed(program, tally, family, size)
-            tally.check(f"hostile: {name}: its time", found[size] <= MOST_SECONDS[size], f"{found[size]:.2f} s")
+            tally.check(f"hostile: {name}, {size} MB: its time", found[size] <= MOST_SECONDS[size], f"{found[size]:.2f} s")
         one, four = (found[size] for size in SIZES)
         shown = f"{one:.2f} and {four:.2f} s"
-        tally.check(f"hostile: {family.__name__}: its growth", four <= GROWTH * one + SLACK, shown)
-        told.append(f"{family.__name__} {shown}")
+        tally.check(f"hostile: {name}: its growth", four <= GROWTH * one + SLACK, shown)
+        told.append(f"{name} {shown}")
     return f"{', '.join(told)}: "
