@@ -2,6 +2,7 @@
 -- Example: where the words are `aig refute --frames 20 CIRCUIT PROOF`, status 0 says that `Refute` ended well, and that
 -- its K is 20.
 use Rattle.std.specs.Prelude.{◌≡◌, ℕ, List, Option, Result, Ok, Err, IfOk, ⊤}
+use Rattle.aig_bytes.specs.Flow.{Flow}
 use Rattle.clap.specs.declared.parser.matches.ArgMatches.{ArgMatches}
 use Rattle.aig_command.specs.declared.run_fault.RunFault.TheVariants as run_faults
 use Rattle.aig_cli.specs.Held.{HoldsSubcommand}
@@ -13,6 +14,7 @@ use Rattle.aig_files.specs.declared.exit.Exit.TheVariants as exits
 use Rattle.aig_files.specs.declared.source.Source.{Source}
 use Rattle.aig.specs.Chosen.{HoldsOptions, command_name}
 use Rattle.aig.specs.Commands.{EndsAsMeant}
+use Rattle.aig.specs.Ends.{Seen}
 use Rattle.aig.specs.declared.command.Command.{Command}
 
 -- the arguments choose a command: it is that of their subcommand, with its options
@@ -22,16 +24,17 @@ Chooses matches command =
     × HoldsOptions own command
 
 -- a command that was opened ends as it means; where none was, the run ends with the exit that says so
-abbrev pub EndsAsOpened : {F : Type 0} → (F → Option (List ℕ)) → Result (Command F) Exit → Result (Unit {0}) Exit
+abbrev pub EndsAsOpened : {F : Type 0} → Flow Seen → (F → Option (List ℕ)) → Result (Command F) Exit
+    → Result (Unit {0}) Exit
     → Type 0
-EndsAsOpened left (Ok command) result = EndsAsMeant left command result
-EndsAsOpened left (Err exit) result = result ≡ Err exit
+EndsAsOpened out left (Ok command) result = EndsAsMeant out left command result
+EndsAsOpened out left (Err exit) result = result ≡ Err exit
 
--- a run ends as its arguments mean, where the type of a file says which bytes it has left
+-- a run ends as its arguments mean, where the type of a file says which bytes it has left, for some writer
 abbrev pub RunsAsMeant : {F : Type 0} → (F → Option (List ℕ)) → ArgMatches → Result (Unit {0}) Exit → Type 0
 RunsAsMeant {F} left matches result =
     (opened : Result (Command (Source F)) Exit) × IfOk opened (Chooses matches)
-    × EndsAsOpened (source_remaining left) opened result
+    × ((out : Flow Seen) × EndsAsOpened out (source_remaining left) opened result)
 
 -- the arguments are not parsed: they are wrong or no text, or memory or a descriptor is missing
 abbrev pub IsUnparsed : Exit → Type 0

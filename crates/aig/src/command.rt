@@ -1,5 +1,6 @@
 //! A command with its options and its open files, and what it runs.
 ghost use Rattle.aig.specs.Commands.{EndsAsMeant};
+ghost use Rattle.aig.specs.Ends.{seen};
 
 use crate::certificates::strengthen;
 use crate::circuits::{info, info_names, select, select_named, toaig, unroll, unroll_and_map};
@@ -8,7 +9,7 @@ use crate::simulations::{bench, sim, wave};
 use crate::solvers::{cnf, model_witness, refute};
 use crate::why::why;
 use crate::witnesses::{check, reduce, wave_witness, witness};
-use aig_base::PropertySection;
+use aig_base::{PropertySection, Write};
 use aig_command::Given;
 use aig_commands::question::Question;
 use aig_files::{Exit, Kept, Terminal};
@@ -223,42 +224,38 @@ pub enum Command<'a, F> {
 }
 
 impl<F: Read + Drop> Command<'_, F> {
-    /// Runs the command, and writes its results to standard output.
-    pub fn run<R: Files + AllocGlobal + Print + Eprint + Clock + Input>(
+    /// Runs the command, and writes its results.
+    pub fn run<R: Files + AllocGlobal + Print + Eprint + Clock + Input, W: Write>(
         self,
         terminal: &Terminal<'_, R>,
+        out: &mut W,
     ) -> Result<(), Exit>
     where
         R::File: AsFd,
-        ensures ends { EndsAsMeant F.remaining self.entry result }
+        ensures ends { EndsAsMeant (seen W.written W.failures out.old out.new) F.remaining self.entry result }
     {
+        let alloc = terminal.alloc();
         match self {
-            Command::Toaig(it) => toaig(terminal, it.to, it.circuit),
-            Command::Sim(it) => sim(terminal, it.circuit, it.stimulus),
-            Command::Wave(it) => wave(terminal, it.circuit, it.stimulus),
-            Command::WaveWitness(it) => wave_witness(terminal, it.circuit, it.witness),
-            Command::Bench(it) => bench(terminal, it.circuit, it.stimulus, it.script, it.kept),
-            Command::Shell(it) => shell(terminal, it.circuit, it.given),
-            Command::Unroll(it) => unroll(terminal, it.frames, it.to, it.circuit),
-            Command::UnrollAndMap(it) => unroll_and_map(terminal, it),
-            Command::Check(it) => {
-                check(terminal, it.with_trace, it.property, it.circuit, it.witness)
-            }
-            Command::Cnf(it) => cnf(terminal, it.question, it.circuit),
-            Command::Info(it) => info(terminal, it.circuit),
-            Command::InfoNames(it) => info_names(terminal, it.circuit),
-            Command::Select(it) => select(terminal, it.selection, it.to, it.circuit),
-            Command::SelectNamed(it) => {
-                select_named(terminal, it.selection, it.to, it.circuit, it.names)
-            }
-            Command::Witness(it) => witness(terminal, it.property, it.circuit, it.stimulus),
-            Command::ModelWitness(it) => model_witness(terminal, it.question, it.circuit, it.model),
-            Command::Refute(it) => refute(terminal, it.question, it.circuit, it.proof, it.step),
-            Command::Reduce(it) => reduce(terminal, it.circuit, it.witness),
-            Command::Why(it) => why(terminal, it.name, it.span, it.circuit, it.given),
-            Command::Strengthen(it) => {
-                strengthen(terminal, it.property, it.to, it.circuit, it.certificate)
-            }
+            Command::Toaig(it) => toaig(alloc, it, out),
+            Command::Sim(it) => sim(alloc, it, out),
+            Command::Wave(it) => wave(alloc, it, out),
+            Command::WaveWitness(it) => wave_witness(alloc, it, out),
+            Command::Bench(it) => bench(terminal, it, out),
+            Command::Shell(it) => shell(terminal, it, out),
+            Command::Unroll(it) => unroll(alloc, it, out),
+            Command::UnrollAndMap(it) => unroll_and_map(terminal, it, out),
+            Command::Check(it) => check(alloc, it, out),
+            Command::Cnf(it) => cnf(alloc, it, out),
+            Command::Info(it) => info(alloc, it, out),
+            Command::InfoNames(it) => info_names(alloc, it, out),
+            Command::Select(it) => select(alloc, it, out),
+            Command::SelectNamed(it) => select_named(alloc, it, out),
+            Command::Witness(it) => witness(alloc, it, out),
+            Command::ModelWitness(it) => model_witness(alloc, it, out),
+            Command::Refute(it) => refute(alloc, it, out),
+            Command::Reduce(it) => reduce(alloc, it, out),
+            Command::Why(it) => why(alloc, it, out),
+            Command::Strengthen(it) => strengthen(alloc, it, out),
         }
     }
 }

@@ -2,6 +2,7 @@
 #![tactic(auto)]
 
 ghost use Rattle.std.specs.Prelude.{◌≡◌, ℕ, List, IfOk, Ok, map};
+ghost use Rattle.aig.specs.Ends.{seen};
 ghost use Rattle.aig.specs.Program.{Chooses, EndsAsOpened, Runs, RunsAsMeant, status_of_end};
 
 mod arguments;
@@ -20,9 +21,10 @@ mod solvers;
 mod why;
 mod witnesses;
 
+use aig_base::Write;
 use aig_cli::has_general_flag;
 use aig_explain::{explain, is_asked_for};
-use aig_files::{Exit, Source, Terminal, Terminals, Tracked, reserve};
+use aig_files::{Exit, Source, Terminal, Terminals, Tracked, output, reserve};
 use arguments::{parsed, with_fault};
 use chosen::open_chosen;
 use clap::ArgMatches;
@@ -114,20 +116,22 @@ where
     R::File: AsFd,
     ensures ends { RunsAsMeant R.File.remaining matches.now result }
 {
-    run_opened(terminal, command_for(terminal, matches))
+    let mut out = output(terminal);
+    run_opened(terminal, command_for(terminal, matches), &mut out)
 }
 
 /// Runs the command that was opened, if one was.
-fn run_opened<R: Files + AllocGlobal + Print + Eprint + Clock + Input, F: Read + Drop>(
+fn run_opened<R: Files + AllocGlobal + Print + Eprint + Clock + Input, F: Read + Drop, W: Write>(
     terminal: &Terminal<'_, R>,
     opened: Result<Command<'_, F>, Exit>,
+    out: &mut W,
 ) -> Result<(), Exit>
 where
     R::File: AsFd,
-    ensures ends { EndsAsOpened F.remaining opened.entry result }
+    ensures ends { EndsAsOpened (seen W.written W.failures out.old out.new) F.remaining opened.entry result }
 {
     match opened {
-        Ok(command) => command.run(terminal),
+        Ok(command) => command.run(terminal, out),
         Err(exit) => Err(exit),
     }
 }

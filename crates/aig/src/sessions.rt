@@ -1,14 +1,15 @@
 //! `shell`: a session over the terminal of its user.
 ghost use Rattle.aig_command.specs.Given.{given_text};
-ghost use Rattle.aig.specs.Ends.{Ends, end_of};
+ghost use Rattle.aig.specs.Ends.{Ends, end_of, seen};
 ghost use Rattle.aig.specs.Sessions.{EndsSession, HoldsSession};
 
+use crate::command::Shell;
 use crate::ended::ended;
 use crate::given_file::{read_given_file, text_of_given};
 use crate::kept::{Failure, keep_texts};
-use aig_base::Std;
+use aig_base::{Std, Write};
 use aig_command::{Given, RunFault};
-use aig_files::{Exit, Kept, Part, Terminal, Unwritten, output, read_whole};
+use aig_files::{Exit, Kept, Part, Terminal, Unwritten, read_whole};
 use aig_shell::{FileText, Keep, Opening, Reason, Unkept, run_shell};
 use std::fs::Files;
 use std::io::{ErrorKind, Read};
@@ -94,31 +95,32 @@ where
 }
 
 /// Answers the lines of standard input, about the circuit and the run of these files.
-pub fn shell<R: Files + AllocGlobal + Print + Eprint + Clock + Input, F: Read + Drop>(
+pub fn shell<R: Files + AllocGlobal + Print + Eprint + Clock + Input, F: Read + Drop, W: Write>(
     terminal: &Terminal<'_, R>,
-    circuit: F,
-    given: Given<F>,
+    it: Shell<F>,
+    out: &mut W,
 ) -> Result<(), Exit>
 where
     R::File: AsFd,
-    ensures ends { EndsSession F.remaining circuit given result }
+    ensures ends { EndsSession (seen W.written W.failures out.old out.new) F.remaining it.circuit it.given result }
 {
-    let circuit = read_whole(terminal.alloc(), circuit, Part::Circuit)?;
-    let given = read_given_file(terminal.alloc(), given)?;
+    let circuit = read_whole(terminal.alloc(), it.circuit, Part::Circuit)?;
+    let given = read_given_file(terminal.alloc(), it.given)?;
     let file = circuit.as_slice();
     let run = text_of_given(&given);
-    answer(terminal, file, run)
+    answer(terminal, file, run, out)
 }
 
 /// Answers the lines.
-fn answer<R: Files + AllocGlobal + Print + Eprint + Clock + Input>(
+fn answer<R: Files + AllocGlobal + Print + Eprint + Clock + Input, W: Write>(
     terminal: &Terminal<'_, R>,
     circuit: &[u8],
     given: Given<&[u8]>,
+    out: &mut W,
 ) -> Result<(), Exit>
 where
     R::File: AsFd,
-    ensures { Ends end_of (HoldsSession circuit.now (given_text given.entry)) result }
+    ensures { Ends (seen W.written W.failures out.old out.new) RunFault.Shell end_of (HoldsSession circuit.now (given_text given.entry)) result }
 {
     // The line that says how far a run is would stand between a person's lines.
     terminal.end();
@@ -126,12 +128,11 @@ where
         rt: terminal.runtime(),
     };
     let mut lines = Std::new(terminal.runtime().reader());
-    let mut out = output(terminal);
     let opening = Opening {
         circuit,
         given,
         has_prompt: terminal.has_person(),
     };
-    let done = run_shell(terminal.alloc(), opening, &mut files, &mut lines, &mut out);
-    ended(done, &mut out, RunFault::Shell)
+    let done = run_shell(terminal.alloc(), opening, &mut files, &mut lines, out);
+    ended(done, out, RunFault::Shell)
 }

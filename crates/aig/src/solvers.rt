@@ -1,88 +1,80 @@
 //! The commands with a SAT solver: the formula of a question, the witness of its model, and the check of its proofs.
 ghost use Rattle.std.specs.Prelude.{ℕ, IfSome, List, OnOk};
 ghost use Rattle.aig_commands.specs.Questions.{NamesQuestion, RefutesQuestion, Says, WritesQuestion};
-ghost use Rattle.aig.specs.Ends.{Ends, end_of};
+ghost use Rattle.aig.specs.Ends.{Ends, end_of, seen};
 ghost use Rattle.aig.specs.Questions.{asked_by, claims_left};
 
+use crate::command::{Cnf, ModelWitness, Refute};
 use crate::ended::ended;
 use crate::questions::read_claims;
-use aig_base::Std;
+use aig_base::{Std, Write};
 use aig_command::RunFault;
-use aig_commands::question::Question;
 use aig_commands::refute::Proofs;
 use aig_commands::{cnf, model_witness, refute};
-use aig_files::{Exit, Part, output, read_whole};
+use aig_files::{Exit, Part, read_whole};
+use std::alloc::Global;
 use std::io::Read;
 
 /// Writes the formula of a question.
-pub fn cnf<R: AllocGlobal + Print, F: Read + Drop>(
-    rt: &R,
-    question: Question<F>,
-    circuit: F,
-) -> Result<(), Exit>
-    ensures ends { IfSome (F.remaining circuit) (λ file. IfSome (claims_left F.remaining question) (λ claims.
-        Ends end_of (WritesQuestion (asked_by question (λ certificate. claims)) file) result)) }
+pub fn cnf<F: Read + Drop, W: Write>(alloc: Global, it: Cnf<F>, out: &mut W) -> Result<(), Exit>
+    ensures ends { IfSome (F.remaining it.circuit) (λ file. IfSome (claims_left F.remaining it.question) (λ claims.
+        Ends (seen W.written W.failures out.old out.new) RunFault.Output end_of (WritesQuestion (asked_by it.question (λ certificate. claims)) file) result)) }
 {
-    let circuit = read_whole(rt.alloc(), circuit, Part::Circuit)?;
-    let shape = question.with(());
-    let claims = read_claims(rt.alloc(), question)?;
+    let circuit = read_whole(alloc, it.circuit, Part::Circuit)?;
+    let shape = it.question.with(());
+    let claims = read_claims(alloc, it.question)?;
     let file = circuit.as_slice();
     let bytes = claims.as_slice();
     let asked = shape.with(bytes);
-    let mut out = output(rt);
-    let done = cnf::cnf(rt.alloc(), file, asked, &mut out);
-    ended(done, &mut out, RunFault::Output)
+    let done = cnf::cnf(alloc, file, asked, out);
+    ended(done, out, RunFault::Output)
 }
 
 /// Writes the witness of the run that a solver's model of the question's formula names.
-pub fn model_witness<R: AllocGlobal + Print, F: Read + Drop>(
-    rt: &R,
-    question: Question<F>,
-    circuit: F,
-    model: F,
+pub fn model_witness<F: Read + Drop, W: Write>(
+    alloc: Global,
+    it: ModelWitness<F>,
+    out: &mut W,
 ) -> Result<(), Exit>
-    ensures ends { IfSome (F.remaining circuit) (λ file. IfSome (claims_left F.remaining question) (λ claims.
-        IfSome (F.remaining model) (λ text.
-        Ends end_of (NamesQuestion (asked_by question (λ certificate. claims)) text file) result))) }
+    ensures ends { IfSome (F.remaining it.circuit) (λ file. IfSome (claims_left F.remaining it.question) (λ claims.
+        IfSome (F.remaining it.model) (λ text.
+        Ends (seen W.written W.failures out.old out.new) RunFault.Output end_of
+        (NamesQuestion (asked_by it.question (λ certificate. claims)) text file) result))) }
 {
-    let circuit = read_whole(rt.alloc(), circuit, Part::Circuit)?;
-    let shape = question.with(());
-    let claims = read_claims(rt.alloc(), question)?;
-    let model = read_whole(rt.alloc(), model, Part::Model)?;
+    let circuit = read_whole(alloc, it.circuit, Part::Circuit)?;
+    let shape = it.question.with(());
+    let claims = read_claims(alloc, it.question)?;
+    let model = read_whole(alloc, it.model, Part::Model)?;
     let file = circuit.as_slice();
     let bytes = claims.as_slice();
     let asked = shape.with(bytes);
     let text = model.as_slice();
-    let mut out = output(rt);
-    let done = model_witness::model_witness(rt.alloc(), file, asked, text, &mut out);
-    ended(done, &mut out, RunFault::Output)
+    let done = model_witness::model_witness(alloc, file, asked, text, out);
+    ended(done, out, RunFault::Output)
 }
 
 /// Checks a proof about the question's formula, and writes the answer. The file `step` has the proof of the step of an
 /// induction.
-pub fn refute<R: AllocGlobal + Print, F: Read + Drop>(
-    rt: &R,
-    question: Question<F>,
-    circuit: F,
-    proof: F,
-    step: F,
+pub fn refute<F: Read + Drop, W: Write>(
+    alloc: Global,
+    it: Refute<F>,
+    out: &mut W,
 ) -> Result<(), Exit>
-    ensures says { OnOk result (IfSome (F.remaining circuit)
-        (λ file. (claims : List ℕ) × Says (asked_by question (λ certificate. claims)) file)) }
-    ensures ends { IfSome (F.remaining circuit) (λ file. IfSome (claims_left F.remaining question) (λ claims.
-        Ends end_of (RefutesQuestion (asked_by question (λ certificate. claims)) file) result)) }
+    ensures says { OnOk result (IfSome (F.remaining it.circuit)
+        (λ file. (claims : List ℕ) × Says (asked_by it.question (λ certificate. claims)) file)) }
+    ensures ends { IfSome (F.remaining it.circuit) (λ file. IfSome (claims_left F.remaining it.question) (λ claims.
+        Ends (seen W.written W.failures out.old out.new) RunFault.Output end_of (RefutesQuestion (asked_by it.question (λ certificate. claims)) file) result)) }
 {
-    let circuit = read_whole(rt.alloc(), circuit, Part::Circuit)?;
-    let shape = question.with(());
-    let claims = read_claims(rt.alloc(), question)?;
+    let circuit = read_whole(alloc, it.circuit, Part::Circuit)?;
+    let shape = it.question.with(());
+    let claims = read_claims(alloc, it.question)?;
     let file = circuit.as_slice();
     let bytes = claims.as_slice();
     let asked = shape.with(bytes);
     let mut proofs = Proofs {
-        proof: Std::new(proof),
-        step: Std::new(step),
+        proof: Std::new(it.proof),
+        step: Std::new(it.step),
     };
-    let mut out = output(rt);
-    let done = refute::refute(rt.alloc(), file, asked, &mut proofs, &mut out);
-    ended(done, &mut out, RunFault::Output)
+    let done = refute::refute(alloc, file, asked, &mut proofs, out);
+    ended(done, out, RunFault::Output)
 }
