@@ -1,10 +1,14 @@
 -- Which options a command has, by what the matches of the parser hold for it.
 -- Example: `refute --frames 20 --property 1`: K is 20 and P is 1.
-use Rattle.std.specs.Prelude.{◌≡◌, ◌⊎◌, ℕ, List, Bool, true, false, Option, None, Some, codes, is_some, option_map, ⊤}
+use Rattle.std.specs.Prelude.{◌≡◌, ◌≢◌, ◌⊎◌, ℕ, List, [], Bool, true, false, Option, None, Some, codes, is_some, length}
+use Rattle.std.specs.Prelude.{option_map, slice_get, ⊤}
 use Rattle.std.specs.Option.{unwrap_or}
-use Rattle.clap.specs.Matches.{first_value, found_of}
+use Rattle.clap.specs.Matches.{first_value, found_of, matched_of, raw_values}
 use Rattle.clap.specs.declared.parser.matches.ArgMatches.{ArgMatches}
-use Rattle.aig_base.specs.declared.select.PropertySection.TheVariants.{Bad}
+use Rattle.aig_base.specs.declared.select.PropertySection.{PropertySection}
+use Rattle.aig_base.specs.declared.select.PropertySection.TheVariants.{Bad, Outputs}
+use Rattle.aig_format.specs.declared.reader.header.Format.{Format}
+use Rattle.aig_format.specs.declared.reader.header.Format.TheVariants.{Ascii, Binary}
 use Rattle.aig_signals.specs.Property.{IsNumbered}
 use Rattle.aig_command.specs.Position.{IsPositionIn}
 use Rattle.aig_files.specs.Source.{source_remaining}
@@ -15,14 +19,51 @@ use Rattle.aig_commands.specs.declared.question.Question.TheVariants as question
 use Rattle.aig_why.specs.declared.command.Span.{Span}
 use Rattle.aig.specs.GivenFiles.{IsWitness}
 use Rattle.aig.specs.declared.command.Command.{Command}
+use Rattle.aig.specs.declared.command.Selection.{Selection}
 use Rattle.aig.specs.declared.command.Command.TheVariants as commands
 
--- a text names the bad state property at this position: by its number, or else by its name in the circuit that is read,
--- whose bytes are all there
+-- the format to write has the name that is given
+abbrev pub format_name : Format → List ℕ
+format_name Ascii = codes "aag"
+format_name Binary = codes "aig"
+
+abbrev pub HoldsFormat : ArgMatches → Format → Type 0
+HoldsFormat matches format = first_value (found_of matches) (codes "FORMAT") ≡ Some (format_name format)
+
+-- the section that an option names: the outputs for `outputs` alone
+abbrev pub HoldsSection : ArgMatches → List ℕ → PropertySection → Type 0
+HoldsSection matches name Outputs = first_value (found_of matches) name ≡ Some (codes "outputs")
+HoldsSection matches name Bad = first_value (found_of matches) name ≢ Some (codes "outputs")
+
+-- a text names the property of a section at this position: by its number, or else by its name in the circuit that is
+-- read, whose bytes are all there
+abbrev pub NamesIn : {F : Type 0} → PropertySection → List ℕ → Source F → ℕ → Type 0
+NamesIn section text circuit property =
+    IsNumbered section text property
+    ⊎ ((file : List ℕ) × (source_remaining (λ file. None) circuit ≡ Some file) × IsPositionIn file section text property)
+
+-- the bad state property
 abbrev pub NamesProperty : {F : Type 0} → List ℕ → Source F → ℕ → Type 0
-NamesProperty text circuit property =
-    IsNumbered Bad text property
-    ⊎ ((file : List ℕ) × (source_remaining (λ file. None) circuit ≡ Some file) × IsPositionIn file Bad text property)
+NamesProperty text circuit property = NamesIn Bad text circuit property
+
+-- the properties to keep, in the order of their texts
+abbrev pub property_texts : ArgMatches → List (List ℕ)
+property_texts matches = unwrap_or (option_map raw_values (matched_of (found_of matches) (codes "P"))) []
+
+-- each text names the position that stands where it does
+abbrev pub AreEach : (List ℕ → ℕ → Type 0) → List (List ℕ) → List ℕ → Type 0
+AreEach Names texts positions =
+    (length positions ≡ length texts)
+    × ((i p : ℕ) (text : List ℕ) → slice_get texts i ≡ Some text → slice_get positions i ≡ Some p → Names text p)
+
+abbrev pub AreNamedIn : {F : Type 0} → PropertySection → List (List ℕ) → Source F → List ℕ → Type 0
+AreNamedIn section texts circuit positions = AreEach (λ text p. NamesIn section text circuit p) texts positions
+
+-- which properties of a circuit are kept, and where
+abbrev pub HoldsSelection : {F : Type 0} → ArgMatches → Source F → Selection → Type 0
+HoldsSelection matches circuit selection =
+    HoldsSection matches (codes "from") selection.from × HoldsSection matches (codes "as") selection.into
+    × AreNamedIn selection.from (property_texts matches) circuit selection.positions.items
 
 -- the text of the property: `0` where it is left out
 abbrev pub property_text : ArgMatches → List ℕ
@@ -78,26 +119,30 @@ HoldsSpan matches span = HoldsNumber matches (codes "T") span.frame × HoldsNumb
 
 -- The numbers of a command are those that the matches hold, and its form is the one that its options and flags choose.
 abbrev pub HoldsOptions : {F : Type 0} → ArgMatches → Command (Source F) → Type 0
+HoldsOptions matches (commands.Toaig it) = HoldsFormat matches it.to
 HoldsOptions matches (commands.Wave it) = HoldsFlag matches (codes "witness") false
 HoldsOptions matches (commands.WaveWitness it) = HoldsFlag matches (codes "witness") true
 HoldsOptions matches (commands.Unroll it) =
-    HoldsNumber matches (codes "K") (Some it.frames) × (is_given matches (codes "map") ≡ false)
+    HoldsNumber matches (codes "K") (Some it.frames) × HoldsFormat matches it.to × (is_given matches (codes "map") ≡ false)
 HoldsOptions matches (commands.UnrollAndMap it) =
-    HoldsNumber matches (codes "K") (Some it.frames) × (first_value (found_of matches) (codes "map") ≡ Some it.map.now)
+    HoldsNumber matches (codes "K") (Some it.frames) × HoldsFormat matches it.to
+    × (first_value (found_of matches) (codes "map") ≡ Some it.map.now)
 HoldsOptions matches (commands.Check it) =
     HoldsFlag matches (codes "trace") it.with_trace × HoldsReached matches it.circuit it.property
 HoldsOptions matches (commands.Cnf it) = HoldsQuestion matches it.circuit it.question
 HoldsOptions matches (commands.Info it) = HoldsFlag matches (codes "names") false
 HoldsOptions matches (commands.InfoNames it) = HoldsFlag matches (codes "names") true
-HoldsOptions matches (commands.Select it) = is_given matches (codes "names") ≡ false
-HoldsOptions matches (commands.SelectNamed it) = is_given matches (codes "names") ≡ true
+HoldsOptions matches (commands.Select it) =
+    HoldsSelection matches it.circuit it.selection × HoldsFormat matches it.to × (is_given matches (codes "names") ≡ false)
+HoldsOptions matches (commands.SelectNamed it) =
+    HoldsSelection matches it.circuit it.selection × HoldsFormat matches it.to × (is_given matches (codes "names") ≡ true)
 HoldsOptions matches (commands.Witness it) =
     (is_given matches (codes "model") ≡ false) × HoldsReached matches it.circuit it.property
 HoldsOptions matches (commands.ModelWitness it) =
     (is_given matches (codes "model") ≡ true) × HoldsQuestion matches it.circuit it.question
 HoldsOptions matches (commands.Refute it) =
     HoldsAsked matches (is_given matches (codes "step")) it.circuit it.question × HoldsCertificate matches it.question
-HoldsOptions matches (commands.Strengthen it) = HoldsProperty matches it.circuit it.property
+HoldsOptions matches (commands.Strengthen it) = HoldsProperty matches it.circuit it.property × HoldsFormat matches it.to
 HoldsOptions matches (commands.Why it) =
     (option_map (λ text. text.now) it.name ≡ first_value (found_of matches) (codes "of")) × HoldsSpan matches it.span
     × (it.name ≡ None → IsWitness it.given)

@@ -1,4 +1,5 @@
 pub mod Chosen
+pub mod ChosenFiles
 pub mod Commands
 pub mod Ends
 pub mod GivenFiles

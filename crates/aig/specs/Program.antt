@@ -13,15 +13,16 @@ use Rattle.aig_files.specs.declared.exit.Exit.{Exit}
 use Rattle.aig_files.specs.declared.exit.Exit.TheVariants as exits
 use Rattle.aig_files.specs.declared.source.Source.{Source}
 use Rattle.aig.specs.Chosen.{HoldsOptions, command_name}
+use Rattle.aig.specs.ChosenFiles.{HoldsFiles}
 use Rattle.aig.specs.Commands.{EndsAsMeant}
 use Rattle.aig.specs.Ends.{Seen}
 use Rattle.aig.specs.declared.command.Command.{Command}
 
--- the arguments choose a command: it is that of their subcommand, with its options
+-- the arguments choose a command: it is that of their subcommand, with its options and the files that they name
 abbrev pub Chooses : {F : Type 0} → ArgMatches → Command (Source F) → Type 0
 Chooses matches command =
     (name : List ℕ) × (own : ArgMatches) × HoldsSubcommand matches name own × (command_name command ≡ name)
-    × HoldsOptions own command
+    × HoldsOptions own command × HoldsFiles own command
 
 -- a command that was opened ends as it means; where none was, the run ends with the exit that says so
 abbrev pub EndsAsOpened : {F : Type 0} → Flow Seen → (F → Option (List ℕ)) → Result (Command F) Exit

@@ -1,6 +1,7 @@
 //! The command that the arguments choose. The parser has accepted them, so what a command needs is there.
 ghost use Rattle.std.specs.Prelude.{◌≡◌, IfOk};
 ghost use Rattle.aig.specs.Chosen.{HoldsOptions, command_name};
+ghost use Rattle.aig.specs.ChosenFiles.{HoldsFiles};
 ghost use Rattle.aig.specs.Program.{Chooses};
 
 mod circuits;
@@ -26,7 +27,7 @@ use witnesses::{open_check, open_reduce, open_witness};
 pub fn open_chosen<'m, 't, R: Files + AllocGlobal + Clock + Eprint>(
     terminal: &'t Terminal<'t, R>,
     matches: &'m ArgMatches<'_>,
-) -> Result<Command<'m, Source<Tracked<'t, R, R::File>>>, Exit>
+) -> Result<Command<'m, Source<'m, Tracked<'t, R, R::File>>>, Exit>
     ensures chosen { IfOk result (Chooses matches.now) }
 {
     match subcommand_of(matches) {
@@ -40,8 +41,9 @@ fn open_command<'m, 't, R: Files + AllocGlobal + Clock + Eprint>(
     terminal: &'t Terminal<'t, R>,
     name: &str,
     matches: &'m ArgMatches<'_>,
-) -> Result<Command<'m, Source<Tracked<'t, R, R::File>>>, Exit>
+) -> Result<Command<'m, Source<'m, Tracked<'t, R, R::File>>>, Exit>
     ensures options { IfOk result (HoldsOptions matches.now) }
+    ensures files { IfOk result (HoldsFiles matches.now) }
     ensures name { IfOk result (λ c. command_name c ≡ name.now) }
 {
     match name {

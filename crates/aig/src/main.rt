@@ -140,7 +140,7 @@ where
 fn command_for<'t, R: Files + AllocGlobal + Eprint + Clock>(
     terminal: &'t Terminal<'t, R>,
     matches: &'t ArgMatches<'_>,
-) -> Result<Command<'t, Source<Tracked<'t, R, R::File>>>, Exit>
+) -> Result<Command<'t, Source<'t, Tracked<'t, R, R::File>>>, Exit>
     ensures chosen { IfOk result (Chooses matches.now) }
 {
     match with_fault(terminal.runtime(), matches) {

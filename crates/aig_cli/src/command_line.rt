@@ -1,6 +1,6 @@
 //! The command line: the parser of its words, and what it found.
 ghost use Rattle.std.specs.Prelude.{◌≡◌, [], IfOk, IfSome, None, false, is_some, true, map, option_map, slice_index};
-ghost use Rattle.clap.specs.Matches.{first_value, found_of};
+ghost use Rattle.clap.specs.Matches.{first_value, found_of, matched_of, raw_values};
 ghost use Rattle.clap.specs.Words.{app_of, is_simple, subcommand_rows_of, with_subcommand};
 ghost use Rattle.aig_cli.specs.Held.{HoldsFlag, HoldsGeneralFlag, HoldsNumber, HoldsNumberOr, HoldsSubcommand};
 ghost use Rattle.aig_cli.specs.Held.{LacksFormula, is_plain_number, names_formula, needs_formula};
@@ -86,7 +86,10 @@ pub fn text_of<'a>(matches: &ArgMatches<'a>, name: &str) -> Option<&'a str>
 }
 
 /// Returns the texts of all uses of an argument.
-pub fn texts_of<'m, 'a>(matches: &'m ArgMatches<'a>, name: &str) -> Option<&'m [&'a str]> {
+pub fn texts_of<'m, 'a>(matches: &'m ArgMatches<'a>, name: &str) -> Option<&'m [&'a str]>
+    ensures held { option_map (λ texts. map (λ text. text.now) texts.now) result
+        ≡ option_map raw_values (matched_of (found_of matches.now) name.now) }
+{
     matches.get_strs(name)
 }
 

@@ -1,9 +1,18 @@
 -- What is left to read of a file, or of its bytes.
 use Rattle.std.specs.Prelude.{ℕ, List, Option, Some, drop}
+use Rattle.aig_files.specs.declared.source.Content.{Content}
+use Rattle.aig_files.specs.declared.source.Content.TheVariants.{File, Bytes}
 use Rattle.aig_files.specs.declared.source.Source.{Source}
-use Rattle.aig_files.specs.declared.source.Source.TheVariants.{File, Bytes}
+use Rattle.aig_files.specs.declared.source.Whole.{Whole}
 
 -- what is left, where the type of an open file says it of the file
+abbrev pub content_remaining : {F : Type 0} → (F → Option (List ℕ)) → Content F → Option (List ℕ)
+content_remaining left (File file) = left file
+content_remaining left (Bytes bytes) = Some (drop bytes.pos bytes.inner.items)
+
 abbrev pub source_remaining : {F : Type 0} → (F → Option (List ℕ)) → Source F → Option (List ℕ)
-source_remaining left (File file) = left file
-source_remaining left (Bytes bytes) = Some (drop bytes.pos bytes.inner.items)
+source_remaining left source = content_remaining left source.content
+
+-- the bytes of a file that was read
+abbrev pub whole_bytes : Whole → List ℕ
+whole_bytes file = file.bytes.items

@@ -3,6 +3,7 @@ ghost use Rattle.std.specs.Prelude.{◌≡◌, ◌⊎◌, IfErr, IfOk, IfSome};
 
 use crate::exit::Exit;
 use crate::part::Part;
+use crate::source::Source;
 use crate::terminal::Terminal;
 use crate::tracked::Tracked;
 use aig_base::{Buffered, Std};
@@ -12,14 +13,16 @@ use std::fs::{self, Files};
 use std::io::{self, ErrorKind, Printer, Read};
 use std::time::Clock;
 
-/// Opens a file of a run, which the line of the run shows while it is read.
-pub fn open<'t, R: Files + Clock + Eprint>(
+/// Opens a file of a run by its name, which it keeps. The line of the run shows it while it is read.
+pub fn open<'m, 't, R: Files + Clock + Eprint>(
     terminal: &'t Terminal<'t, R>,
-    name: &str,
+    name: &'m str,
     part: Part,
-) -> Result<Tracked<'t, R, R::File>, Exit> {
+) -> Result<Source<'m, Tracked<'t, R, R::File>>, Exit>
+    ensures name { IfOk result (λ file. file.name.now ≡ name.now) }
+{
     match fs::open(terminal.runtime(), name) {
-        Ok(file) => Ok(Tracked::new(file, terminal, part)),
+        Ok(file) => Ok(Source::new(name, Tracked::new(file, terminal, part))),
         Err(_) => Err(Exit::Unread(part)),
     }
 }

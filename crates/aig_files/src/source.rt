@@ -1,30 +1,138 @@
 //! What a command reads.
-ghost use Rattle.aig_files.specs.Source.{source_remaining};
+ghost use Rattle.std.specs.Prelude.{◌≡◌, ◌⊎◌, IfErr, IfOk, IfSome, None, Some};
+ghost use Rattle.aig_files.specs.Source.{source_remaining, whole_bytes};
 
-use std::io::{self, Cursor, Read};
+use crate::exit::Exit;
+use crate::files::read_whole;
+use crate::part::Part;
+use crate::tracked::Tracked;
+use aig_command::RunFault;
+use std::alloc::Global;
+use std::fs::{Metadata, OpenFile};
+use std::io::{self, Cursor, ErrorKind, Read};
+use std::time::Clock;
+
+/// A file that an argument names, as a command reads it. `open` alone makes one of an open file, so that file has this
+/// name.
+pub struct Source<'a, F: Drop> {
+    /// The name that it was opened by; empty where no argument names a file.
+    pub name: &'a str,
+    content: Content<F>,
+}
 
 /// An open file, or the bytes of one that was read before.
-pub enum Source<F: Drop> {
+enum Content<F: Drop> {
     File(F),
     Bytes(Cursor<Vec<u8>>),
 }
 
+/// A file that was read whole.
+#[derive(Drop)]
+pub struct Whole<'a> {
+    /// The name that it was opened by.
+    pub name: &'a str,
+    bytes: Vec<u8>,
+}
+
 // By hand: a value then ends in one call, which is one step of a proof (docs/PROOFS.md, Habits).
-impl<F: Drop> Drop for Source<F> {
+impl<F: Drop> Drop for Source<'_, F> {
+    fn drop(self) {
+        let Source {
+            name: _,
+            content: _,
+        } = self;
+    }
+}
+
+impl<F: Drop> Drop for Content<F> {
     fn drop(self) {
         match self {
-            Source::File(_) | Source::Bytes(_) => {}
+            Content::File(_) | Content::Bytes(_) => {}
         }
     }
 }
 
-impl<F: Read + Drop> Read for Source<F> {
+impl<'a, F: Drop> Source<'a, F> {
+    /// Of an open file, by the name that it was opened by.
+    pub(crate) fn new(name: &'a str, file: F) -> Source<'a, F>
+        ensures name { result.name.now ≡ name.now }
+    {
+        Source {
+            name,
+            content: Content::File(file),
+        }
+    }
+
+    /// What stands for a file that no argument names: there is nothing to read.
+    pub fn none(alloc: Global) -> Source<'a, F> {
+        Source {
+            name: "",
+            content: Content::Bytes(Cursor::new(Vec::new(alloc))),
+        }
+    }
+}
+
+impl<'a, F: Read + Drop> Source<'a, F> {
+    /// Reads all bytes that are left. A read that fails is never taken for the end of the file.
+    pub fn read_whole(self, alloc: Global, part: Part) -> Result<Whole<'a>, Exit>
+        ensures name { IfOk result (λ file. file.name.now ≡ self.entry.name.now) }
+        ensures whole { IfOk result (λ file. IfSome (source_remaining F.remaining self.entry) (λ left.
+            whole_bytes file ≡ left)) }
+        ensures fails { IfErr result (λ exit. (exit ≡ Exit.Unread part) ⊎ (exit ≡ Exit.Run RunFault.Memory)) }
+    {
+        let name = self.name;
+        let bytes = read_whole(alloc, self, part)?;
+        Ok(Whole { name, bytes })
+    }
+}
+
+impl<R: Clock + Eprint, F: OpenFile + Drop> Source<'_, Tracked<'_, R, F>> {
+    /// Returns what the system says of the file, if it is open.
+    pub fn metadata(&self) -> io::Result<Metadata> {
+        match &self.content {
+            Content::File(file) => file.metadata(),
+            Content::Bytes(_) => Err(io::Error::from(ErrorKind::Unsupported)),
+        }
+    }
+}
+
+impl<'a> Whole<'a> {
+    /// Returns its bytes.
+    pub fn bytes(&self) -> &[u8]
+        ensures bytes { result.now ≡ whole_bytes self.now }
+    {
+        self.bytes.as_slice()
+    }
+
+    /// As a command reads it.
+    pub fn into_source<F: Drop>(self) -> Source<'a, F>
+        ensures name { result.name.now ≡ self.entry.name.now }
+        ensures left { source_remaining (λ file. None) result ≡ Some (whole_bytes self.entry) }
+    {
+        Source {
+            name: self.name,
+            content: Content::Bytes(Cursor::new(self.bytes)),
+        }
+    }
+}
+
+impl<F: Read + Drop> Read for Source<'_, F> {
     ghost remaining = { source_remaining F.remaining };
 
     fn read(&mut self, buffer: &mut [u8]) -> io::Result<usize> {
+        self.content.read(buffer)
+    }
+}
+
+impl<F: Read + Drop> Read for Content<F> {
+    ghost use Rattle.aig_files.specs.Source.{content_remaining};
+
+    ghost remaining = { content_remaining F.remaining };
+
+    fn read(&mut self, buffer: &mut [u8]) -> io::Result<usize> {
         match self {
-            Source::File(file) => file.read(buffer),
-            Source::Bytes(bytes) => bytes.read(buffer),
+            Content::File(file) => file.read(buffer),
+            Content::Bytes(bytes) => bytes.read(buffer),
         }
     }
 }

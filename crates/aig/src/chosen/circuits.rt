@@ -1,8 +1,9 @@
 //! The commands on a circuit alone.
 ghost use Rattle.std.specs.Prelude.{◌≡◌, IfOk, codes};
 ghost use Rattle.aig.specs.Chosen.{HoldsOptions, command_name};
+ghost use Rattle.aig.specs.ChosenFiles.{HoldsFiles};
 
-use crate::chosen::named_files::{open_circuit, open_file};
+use crate::chosen::named_files::open_circuit;
 use crate::chosen::options::{format_of, frames_of, section_of};
 use crate::chosen::properties::open_circuit_and_properties;
 use crate::command::{
@@ -18,8 +19,9 @@ use std::time::Clock;
 pub fn open_toaig<'m, 't, R: Files + Clock + Eprint>(
     terminal: &'t Terminal<'t, R>,
     matches: &'m ArgMatches<'_>,
-) -> Result<Command<'m, Source<Tracked<'t, R, R::File>>>, Exit>
+) -> Result<Command<'m, Source<'m, Tracked<'t, R, R::File>>>, Exit>
     ensures options { IfOk result (HoldsOptions matches.now) }
+    ensures files { IfOk result (HoldsFiles matches.now) }
     ensures name { IfOk result (λ c. command_name c ≡ codes "toaig") }
 {
     let to = format_of(matches)?;
@@ -31,18 +33,19 @@ pub fn open_toaig<'m, 't, R: Files + Clock + Eprint>(
 pub fn open_unroll<'m, 't, R: Files + Clock + Eprint>(
     terminal: &'t Terminal<'t, R>,
     matches: &'m ArgMatches<'_>,
-) -> Result<Command<'m, Source<Tracked<'t, R, R::File>>>, Exit>
+) -> Result<Command<'m, Source<'m, Tracked<'t, R, R::File>>>, Exit>
     ensures options { IfOk result (HoldsOptions matches.now) }
+    ensures files { IfOk result (HoldsFiles matches.now) }
     ensures name { IfOk result (λ c. command_name c ≡ codes "unroll") }
 {
     let frames = frames_of(matches)?;
     let to = format_of(matches)?;
-    let circuit = open_file(terminal, matches, "CIRCUIT", Part::Circuit)?;
+    let circuit = open_circuit(terminal, matches)?;
     let Some(map) = text_of(matches, "map") else {
         return Ok(Command::Unroll(Unroll {
             frames,
             to,
-            circuit: Source::File(circuit),
+            circuit,
         }));
     };
     let Ok(file) = circuit.metadata() else {
@@ -51,7 +54,7 @@ pub fn open_unroll<'m, 't, R: Files + Clock + Eprint>(
     Ok(Command::UnrollAndMap(UnrollAndMap {
         frames,
         to,
-        circuit: Source::File(circuit),
+        circuit,
         file,
         map,
     }))
@@ -61,8 +64,9 @@ pub fn open_unroll<'m, 't, R: Files + Clock + Eprint>(
 pub fn open_info<'m, 't, R: Files + Clock + Eprint>(
     terminal: &'t Terminal<'t, R>,
     matches: &'m ArgMatches<'_>,
-) -> Result<Command<'m, Source<Tracked<'t, R, R::File>>>, Exit>
+) -> Result<Command<'m, Source<'m, Tracked<'t, R, R::File>>>, Exit>
     ensures options { IfOk result (HoldsOptions matches.now) }
+    ensures files { IfOk result (HoldsFiles matches.now) }
     ensures name { IfOk result (λ c. command_name c ≡ codes "info") }
 {
     let circuit = open_circuit(terminal, matches)?;
@@ -77,8 +81,9 @@ pub fn open_info<'m, 't, R: Files + Clock + Eprint>(
 pub fn open_select<'m, 't, R: Files + AllocGlobal + Clock + Eprint>(
     terminal: &'t Terminal<'t, R>,
     matches: &'m ArgMatches<'_>,
-) -> Result<Command<'m, Source<Tracked<'t, R, R::File>>>, Exit>
+) -> Result<Command<'m, Source<'m, Tracked<'t, R, R::File>>>, Exit>
     ensures options { IfOk result (HoldsOptions matches.now) }
+    ensures files { IfOk result (HoldsFiles matches.now) }
     ensures name { IfOk result (λ c. command_name c ≡ codes "select") }
 {
     let from = section_of(matches, "from");
@@ -96,7 +101,7 @@ pub fn open_select<'m, 't, R: Files + AllocGlobal + Clock + Eprint>(
             circuit,
         }));
     };
-    let names = Source::File(open(terminal, names, Part::Names)?);
+    let names = open(terminal, names, Part::Names)?;
     Ok(Command::SelectNamed(SelectNamed {
         selection,
         to,

@@ -1,6 +1,7 @@
 //! The files that arguments name, open.
 ghost use Rattle.std.specs.Prelude.{◌≡◌, IfOk, codes, true};
 ghost use Rattle.aig.specs.Chosen.{is_given};
+ghost use Rattle.aig.specs.ChosenFiles.{IsCircuitOf, IsNamedBy};
 
 use aig_cli::text_of;
 use aig_files::{Exit, Part, Source, Terminal, Tracked, open};
@@ -9,12 +10,13 @@ use std::fs::Files;
 use std::time::Clock;
 
 /// Opens the file that an argument names.
-pub fn open_file<'t, R: Files + Clock + Eprint>(
+pub fn open_named<'m, 't, R: Files + Clock + Eprint>(
     terminal: &'t Terminal<'t, R>,
-    matches: &ArgMatches<'_>,
+    matches: &'m ArgMatches<'_>,
     name: &str,
     part: Part,
-) -> Result<Tracked<'t, R, R::File>, Exit>
+) -> Result<Source<'m, Tracked<'t, R, R::File>>, Exit>
+    ensures named { IfOk result (IsNamedBy matches.now name.now) }
     ensures given { IfOk result (λ file. is_given matches.now name.now ≡ true) }
 {
     match text_of(matches, name) {
@@ -23,29 +25,20 @@ pub fn open_file<'t, R: Files + Clock + Eprint>(
     }
 }
 
-/// The same, as what a command reads.
-pub fn open_named<'t, R: Files + Clock + Eprint>(
+pub fn open_circuit<'m, 't, R: Files + Clock + Eprint>(
     terminal: &'t Terminal<'t, R>,
-    matches: &ArgMatches<'_>,
-    name: &str,
-    part: Part,
-) -> Result<Source<Tracked<'t, R, R::File>>, Exit>
-    ensures given { IfOk result (λ file. is_given matches.now name.now ≡ true) }
+    matches: &'m ArgMatches<'_>,
+) -> Result<Source<'m, Tracked<'t, R, R::File>>, Exit>
+    ensures named { IfOk result (IsCircuitOf matches.now) }
 {
-    Ok(Source::File(open_file(terminal, matches, name, part)?))
-}
-
-pub fn open_circuit<'t, R: Files + Clock + Eprint>(
-    terminal: &'t Terminal<'t, R>,
-    matches: &ArgMatches<'_>,
-) -> Result<Source<Tracked<'t, R, R::File>>, Exit> {
     open_named(terminal, matches, "CIRCUIT", Part::Circuit)
 }
 
-pub fn open_certificate<'t, R: Files + Clock + Eprint>(
+pub fn open_certificate<'m, 't, R: Files + Clock + Eprint>(
     terminal: &'t Terminal<'t, R>,
-    matches: &ArgMatches<'_>,
-) -> Result<Source<Tracked<'t, R, R::File>>, Exit>
+    matches: &'m ArgMatches<'_>,
+) -> Result<Source<'m, Tracked<'t, R, R::File>>, Exit>
+    ensures named { IfOk result (IsNamedBy matches.now (codes "certificate")) }
     ensures given { IfOk result (λ file. is_given matches.now (codes "certificate") ≡ true) }
 {
     open_named(terminal, matches, "certificate", Part::Certificate)

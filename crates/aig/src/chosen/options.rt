@@ -1,7 +1,8 @@
 //! The options of a command, as the parser found them.
 ghost use Rattle.std.specs.Prelude.{◌≡◌, IfOk, Some, codes};
 ghost use Rattle.aig_cli.specs.Held.{HoldsNumber};
-ghost use Rattle.aig.specs.Chosen.{HoldsSpan, property_text};
+ghost use Rattle.aig.specs.Chosen.{HoldsFormat, HoldsSection, HoldsSpan, property_text};
+ghost use Rattle.aig.specs.ChosenFiles.{HoldsKept};
 
 use aig_base::PropertySection;
 use aig_cli::{number_of, text_of};
@@ -11,7 +12,9 @@ use aig_why::Span;
 use clap::ArgMatches;
 
 /// Returns the format to write.
-pub fn format_of(matches: &ArgMatches<'_>) -> Result<Format, Exit> {
+pub fn format_of(matches: &ArgMatches<'_>) -> Result<Format, Exit>
+    ensures held { IfOk result (HoldsFormat matches.now) }
+{
     match text_of(matches, "FORMAT") {
         Some("aag") => Ok(Format::Ascii),
         Some("aig") => Ok(Format::Binary),
@@ -37,7 +40,9 @@ pub fn property_text<'a>(matches: &ArgMatches<'a>) -> &'a str
 }
 
 /// Returns the section that an option names; bad state properties if it is left out.
-pub fn section_of(matches: &ArgMatches<'_>, name: &str) -> PropertySection {
+pub fn section_of(matches: &ArgMatches<'_>, name: &str) -> PropertySection
+    ensures held { HoldsSection matches.now name.now result }
+{
     match text_of(matches, name) {
         Some("outputs") => PropertySection::Outputs,
         _ => PropertySection::Bad,
@@ -55,7 +60,9 @@ pub fn span_of(matches: &ArgMatches<'_>) -> Span
 }
 
 /// Returns the files of `--circuit-out` and `--stimulus-out`.
-pub fn kept_of<'a>(matches: &ArgMatches<'a>) -> Kept<'a> {
+pub fn kept_of<'a>(matches: &ArgMatches<'a>) -> Kept<'a>
+    ensures held { HoldsKept matches.now result }
+{
     Kept {
         circuit: text_of(matches, "circuit-out"),
         stimulus: text_of(matches, "stimulus-out"),

@@ -1,6 +1,7 @@
 //! The commands on a circuit and a run.
 ghost use Rattle.std.specs.Prelude.{◌≡◌, IfOk, codes};
 ghost use Rattle.aig.specs.Chosen.{HoldsOptions, command_name};
+ghost use Rattle.aig.specs.ChosenFiles.{HoldsFiles, HoldsGiven};
 
 use crate::chosen::named_files::{open_circuit, open_named};
 use crate::chosen::options::{kept_of, span_of};
@@ -17,8 +18,9 @@ use std::time::Clock;
 pub fn open_sim<'m, 't, R: Files + Clock + Eprint>(
     terminal: &'t Terminal<'t, R>,
     matches: &'m ArgMatches<'_>,
-) -> Result<Command<'m, Source<Tracked<'t, R, R::File>>>, Exit>
+) -> Result<Command<'m, Source<'m, Tracked<'t, R, R::File>>>, Exit>
     ensures options { IfOk result (HoldsOptions matches.now) }
+    ensures files { IfOk result (HoldsFiles matches.now) }
     ensures name { IfOk result (λ c. command_name c ≡ codes "sim") }
 {
     let circuit = open_circuit(terminal, matches)?;
@@ -30,8 +32,9 @@ pub fn open_sim<'m, 't, R: Files + Clock + Eprint>(
 pub fn open_wave<'m, 't, R: Files + Clock + Eprint>(
     terminal: &'t Terminal<'t, R>,
     matches: &'m ArgMatches<'_>,
-) -> Result<Command<'m, Source<Tracked<'t, R, R::File>>>, Exit>
+) -> Result<Command<'m, Source<'m, Tracked<'t, R, R::File>>>, Exit>
     ensures options { IfOk result (HoldsOptions matches.now) }
+    ensures files { IfOk result (HoldsFiles matches.now) }
     ensures name { IfOk result (λ c. command_name c ≡ codes "wave") }
 {
     let circuit = open_circuit(terminal, matches)?;
@@ -48,8 +51,9 @@ pub fn open_wave<'m, 't, R: Files + Clock + Eprint>(
 pub fn open_bench<'m, 't, R: Files + Clock + Eprint>(
     terminal: &'t Terminal<'t, R>,
     matches: &'m ArgMatches<'_>,
-) -> Result<Command<'m, Source<Tracked<'t, R, R::File>>>, Exit>
+) -> Result<Command<'m, Source<'m, Tracked<'t, R, R::File>>>, Exit>
     ensures options { IfOk result (HoldsOptions matches.now) }
+    ensures files { IfOk result (HoldsFiles matches.now) }
     ensures name { IfOk result (λ c. command_name c ≡ codes "bench") }
 {
     let circuit = open_circuit(terminal, matches)?;
@@ -67,8 +71,9 @@ pub fn open_bench<'m, 't, R: Files + Clock + Eprint>(
 pub fn open_shell<'m, 't, R: Files + Clock + Eprint>(
     terminal: &'t Terminal<'t, R>,
     matches: &'m ArgMatches<'_>,
-) -> Result<Command<'m, Source<Tracked<'t, R, R::File>>>, Exit>
+) -> Result<Command<'m, Source<'m, Tracked<'t, R, R::File>>>, Exit>
     ensures options { IfOk result (HoldsOptions matches.now) }
+    ensures files { IfOk result (HoldsFiles matches.now) }
     ensures name { IfOk result (λ c. command_name c ≡ codes "shell") }
 {
     let circuit = open_circuit(terminal, matches)?;
@@ -80,8 +85,9 @@ pub fn open_shell<'m, 't, R: Files + Clock + Eprint>(
 pub fn open_why<'m, 't, R: Files + Clock + Eprint>(
     terminal: &'t Terminal<'t, R>,
     matches: &'m ArgMatches<'_>,
-) -> Result<Command<'m, Source<Tracked<'t, R, R::File>>>, Exit>
+) -> Result<Command<'m, Source<'m, Tracked<'t, R, R::File>>>, Exit>
     ensures options { IfOk result (HoldsOptions matches.now) }
+    ensures files { IfOk result (HoldsFiles matches.now) }
     ensures name { IfOk result (λ c. command_name c ≡ codes "why") }
 {
     let name = text_of(matches, "of");
@@ -100,10 +106,12 @@ pub fn open_why<'m, 't, R: Files + Clock + Eprint>(
 }
 
 /// Opens the file of the run that is given with a circuit, if one is named.
-fn open_given<'t, R: Files + Clock + Eprint>(
+fn open_given<'m, 't, R: Files + Clock + Eprint>(
     terminal: &'t Terminal<'t, R>,
-    matches: &ArgMatches<'_>,
-) -> Result<Given<Source<Tracked<'t, R, R::File>>>, Exit> {
+    matches: &'m ArgMatches<'_>,
+) -> Result<Given<Source<'m, Tracked<'t, R, R::File>>>, Exit>
+    ensures held { IfOk result (HoldsGiven matches.now) }
+{
     if text_of(matches, "STIM").is_none() {
         return Ok(Given::Nothing);
     }

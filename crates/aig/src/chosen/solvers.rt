@@ -1,6 +1,7 @@
 //! The commands with a SAT solver.
 ghost use Rattle.std.specs.Prelude.{◌≡◌, IfOk, codes};
 ghost use Rattle.aig.specs.Chosen.{HoldsOptions, command_name};
+ghost use Rattle.aig.specs.ChosenFiles.{HoldsFiles, HoldsStep};
 
 use crate::chosen::named_files::{open_certificate, open_named};
 use crate::chosen::options::format_of;
@@ -12,17 +13,16 @@ use aig_cli::{has_flag, text_of};
 use aig_commands::question::Question;
 use aig_files::{Exit, Part, Source, Terminal, Tracked, open};
 use clap::ArgMatches;
-use std::alloc::Global;
 use std::fs::Files;
-use std::io::Cursor;
 use std::time::Clock;
 
 /// Opens the files of `cnf`.
 pub fn open_cnf<'m, 't, R: Files + AllocGlobal + Clock + Eprint>(
     terminal: &'t Terminal<'t, R>,
     matches: &'m ArgMatches<'_>,
-) -> Result<Command<'m, Source<Tracked<'t, R, R::File>>>, Exit>
+) -> Result<Command<'m, Source<'m, Tracked<'t, R, R::File>>>, Exit>
     ensures options { IfOk result (HoldsOptions matches.now) }
+    ensures files { IfOk result (HoldsFiles matches.now) }
     ensures name { IfOk result (λ c. command_name c ≡ codes "cnf") }
 {
     let step = has_flag(matches, "step");
@@ -34,8 +34,9 @@ pub fn open_cnf<'m, 't, R: Files + AllocGlobal + Clock + Eprint>(
 pub fn open_model_witness<'m, 't, R: Files + AllocGlobal + Clock + Eprint>(
     terminal: &'t Terminal<'t, R>,
     matches: &'m ArgMatches<'_>,
-) -> Result<Command<'m, Source<Tracked<'t, R, R::File>>>, Exit>
+) -> Result<Command<'m, Source<'m, Tracked<'t, R, R::File>>>, Exit>
     ensures options { IfOk result (HoldsOptions matches.now) }
+    ensures files { IfOk result (HoldsFiles matches.now) }
     ensures name { IfOk result (λ c. command_name c ≡ codes "witness") }
 {
     let step = has_flag(matches, "step");
@@ -52,8 +53,9 @@ pub fn open_model_witness<'m, 't, R: Files + AllocGlobal + Clock + Eprint>(
 pub fn open_refute<'m, 't, R: Files + AllocGlobal + Clock + Eprint>(
     terminal: &'t Terminal<'t, R>,
     matches: &'m ArgMatches<'_>,
-) -> Result<Command<'m, Source<Tracked<'t, R, R::File>>>, Exit>
+) -> Result<Command<'m, Source<'m, Tracked<'t, R, R::File>>>, Exit>
     ensures options { IfOk result (HoldsOptions matches.now) }
+    ensures files { IfOk result (HoldsFiles matches.now) }
     ensures name { IfOk result (λ c. command_name c ≡ codes "refute") }
 {
     if text_of(matches, "certificate").is_some() {
@@ -75,13 +77,15 @@ pub fn open_refute<'m, 't, R: Files + AllocGlobal + Clock + Eprint>(
 fn open_refute_certified<'m, 't, R: Files + AllocGlobal + Clock + Eprint>(
     terminal: &'t Terminal<'t, R>,
     matches: &'m ArgMatches<'_>,
-) -> Result<Command<'m, Source<Tracked<'t, R, R::File>>>, Exit>
+) -> Result<Command<'m, Source<'m, Tracked<'t, R, R::File>>>, Exit>
     ensures options { IfOk result (HoldsOptions matches.now) }
+    ensures files { IfOk result (HoldsFiles matches.now) }
     ensures name { IfOk result (λ c. command_name c ≡ codes "refute") }
 {
     let (circuit, property) = open_circuit_and_property(terminal, matches)?;
     let proof = open_named(terminal, matches, "PROOF", Part::Proof)?;
     let certificate = open_certificate(terminal, matches)?;
+    let step = open_step(terminal, matches)?;
     let question = Question::Certified {
         certificate,
         property,
@@ -90,32 +94,30 @@ fn open_refute_certified<'m, 't, R: Files + AllocGlobal + Clock + Eprint>(
         question,
         circuit,
         proof,
-        step: no_proof(terminal.alloc()),
+        step,
     }))
 }
 
 /// Opens the proof of a step, if one is named.
-fn open_step<'t, R: Files + AllocGlobal + Clock + Eprint>(
+fn open_step<'m, 't, R: Files + AllocGlobal + Clock + Eprint>(
     terminal: &'t Terminal<'t, R>,
-    matches: &ArgMatches<'_>,
-) -> Result<Source<Tracked<'t, R, R::File>>, Exit> {
-    let Some(step) = text_of(matches, "step") else {
-        return Ok(no_proof(terminal.alloc()));
-    };
-    Ok(Source::File(open(terminal, step, Part::StepProof)?))
-}
-
-/// An empty file, in place of the proof of a step.
-fn no_proof<F: Drop>(alloc: Global) -> Source<F> {
-    Source::Bytes(Cursor::new(Vec::new(alloc)))
+    matches: &'m ArgMatches<'_>,
+) -> Result<Source<'m, Tracked<'t, R, R::File>>, Exit>
+    ensures held { IfOk result (HoldsStep matches.now) }
+{
+    match text_of(matches, "step") {
+        Some(step) => open(terminal, step, Part::StepProof),
+        None => Ok(Source::none(terminal.alloc())),
+    }
 }
 
 /// Opens the files of `strengthen`.
 pub fn open_strengthen<'m, 't, R: Files + AllocGlobal + Clock + Eprint>(
     terminal: &'t Terminal<'t, R>,
     matches: &'m ArgMatches<'_>,
-) -> Result<Command<'m, Source<Tracked<'t, R, R::File>>>, Exit>
+) -> Result<Command<'m, Source<'m, Tracked<'t, R, R::File>>>, Exit>
     ensures options { IfOk result (HoldsOptions matches.now) }
+    ensures files { IfOk result (HoldsFiles matches.now) }
     ensures name { IfOk result (λ c. command_name c ≡ codes "strengthen") }
 {
     let to = format_of(matches)?;

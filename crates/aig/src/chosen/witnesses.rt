@@ -1,6 +1,7 @@
 //! The commands on a circuit and a witness, and the one that makes it.
 ghost use Rattle.std.specs.Prelude.{◌≡◌, IfOk, codes};
 ghost use Rattle.aig.specs.Chosen.{HoldsOptions, command_name};
+ghost use Rattle.aig.specs.ChosenFiles.{HoldsFiles};
 
 use crate::chosen::named_files::{open_circuit, open_named};
 use crate::chosen::properties::open_circuit_and_reached;
@@ -16,8 +17,9 @@ use std::time::Clock;
 pub fn open_check<'m, 't, R: Files + AllocGlobal + Clock + Eprint>(
     terminal: &'t Terminal<'t, R>,
     matches: &'m ArgMatches<'_>,
-) -> Result<Command<'m, Source<Tracked<'t, R, R::File>>>, Exit>
+) -> Result<Command<'m, Source<'m, Tracked<'t, R, R::File>>>, Exit>
     ensures options { IfOk result (HoldsOptions matches.now) }
+    ensures files { IfOk result (HoldsFiles matches.now) }
     ensures name { IfOk result (λ c. command_name c ≡ codes "check") }
 {
     let (circuit, property) = open_circuit_and_reached(terminal, matches)?;
@@ -34,8 +36,9 @@ pub fn open_check<'m, 't, R: Files + AllocGlobal + Clock + Eprint>(
 pub fn open_reduce<'m, 't, R: Files + Clock + Eprint>(
     terminal: &'t Terminal<'t, R>,
     matches: &'m ArgMatches<'_>,
-) -> Result<Command<'m, Source<Tracked<'t, R, R::File>>>, Exit>
+) -> Result<Command<'m, Source<'m, Tracked<'t, R, R::File>>>, Exit>
     ensures options { IfOk result (HoldsOptions matches.now) }
+    ensures files { IfOk result (HoldsFiles matches.now) }
     ensures name { IfOk result (λ c. command_name c ≡ codes "reduce") }
 {
     let circuit = open_circuit(terminal, matches)?;
@@ -47,8 +50,9 @@ pub fn open_reduce<'m, 't, R: Files + Clock + Eprint>(
 pub fn open_witness<'m, 't, R: Files + AllocGlobal + Clock + Eprint>(
     terminal: &'t Terminal<'t, R>,
     matches: &'m ArgMatches<'_>,
-) -> Result<Command<'m, Source<Tracked<'t, R, R::File>>>, Exit>
+) -> Result<Command<'m, Source<'m, Tracked<'t, R, R::File>>>, Exit>
     ensures options { IfOk result (HoldsOptions matches.now) }
+    ensures files { IfOk result (HoldsFiles matches.now) }
     ensures name { IfOk result (λ c. command_name c ≡ codes "witness") }
 {
     if text_of(matches, "model").is_some() {
