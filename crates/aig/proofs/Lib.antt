@@ -3,3 +3,4 @@ pub mod Endings
 pub mod RunFiles
 pub mod Running
 pub mod SessionEndings
+pub mod TextPositions

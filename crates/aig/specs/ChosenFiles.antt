@@ -3,6 +3,7 @@
 use Rattle.std.specs.Prelude.{◌≡◌, ℕ, List, Option, None, Some, codes, option_map, true, false, ⊤}
 use Rattle.clap.specs.Matches.{first_value, found_of}
 use Rattle.clap.specs.declared.parser.matches.ArgMatches.{ArgMatches}
+use Rattle.aig_files.specs.Source.{source_name}
 use Rattle.aig_files.specs.declared.kept.Kept.{Kept}
 use Rattle.aig_files.specs.declared.source.Source.{Source}
 use Rattle.aig_cli.specs.Held.{HoldsFlag}
@@ -15,7 +16,7 @@ use Rattle.aig.specs.declared.command.Command.TheVariants as commands
 
 -- the file has the name that an argument gives
 abbrev pub IsNamedBy : {F : Type 0} → ArgMatches → List ℕ → Source F → Type 0
-IsNamedBy matches argument file = first_value (found_of matches) argument ≡ Some file.name.now
+IsNamedBy matches argument file = first_value (found_of matches) argument ≡ Some (source_name file)
 
 abbrev pub IsCircuitOf : {F : Type 0} → ArgMatches → Source F → Type 0
 IsCircuitOf matches file = IsNamedBy matches (codes "CIRCUIT") file
@@ -36,7 +37,7 @@ HoldsClaimed matches _ = ⊤
 -- the proof of a step, if one is named
 abbrev pub HoldsStep : {F : Type 0} → ArgMatches → Source F → Type 0
 HoldsStep matches step =
-    (name : List ℕ) → first_value (found_of matches) (codes "step") ≡ Some name → step.name.now ≡ name
+    (name : List ℕ) → first_value (found_of matches) (codes "step") ≡ Some name → source_name step ≡ name
 
 -- the names of the files that keep what a script leaves
 abbrev pub HoldsKept : ArgMatches → Kept → Type 0

@@ -1,5 +1,6 @@
 //! The files that the arguments name.
 ghost use Rattle.std.specs.Prelude.{◌≡◌, ◌⊎◌, IfErr, IfOk, IfSome};
+ghost use Rattle.aig_files.specs.Source.{source_name};
 
 use crate::exit::Exit;
 use crate::part::Part;
@@ -19,7 +20,7 @@ pub fn open<'m, 't, R: Files + Clock + Eprint>(
     name: &'m str,
     part: Part,
 ) -> Result<Source<'m, Tracked<'t, R, R::File>>, Exit>
-    ensures name { IfOk result (λ file. file.name.now ≡ name.now) }
+    ensures name { IfOk result (λ file. source_name file ≡ name.now) }
 {
     match fs::open(terminal.runtime(), name) {
         Ok(file) => Ok(Source::new(name, Tracked::new(file, terminal, part))),

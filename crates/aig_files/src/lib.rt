@@ -33,7 +33,7 @@ pub use reserved::{Reserved, reserve};
 pub use run_files::{Judged, RunFiles};
 pub use same::{is_one, is_one_new, leads_to, parts_of};
 pub use shown::Shown;
-pub use source::{Source, Whole};
+pub use source::{Source, Whole, metadata_of};
 pub use terminal::{Terminal, Terminals};
 pub use tracked::Tracked;
 pub use unwritten::{OUTPUT, Unwritten};

@@ -1,6 +1,6 @@
 //! What a command reads.
 ghost use Rattle.std.specs.Prelude.{◌≡◌, ◌⊎◌, IfErr, IfOk, IfSome, None, Some};
-ghost use Rattle.aig_files.specs.Source.{source_remaining, whole_bytes};
+ghost use Rattle.aig_files.specs.Source.{source_name, source_remaining, whole_bytes, whole_name};
 
 use crate::exit::Exit;
 use crate::files::read_whole;
@@ -12,11 +12,11 @@ use std::fs::{Metadata, OpenFile};
 use std::io::{self, Cursor, ErrorKind, Read};
 use std::time::Clock;
 
-/// A file that an argument names, as a command reads it. `open` alone makes one of an open file, so that file has this
-/// name.
+/// A file that an argument names, as a command reads it. `open` alone makes one of an open file, and nothing changes its
+/// name, so that file has this name.
 pub struct Source<'a, F: Drop> {
-    /// The name that it was opened by; empty where no argument names a file.
-    pub name: &'a str,
+    // Empty where no argument names a file.
+    name: &'a str,
     content: Content<F>,
 }
 
@@ -26,11 +26,10 @@ enum Content<F: Drop> {
     Bytes(Cursor<Vec<u8>>),
 }
 
-/// A file that was read whole.
+/// A file that was read whole, with the name that it was opened by.
 #[derive(Drop)]
 pub struct Whole<'a> {
-    /// The name that it was opened by.
-    pub name: &'a str,
+    name: &'a str,
     bytes: Vec<u8>,
 }
 
@@ -55,7 +54,7 @@ impl<F: Drop> Drop for Content<F> {
 impl<'a, F: Drop> Source<'a, F> {
     /// Of an open file, by the name that it was opened by.
     pub(crate) fn new(name: &'a str, file: F) -> Source<'a, F>
-        ensures name { result.name.now ≡ name.now }
+        ensures name { source_name result ≡ name.now }
     {
         Source {
             name,
@@ -75,7 +74,7 @@ impl<'a, F: Drop> Source<'a, F> {
 impl<'a, F: Read + Drop> Source<'a, F> {
     /// Reads all bytes that are left. A read that fails is never taken for the end of the file.
     pub fn read_whole(self, alloc: Global, part: Part) -> Result<Whole<'a>, Exit>
-        ensures name { IfOk result (λ file. file.name.now ≡ self.entry.name.now) }
+        ensures name { IfOk result (λ file. whole_name file ≡ source_name self.entry) }
         ensures whole { IfOk result (λ file. IfSome (source_remaining F.remaining self.entry) (λ left.
             whole_bytes file ≡ left)) }
         ensures fails { IfErr result (λ exit. (exit ≡ Exit.Unread part) ⊎ (exit ≡ Exit.Run RunFault.Memory)) }
@@ -86,13 +85,13 @@ impl<'a, F: Read + Drop> Source<'a, F> {
     }
 }
 
-impl<R: Clock + Eprint, F: OpenFile + Drop> Source<'_, Tracked<'_, R, F>> {
-    /// Returns what the system says of the file, if it is open.
-    pub fn metadata(&self) -> io::Result<Metadata> {
-        match &self.content {
-            Content::File(file) => file.metadata(),
-            Content::Bytes(_) => Err(io::Error::from(ErrorKind::Unsupported)),
-        }
+/// Returns what the system says of a file, if it is open.
+pub fn metadata_of<R: Clock + Eprint, F: OpenFile + Drop>(
+    source: &Source<'_, Tracked<'_, R, F>>,
+) -> io::Result<Metadata> {
+    match &source.content {
+        Content::File(file) => file.metadata(),
+        Content::Bytes(_) => Err(io::Error::from(ErrorKind::Unsupported)),
     }
 }
 
@@ -106,7 +105,7 @@ impl<'a> Whole<'a> {
 
     /// As a command reads it.
     pub fn into_source<F: Drop>(self) -> Source<'a, F>
-        ensures name { result.name.now ≡ self.entry.name.now }
+        ensures name { source_name result ≡ whole_name self.entry }
         ensures left { source_remaining (λ file. None) result ≡ Some (whole_bytes self.entry) }
     {
         Source {

@@ -10,7 +10,7 @@ use crate::command::{
     Command, Info, InfoNames, Select, SelectNamed, Selection, Toaig, Unroll, UnrollAndMap,
 };
 use aig_cli::{has_flag, text_of};
-use aig_files::{Exit, Part, Source, Terminal, Tracked, open};
+use aig_files::{Exit, Part, Source, Terminal, Tracked, metadata_of, open};
 use clap::ArgMatches;
 use std::fs::Files;
 use std::time::Clock;
@@ -48,7 +48,7 @@ pub fn open_unroll<'m, 't, R: Files + Clock + Eprint>(
             circuit,
         }));
     };
-    let Ok(file) = circuit.metadata() else {
+    let Ok(file) = metadata_of(&circuit) else {
         return Err(Exit::Unread(Part::Circuit));
     };
     Ok(Command::UnrollAndMap(UnrollAndMap {
