@@ -256,8 +256,8 @@ module _ {X : Type 0} (written : X → Option (List ℕ)) (failures : X → ℕ)
       → EndsReading reader (flow written failures old mid) fault (λ text. OfReader circuit (Means text)) answer
       → EndsFlushed (flow written failures mid new) fault end_of_streamed answer r
       → Ends (seen written failures old new) fault end_of (OfText all (λ text. OfFile file (Means text))) r
-  streamed_text_ends circuit reader fault other Means file all is is_text answer r ends (told, flush, e) =
-      let Said = λ text. OfReader circuit (Means text) in
+  streamed_text_ends {T = T} circuit reader fault other Means file all is is_text answer r ends (told, flush, e) =
+      let Said : Text → Result T RunFault → List ℕ → Type 0 = λ text. OfReader circuit (Means text) in
       streamed_told (seen written failures old new) fault (OfText all Said) (OfText all (λ text. OfFile file (Means text))) other
       (text_of_none circuit Means all) (text_of_file circuit Means file all is) told r
       (flushed_ends written failures old mid new fault (OfText all Said) answer told
@@ -305,7 +305,7 @@ confirmed_file : (out : Flow Seen) (fault : RunFault) (trace : Bool) (asked : Op
     → CommandEnds out fault (OfFile file (ChecksWitness trace asked text)) answer → r ≡ end_of_verdict answer
     → OnOk r (AreConfirmed asked file text)
 confirmed_file out fault trace asked file text answer (Err e) a is = tt
-confirmed_file out fault trace asked file text (Err fault) (Ok done) a is = cc
+confirmed_file out fault trace asked file text (Err why) (Ok done) a is = cc
 confirmed_file out fault trace asked file text (Ok (Initial latch)) (Ok done) a is = cc
 confirmed_file out fault trace asked file text (Ok (Constraint frame constraint)) (Ok done) a is = cc
 confirmed_file out fault trace asked file text (Ok NotBad) (Ok done) a is = cc

@@ -1,4 +1,4 @@
-use Rattle.std.proofs.Common.{◌∙◌}
+use Rattle.std.proofs.Common.{◌∙◌, ℕ, List}
 use Rattle.std.specs.Prelude.{IfSome}
 use Rattle.aig_command.specs.Command.{OfFile}
 use Rattle.aig_command.specs.declared.run_fault.RunFault.TheVariants as run_faults
@@ -18,7 +18,7 @@ returns g c =
     let stimulus = c.new-stimulus in
     let io = run_faults.Stimulus stimuli.Io in
     let r = c.streamed.result in
-    let EndsFor = λ file rows. Ends (seen w f c.args.out.now c.streamed.new.out) io end_of (OfText rows (λ text. OfFile file (WritesWave text))) r in
+    let EndsFor = λ (file rows : List ℕ). Ends (seen w f c.args.out.now c.streamed.new.out) io end_of (OfText rows (λ text. OfFile file (WritesWave text))) r in
     record {
       ends = of_left (left files.circuit) (λ file. IfSome (left files.stimulus) (EndsFor file))
           (λ file is. of_left (left files.stimulus) (EndsFor file)

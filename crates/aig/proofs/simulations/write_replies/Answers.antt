@@ -2,7 +2,7 @@ use Rattle.std.proofs.Common.{◌∙◌, Err, refl}
 use Rattle.aig_command.specs.declared.run_fault.RunFault.TheVariants as run_faults
 use Rattle.aig_command.specs.declared.script_fault.ScriptFault.TheVariants as scripts
 use Rattle.aig_script.specs.Bench.{LeavesBench}
-use Rattle.aig.specs.Ends.{EndsKeeping, OfText, as_meant, seen}
+use Rattle.aig.specs.Ends.{EndsKeeping, OfText, as_meant}
 use Rattle.aig.proofs.Endings.{ends_written, flushed_ends, known_at_first, of_left, text_ends}
 use Rattle.aig.proofs.simulations.write_replies.Goals as goal
 
@@ -14,9 +14,8 @@ returns-in-Ok g c =
     let k = c.new-script in
     let Leaves = LeavesBench c.args.texts.circuit.now c.args.texts.stimulus.now in
     let io = run_faults.Script scripts.Io in
-    let out = seen w f c.args.out.now c.in-Ok.new.out in
     record {
-      ends = of_left (left c.args.script) (λ lines. EndsKeeping out io (OfText lines Leaves) c.written.result) (λ lines is.
+      ends = of_left (left c.args.script) (λ lines. EndsKeeping _ io (OfText lines Leaves) c.written.result) (λ lines is.
           ends_written w f _ _ _ io (OfText lines Leaves) c.bench-done.result c.in-Ok.bench c.written.result
           (text_ends _ _ io lines
           (known_at_first left c.args.script k.result.first k.result.inner k.ensures.first k.ensures.inner ∙ is) Leaves
