@@ -25,7 +25,8 @@ use std::time::Clock;
 /// Writes a circuit in a format.
 pub fn toaig<F: Read + Drop, W: Write>(alloc: Global, it: Toaig<F>, out: &mut W) -> Result<(), Exit>
     ensures ends { IfSome (F.remaining it.circuit) (λ file.
-        Ends (seen W.written W.failures out.old out.new) RunFault.Output end_of (OfFile file (Converts it.to)) result) }
+        Ends (seen W.written W.failures out.old out.new) RunFault.Output end_of
+        (OfFile file (Converts it.to)) result) }
 {
     let mut circuit = Known::new(it.circuit);
     let done = convert_from(alloc, &mut circuit, it.to, out);
@@ -39,7 +40,8 @@ pub fn unroll<F: Read + Drop, W: Write>(
     out: &mut W,
 ) -> Result<(), Exit>
     ensures ends { IfSome (F.remaining it.circuit) (λ file.
-        Ends (seen W.written W.failures out.old out.new) RunFault.Output end_of (OfFile file (UnrollsKept it.frames it.to)) result) }
+        Ends (seen W.written W.failures out.old out.new) RunFault.Output end_of
+        (OfFile file (UnrollsKept it.frames it.to)) result) }
 {
     let circuit = read_whole(alloc, it.circuit, Part::Circuit)?;
     let file = circuit.as_slice();
@@ -56,7 +58,8 @@ pub fn unroll_and_map<R: Files + AllocGlobal + Print + Eprint + Clock, F: Read +
 where
     R::File: AsFd,
     ensures done { OnOk result (IfSome (F.remaining it.entry.circuit) (λ file.
-        Completes (seen W.written W.failures out.old out.new) (OfFile file (UnrollsKept it.entry.frames it.entry.to)))) }
+        Completes (seen W.written W.failures out.old out.new)
+        (OfFile file (UnrollsKept it.entry.frames it.entry.to)))) }
 {
     let circuit = read_whole(terminal.alloc(), it.circuit, Part::Circuit)?;
     let file = circuit.as_slice();
@@ -77,7 +80,8 @@ fn write_unrolled_and_map<R: Files + AllocGlobal + Print + Eprint + Clock, W: Wr
 ) -> Result<(), Exit>
 where
     R::File: AsFd,
-    ensures { OnOk result (Completes (seen W.written W.failures out.old out.new) (OfFile it.entry.circuit.now (UnrollsKept it.entry.frames it.entry.to))) }
+    ensures { OnOk result (Completes (seen W.written W.failures out.old out.new)
+        (OfFile it.entry.circuit.now (UnrollsKept it.entry.frames it.entry.to))) }
 {
     let done = unroll::unroll(terminal.alloc(), it.circuit, it.frames, it.to, out);
     let circuit = flushed(done, out, RunFault::Output)?;
@@ -87,7 +91,8 @@ where
 /// Writes facts about a circuit.
 pub fn info<F: Read + Drop, W: Write>(alloc: Global, it: Info<F>, out: &mut W) -> Result<(), Exit>
     ensures ends { IfSome (F.remaining it.circuit) (λ file.
-        Ends (seen W.written W.failures out.old out.new) RunFault.Output end_of (OfFile file (ListsFacts (Some file))) result) }
+        Ends (seen W.written W.failures out.old out.new) RunFault.Output end_of
+        (OfFile file (ListsFacts (Some file))) result) }
 {
     let mut circuit = Known::new(it.circuit);
     let done = info::info(alloc, &mut circuit, out);
@@ -114,7 +119,8 @@ pub fn select<F: Read + Drop, W: Write>(
     it: Select<F>,
     out: &mut W,
 ) -> Result<(), Exit>
-    ensures ends { IfSome (F.remaining it.circuit) (λ file. Ends (seen W.written W.failures out.old out.new) RunFault.Output end_of
+    ensures ends { IfSome (F.remaining it.circuit) (λ file.
+        Ends (seen W.written W.failures out.old out.new) RunFault.Output end_of
         (OfFile file (Selects it.selection.from it.selection.into it.selection.positions.items it.to)) result) }
 {
     let mut circuit = Known::new(it.circuit);
@@ -134,8 +140,8 @@ pub fn select_named<F: Read + Drop, W: Write>(
     out: &mut W,
 ) -> Result<(), Exit>
     ensures ends { IfSome (F.remaining it.circuit) (λ file. IfSome (F.remaining it.names) (λ text.
-        EndsSelectingNamed (seen W.written W.failures out.old out.new) it.selection.from it.selection.into it.selection.positions.items text it.to file
-        result)) }
+        EndsSelectingNamed (seen W.written W.failures out.old out.new) it.selection.from it.selection.into
+        it.selection.positions.items text it.to file result)) }
 {
     let names = read_whole(alloc, it.names, Part::Names)?;
     let mut circuit = Known::new(it.circuit);

@@ -120,7 +120,8 @@ fn answer<R: Files + AllocGlobal + Print + Eprint + Clock + Input, W: Write>(
 ) -> Result<(), Exit>
 where
     R::File: AsFd,
-    ensures { Ends (seen W.written W.failures out.old out.new) RunFault.Shell end_of (HoldsSession circuit.now (given_text given.entry)) result }
+    ensures { Ends (seen W.written W.failures out.old out.new) RunFault.Shell end_of
+        (HoldsSession circuit.now (given_text given.entry)) result }
 {
     // The line that says how far a run is would stand between a person's lines.
     terminal.end();

@@ -56,7 +56,8 @@ where
     R::File: AsFd,
     ensures ends { IfSome (F.remaining it.entry.circuit) (λ file. IfSome (F.remaining it.entry.stimulus) (λ rows.
         IfSome (F.remaining it.entry.script) (λ lines.
-        EndsKeeping (seen W.written W.failures out.old out.new) (RunFault.Script ScriptFault.Io) (OfText lines (LeavesBench file rows)) result))) }
+        EndsKeeping (seen W.written W.failures out.old out.new) (RunFault.Script ScriptFault.Io)
+        (OfText lines (LeavesBench file rows)) result))) }
 {
     let circuit = read_whole(terminal.alloc(), it.circuit, Part::Circuit)?;
     let stimulus = read_whole(terminal.alloc(), it.stimulus, Part::Stimulus)?;
@@ -86,7 +87,8 @@ fn write_replies<R: Files + AllocGlobal + Print + Eprint + Clock, F: Read + Drop
 ) -> Result<(), Exit>
 where
     R::File: AsFd,
-    ensures ends { IfSome (F.remaining script) (λ lines. EndsKeeping (seen W.written W.failures out.old out.new) (RunFault.Script ScriptFault.Io)
+    ensures ends { IfSome (F.remaining script) (λ lines.
+        EndsKeeping (seen W.written W.failures out.old out.new) (RunFault.Script ScriptFault.Io)
         (OfText lines (LeavesBench texts.entry.circuit.now texts.entry.stimulus.now)) result) }
 {
     let mut script = Known::new(script);

@@ -18,7 +18,8 @@ use std::io::Read;
 /// Writes the formula of a question.
 pub fn cnf<F: Read + Drop, W: Write>(alloc: Global, it: Cnf<F>, out: &mut W) -> Result<(), Exit>
     ensures ends { IfSome (F.remaining it.circuit) (λ file. IfSome (claims_left F.remaining it.question) (λ claims.
-        Ends (seen W.written W.failures out.old out.new) RunFault.Output end_of (WritesQuestion (asked_by it.question (λ certificate. claims)) file) result)) }
+        Ends (seen W.written W.failures out.old out.new) RunFault.Output end_of
+        (WritesQuestion (asked_by it.question (λ certificate. claims)) file) result)) }
 {
     let circuit = read_whole(alloc, it.circuit, Part::Circuit)?;
     let shape = it.question.with(());
@@ -63,7 +64,8 @@ pub fn refute<F: Read + Drop, W: Write>(
     ensures says { OnOk result (IfSome (F.remaining it.circuit)
         (λ file. (claims : List ℕ) × Says (asked_by it.question (λ certificate. claims)) file)) }
     ensures ends { IfSome (F.remaining it.circuit) (λ file. IfSome (claims_left F.remaining it.question) (λ claims.
-        Ends (seen W.written W.failures out.old out.new) RunFault.Output end_of (RefutesQuestion (asked_by it.question (λ certificate. claims)) file) result)) }
+        Ends (seen W.written W.failures out.old out.new) RunFault.Output end_of
+        (RefutesQuestion (asked_by it.question (λ certificate. claims)) file) result)) }
 {
     let circuit = read_whole(alloc, it.circuit, Part::Circuit)?;
     let shape = it.question.with(());

@@ -21,7 +21,8 @@ pub fn check<F: Read + Drop, W: Write>(alloc: Global, it: Check<F>, out: &mut W)
     ensures confirmed { OnOk result (IfSome (F.remaining it.circuit)
         (λ file. IfSome (F.remaining it.witness) (AreConfirmed it.property file))) }
     ensures ends { IfSome (F.remaining it.circuit) (λ file. IfSome (F.remaining it.witness) (λ text.
-        Ends (seen W.written W.failures out.old out.new) RunFault.Output end_of_verdict (OfFile file (ChecksWitness it.with_trace it.property text)) result)) }
+        Ends (seen W.written W.failures out.old out.new) RunFault.Output end_of_verdict
+        (OfFile file (ChecksWitness it.with_trace it.property text)) result)) }
 {
     let circuit = read_whole(alloc, it.circuit, Part::Circuit)?;
     let witness = read_whole(alloc, it.witness, Part::Witness)?;
@@ -38,7 +39,8 @@ pub fn check<F: Read + Drop, W: Write>(alloc: Global, it: Check<F>, out: &mut W)
 
 fn write_verdict<W: Write>(alloc: Global, it: Check<&[u8]>, out: &mut W) -> Result<(), Exit>
     ensures { Ends (seen W.written W.failures out.old out.new) RunFault.Output end_of_verdict
-        (OfFile it.entry.circuit.now (ChecksWitness it.entry.with_trace it.entry.property it.entry.witness.now)) result }
+        (OfFile it.entry.circuit.now
+        (ChecksWitness it.entry.with_trace it.entry.property it.entry.witness.now)) result }
 {
     if it.with_trace {
         let done = check::check_and_trace(alloc, it.circuit, it.witness, it.property, out);
@@ -56,7 +58,8 @@ pub fn reduce<F: Read + Drop, W: Write>(
     out: &mut W,
 ) -> Result<(), Exit>
     ensures ends { IfSome (F.remaining it.circuit) (λ file. IfSome (F.remaining it.witness) (λ text.
-        Ends (seen W.written W.failures out.old out.new) RunFault.Output end_of_verdict (OfFile file (Reduces text)) result)) }
+        Ends (seen W.written W.failures out.old out.new) RunFault.Output end_of_verdict
+        (OfFile file (Reduces text)) result)) }
 {
     let circuit = read_whole(alloc, it.circuit, Part::Circuit)?;
     let witness = read_whole(alloc, it.witness, Part::Witness)?;
@@ -73,7 +76,8 @@ pub fn wave_witness<F: Read + Drop, W: Write>(
     out: &mut W,
 ) -> Result<(), Exit>
     ensures ends { IfSome (F.remaining it.circuit) (λ file. IfSome (F.remaining it.witness) (λ text.
-        Ends (seen W.written W.failures out.old out.new) RunFault.Output end_of (OfFile file (DumpsRun text)) result)) }
+        Ends (seen W.written W.failures out.old out.new) RunFault.Output end_of
+        (OfFile file (DumpsRun text)) result)) }
 {
     let circuit = read_whole(alloc, it.circuit, Part::Circuit)?;
     let witness = read_whole(alloc, it.witness, Part::Witness)?;
@@ -90,7 +94,8 @@ pub fn witness<F: Read + Drop, W: Write>(
     out: &mut W,
 ) -> Result<(), Exit>
     ensures ends { IfSome (F.remaining it.circuit) (λ file. IfSome (F.remaining it.stimulus) (λ text.
-        Ends (seen W.written W.failures out.old out.new) RunFault.Output end_of (OfFile file (WritesWitness it.property text)) result)) }
+        Ends (seen W.written W.failures out.old out.new) RunFault.Output end_of
+        (OfFile file (WritesWitness it.property text)) result)) }
 {
     let circuit = read_whole(alloc, it.circuit, Part::Circuit)?;
     let stimulus = read_whole(alloc, it.stimulus, Part::Stimulus)?;
