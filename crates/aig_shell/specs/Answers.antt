@@ -5,6 +5,7 @@ use Rattle.std.specs.Prelude.{[], ◌∷◌, ◌++◌, length, map, codes, decim
 use Rattle.std.specs.Str.{bytes_eq}
 use Rattle.aig_parts.specs.declared.raw.Raw.{Raw}
 use Rattle.aig_parts.specs.declared.symbols.Kind.TheVariants.{Bad}
+use Rattle.aig_parts.specs.declared.ternary.Tern.{Tern}
 use Rattle.aig_base.specs.Value.{start_of}
 use Rattle.aig_bench.specs.BenchState.{CircuitAndRows}
 use Rattle.aig_names.specs.Names.{words}
@@ -17,6 +18,7 @@ use Rattle.aig_prompt.specs.Words.{spaced_byte}
 use Rattle.aig_shell.specs.Edits.{AreFrames, Does}
 use Rattle.aig_shell.specs.Explained.{Explains, IsFrameOrLast}
 use Rattle.aig_shell.specs.Files.{KeptText, Call, refused, calls_of, saved, IsWitnessed, IsWave}
+use Rattle.aig_shell.specs.Reasons.{AreConstraints, AreStarts, broken_text, no_property_text, start_text}
 use Rattle.aig_shell.specs.Request as request
 use Rattle.aig_shell.specs.Request.{Request, show, why_first, why, set, start, add, gate, rewire, append, out, check}
 use Rattle.aig_shell.specs.Request.{diff, save, witness, wave, list_names, help, quit, request_words, IsRequest}
@@ -24,6 +26,7 @@ use Rattle.aig_shell.specs.Request.{IsNoRequest}
 use Rattle.aig_shell.specs.Standing.{IsStanding, standing_text}
 use Rattle.aig_shell.specs.State.{SessionState, circuit_of}
 use Rattle.aig_shell.specs.Tables.{IsShown, IsDifference}
+use Rattle.aig_shell.specs.declared.answers.check.Broken.{Broken}
 use Rattle.aig_shell.specs.declared.answers.check.Standing.{Standing}
 
 -- ---- frames that are shown where none are named
@@ -64,11 +67,17 @@ standings_text raw k [] = []
 standings_text raw k (standing ∷ more) =
     property_name raw k ++ (codes ": " ++ (standing_text standing ++ 10 ∷ standings_text raw (k + 1) more))
 
--- A line for each property. After them comes why the run is none of the circuit, which is only tested.
+-- why the run is none of the circuit: a constraint that is not 1, and a start that a reset does not allow
+abbrev pub reasons_text : Raw → Option Broken → Option (ℕ × Tern) → List ℕ
+reasons_text raw broken wrong = no_property_text raw.bad ++ (broken_text raw broken ++ start_text raw wrong)
+
+-- a line for each property, or one that there is none; after them come the reasons
 abbrev pub IsChecked : SessionState → List ℕ → Type 0
 IsChecked s text =
-    (standings : List Standing) × (reasons : List ℕ) × AreStandings (circuit_of s) s.pair 0 s.pair.circuit.bad standings
-    × (text ≡ standings_text s.pair.circuit 0 standings ++ reasons)
+    (standings : List Standing) × (broken : Option Broken) × (wrong : Option (ℕ × Tern))
+    × AreStandings (circuit_of s) s.pair 0 s.pair.circuit.bad standings × AreConstraints s.pair broken
+    × AreStarts (circuit_of s) (start_of s.pair.circuit) wrong
+    × (text ≡ standings_text s.pair.circuit 0 standings ++ reasons_text s.pair.circuit broken wrong)
 
 -- ---- what a line does
 

@@ -7,6 +7,7 @@ pub mod Ends
 pub mod Explained
 pub mod Files
 pub mod Pieces
+pub mod Reasons
 pub mod Request
 pub mod Session
 pub mod Standing

@@ -28,6 +28,10 @@ pub record IsBroken (p : CircuitAndRows) (t k : ℕ) (w : Tern) : Type 0 where
   pub value_is : HasValue p t literal w
   pub not_one : w ≢ One
 
+-- the first n constraints are 1 at this frame
+abbrev pub HoldBelow : CircuitAndRows → ℕ → ℕ → Type 0
+HoldBelow p t n = (k l : ℕ) → k < n → slice_get p.circuit.constraints k ≡ Some l → HasValue p t l One
+
 -- all constraints are 1 at this frame
 abbrev pub HoldAt : CircuitAndRows → ℕ → Type 0
 HoldAt p t = (k l : ℕ) → slice_get p.circuit.constraints k ≡ Some l → HasValue p t l One
@@ -36,10 +40,11 @@ HoldAt p t = (k l : ℕ) → slice_get p.circuit.constraints k ≡ Some l → Ha
 abbrev pub HoldBefore : CircuitAndRows → ℕ → Type 0
 HoldBefore p t = (u : ℕ) → u < t → HoldAt p u
 
--- a constraint is not 1 at this frame, and all are before
+-- constraint k is the first that is not 1 at this frame, and all are 1 before
 pub record IsFirstBroken (p : CircuitAndRows) (t k : ℕ) (w : Tern) : Type 0 where
   pub frame : t < length p.rows
   pub broken : IsBroken p t k w
+  pub below : HoldBelow p t k
   pub before : HoldBefore p t
 
 -- each latch starts as its reset allows

@@ -9,7 +9,7 @@ ghost use Rattle.aig_shell.specs.Edits.{ArePositions, MeansInputs, MeansLatches}
 ghost use Rattle.aig_base.specs.Runs.{Allows};
 ghost use Rattle.aig_base.specs.Sound.{IsReset};
 ghost use Rattle.aig_base.specs.Value.{reset_value, start_of};
-ghost use Rattle.aig_sim.specs.Verdict.{StartsWrong};
+ghost use Rattle.aig_shell.specs.Reasons.{IsFirstWrong};
 ghost use Rattle.aig_shell.specs.Standing.{StartsRight};
 ghost use Rattle.aig_shell.specs.Conversation.{RefusesRows};
 ghost use Rattle.aig_shell.specs.Session.{BeginsAt, IsIn, IsSession, KeepsRun, first_state, own_circuit};
@@ -301,8 +301,8 @@ impl Session {
     /// The number of the latch that does not start as its reset says, the least, with its value; none where all do.
     pub(crate) fn other_start(&self) -> Option<(u32, Tern)>
         requires session { IsSession self.now }
-        ensures some { IfSome result (λ found.
-            StartsWrong (own_circuit self.now) (start_of self.now.run.bench.pair.circuit) found.0) }
+        ensures some { IfSome result (λ found. IsFirstWrong (own_circuit self.now)
+            (start_of self.now.run.bench.pair.circuit) found.0 found.1) }
         ensures none { IfNone result (StartsRight (own_circuit self.now) (start_of self.now.run.bench.pair.circuit)) }
     {
         let circuit = self.circuit();

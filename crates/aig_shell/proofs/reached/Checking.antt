@@ -1,13 +1,20 @@
 -- What `check` says, as text.
 use Rattle.std.proofs.Common.{◌≡◌, ℕ, suc, ◌+◌, List, [], ◌∷◌, ◌++◌, length, refl, sym, ap, ◌∙◌, subst, arith}
-use Rattle.std.proofs.Common.{append_assoc, codes}
+use Rattle.std.proofs.Common.{append_assoc, codes, decimal, Option, None, Some, IfNone, IfSome}
 use Rattle.aig_parts.specs.declared.raw.Raw.{Raw}
+use Rattle.aig_parts.specs.declared.symbols.Kind.TheVariants.{Constraint, Latch}
+use Rattle.aig_parts.specs.declared.ternary.Tern.{Tern}
+use Rattle.aig_base.specs.Value.{start_of}
 use Rattle.aig_bench.specs.BenchState.{CircuitAndRows}
+use Rattle.aig_signals.specs.Names.{first_name}
+use Rattle.aig_values.specs.Characters.{character}
+use Rattle.aig_shell.specs.declared.answers.check.Broken.{Broken}
 use Rattle.aig_shell.specs.declared.answers.check.Standing.{Standing}
 use Rattle.aig_shell.specs.declared.session.Session.{Session}
-use Rattle.aig_shell.specs.Answers.{AreStandings, IsChecked, property_name, standings_text}
+use Rattle.aig_shell.specs.Answers.{AreStandings, IsChecked, property_name, reasons_text, standings_text}
+use Rattle.aig_shell.specs.Reasons.{AreConstraints, AreStarts, IsFirstWrong, broken_text, no_property_text, start_text}
 use Rattle.aig_shell.specs.Session.{IsIn, own_circuit}
-use Rattle.aig_shell.specs.Standing.{IsStanding, standing_text}
+use Rattle.aig_shell.specs.Standing.{HoldBefore, IsFirstBroken, IsStanding, StartsRight, standing_text}
 use Rattle.aig_shell.specs.State.{SessionState, circuit_of}
 
 nest : (a b c s l : List ℕ) → (a ++ (b ++ (c ++ s))) ++ l ≡ a ++ (b ++ (c ++ (s ++ l)))
@@ -21,12 +28,51 @@ five a b c d e f =
     ∙ append_assoc (a ++ b) c (d ++ (e ++ f)) ∙ append_assoc a b (c ++ (d ++ (e ++ f)))
 
 -- a text that grew, and grew again
-pub grown : (t0 t1 t2 : List ℕ) → (a : List ℕ) × (t1 ≡ t0 ++ a) → (b : List ℕ) × (t2 ≡ t1 ++ b) → (r : List ℕ) × (t2 ≡ t0 ++ r)
-grown t0 t1 t2 (a, e) (b, f) = (a ++ b, f ∙ ap (λ (z : List ℕ). z ++ b) e ∙ append_assoc t0 a b)
+pub grown : (t0 t1 t2 a b : List ℕ) → t1 ≡ t0 ++ a → t2 ≡ t1 ++ b → t2 ≡ t0 ++ (a ++ b)
+grown t0 t1 t2 a b e f = f ∙ ap (λ (z : List ℕ). z ++ b) e ∙ append_assoc t0 a b
+
+-- the line of a constraint
+pub broken_added : (raw named : Raw) (b : Broken) (old mid new letter : List ℕ) (frame : ℕ) → named ≡ raw
+    → letter ≡ character b.value ∷ [] → frame ≡ b.frame → mid ≡ old ++ first_name named Constraint b.constraint
+    → new ≡ mid ++ (codes " is " ++ (letter ++ (codes " at " ++ (decimal frame ++ 10 ∷ []))))
+    → new ≡ old ++ broken_text raw (Some b)
+broken_added raw named b old mid new letter frame same said at name rest =
+    grown old mid new (first_name raw Constraint b.constraint)
+    (codes " is " ++ character b.value ∷ (codes " at " ++ (decimal b.frame ++ 10 ∷ [])))
+    (name ∙ ap (λ (r : Raw). old ++ first_name r Constraint b.constraint) same)
+    (rest ∙ ap (λ (z : List ℕ). mid ++ (codes " is " ++ (z ++ (codes " at " ++ (decimal frame ++ 10 ∷ []))))) said
+    ∙ ap (λ (n : ℕ). mid ++ (codes " is " ++ character b.value ∷ (codes " at " ++ (decimal n ++ 10 ∷ [])))) at)
+
+-- the line of a latch
+pub start_added : (raw named : Raw) (k : ℕ) (w : Tern) (old mid new letter : List ℕ) → named ≡ raw
+    → letter ≡ character w ∷ [] → mid ≡ old ++ first_name named Latch k
+    → new ≡ mid ++ (codes " starts at " ++ (letter ++ codes ", not at its reset\n")) → new ≡ old ++ start_text raw (Some (k, w))
+start_added raw named k w old mid new letter same said name rest =
+    grown old mid new (first_name raw Latch k) (codes " starts at " ++ character w ∷ codes ", not at its reset\n")
+    (name ∙ ap (λ (r : Raw). old ++ first_name r Latch k) same)
+    (rest ∙ ap (λ (z : List ℕ). mid ++ (codes " starts at " ++ (z ++ codes ", not at its reset\n"))) said)
 
 -- what follows the lines of the properties
-pub finished : (old t1 t2 lines reasons : List ℕ) → old ≡ [] → t1 ≡ old ++ lines → t2 ≡ t1 ++ reasons → t2 ≡ lines ++ reasons
-finished old t1 t2 lines reasons none e f = f ∙ ap (λ (z : List ℕ). z ++ reasons) (e ∙ ap (λ (z : List ℕ). z ++ lines) none)
+pub finished : (raw named : Raw) (old t1 t2 t3 lines : List ℕ) (broken : Option Broken) (wrong : Option (ℕ × Tern)) → named ≡ raw
+    → (bad : List ℕ) → bad ≡ named.bad → old ≡ [] → t1 ≡ old ++ lines → t2 ≡ t1 ++ no_property_text bad
+    → t3 ≡ t2 ++ (broken_text raw broken ++ start_text raw wrong) → t3 ≡ lines ++ reasons_text raw broken wrong
+finished raw named old t1 t2 t3 lines broken wrong same bad are none e f g =
+    grown lines t2 t3 (no_property_text raw.bad) (broken_text raw broken ++ start_text raw wrong)
+    (f ∙ ap (λ (z : List ℕ). z ++ no_property_text bad) (e ∙ ap (λ (z : List ℕ). z ++ lines) none)
+    ∙ ap (λ (ls : List ℕ). lines ++ no_property_text ls) (are ∙ ap (λ (r : Raw). r.bad) same)) g
+
+-- what is found of constraints and of starts
+pub breaks : (p : CircuitAndRows) (broken : Option Broken)
+    → IfSome broken (λ b. IsFirstBroken p b.frame b.constraint b.value) → IfNone broken (HoldBefore p (length p.rows))
+    → AreConstraints p broken
+breaks p None some none = none
+breaks p (Some b) some none = some
+
+pub starts : (session : Session) (wrong : Option (ℕ × Tern)) → let start = start_of session.run.bench.pair.circuit in
+    IfSome wrong (λ found. IsFirstWrong (own_circuit session) start found.0 found.1)
+    → IfNone wrong (StartsRight (own_circuit session) start) → AreStarts (own_circuit session) start wrong
+starts session None some none = none
+starts session (Some (k, w)) some none = some
 
 -- a text with one line more
 pub line_added : (t1 t2 t3 t4 t5 first lines name colon said : List ℕ) → t1 ≡ first ++ lines → t2 ≡ t1 ++ name → t3 ≡ t2 ++ colon
@@ -81,14 +127,20 @@ no_text raw = refl
 pub own_is : (session : Session) (s : SessionState) → IsIn session s → circuit_of s ≡ own_circuit session
 own_is session s is = λ i. record (is.pair i).circuit { latches = is.latches i }
 
-pub checked : (session : Session) (s : SessionState) (text reasons : List ℕ) (standings : List Standing) → IsIn session s
-    → AreStandings (own_circuit session) session.run.bench.pair 0 session.run.bench.pair.circuit.bad standings
-    → text ≡ standings_text session.run.bench.pair.circuit 0 standings ++ reasons → IsChecked s text
-checked session s text reasons standings is are e = (
+pub checked : (session : Session) (s : SessionState) (text : List ℕ) (standings : List Standing) (broken : Option Broken)
+    (wrong : Option (ℕ × Tern)) → let p = session.run.bench.pair in
+    IsIn session s → AreStandings (own_circuit session) p 0 p.circuit.bad standings → AreConstraints p broken
+    → AreStarts (own_circuit session) (start_of p.circuit) wrong
+    → text ≡ standings_text p.circuit 0 standings ++ reasons_text p.circuit broken wrong → IsChecked s text
+checked session s text standings broken wrong is are constraints begins e = (
   standings,
-  reasons,
+  broken,
+  wrong,
   subst (λ (p : CircuitAndRows). AreStandings (circuit_of s) p 0 p.circuit.bad standings) (sym is.pair)
       (subst (λ (raw : Raw). AreStandings raw session.run.bench.pair 0 session.run.bench.pair.circuit.bad standings)
       (sym (own_is session s is)) are),
-  e ∙ ap (λ (p : CircuitAndRows). standings_text p.circuit 0 standings ++ reasons) (sym is.pair),
+  subst (λ (p : CircuitAndRows). AreConstraints p broken) (sym is.pair) constraints,
+  subst (λ (p : CircuitAndRows). AreStarts (circuit_of s) (start_of p.circuit) wrong) (sym is.pair)
+      (subst (λ (raw : Raw). AreStarts raw (start_of session.run.bench.pair.circuit) wrong) (sym (own_is session s is)) begins),
+  e ∙ ap (λ (p : CircuitAndRows). standings_text p.circuit 0 standings ++ reasons_text p.circuit broken wrong) (sym is.pair),
 )

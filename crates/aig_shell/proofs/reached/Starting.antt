@@ -46,7 +46,7 @@ module _ (s : Session) (h : IsSession s) (k : ℕ) (own now : Latch) (at : slice
   pub own_reset : IsReset own
   own_reset = All-at IsReset s.run.latches.items k own h.resets at
 
-  start_is : slice_get (start_of s.run.bench.pair.circuit) k ≡ Some (reset_value now.reset)
+  pub start_is : slice_get (start_of s.run.bench.pair.circuit) k ≡ Some (reset_value now.reset)
   start_is = slice_get-map (λ (x : Latch). reset_value x.reset) s.run.bench.pair.circuit.latches k ∙ rw stands refl
 
   pub wrong_start : (Allows own (reset_value now.reset) → ⊥) → StartsWrong (own_circuit s) (start_of s.run.bench.pair.circuit) k

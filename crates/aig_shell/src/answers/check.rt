@@ -9,9 +9,10 @@ ghost use Rattle.aig_signals.specs.Lookup.{entry_in};
 ghost use Rattle.aig_sim.specs.Reached.{IsFirstReached, ReachesNone};
 ghost use Rattle.aig_sim.specs.Verdict.{StartsWrong};
 ghost use Rattle.aig_shell.specs.Answers.{AreStandings, IsChecked, property_name, standings_text};
+ghost use Rattle.aig_shell.specs.Reasons.{broken_text, no_property_text, start_text};
 ghost use Rattle.aig_shell.specs.Session.{IsIn, IsSession, own_circuit};
-ghost use Rattle.aig_shell.specs.Standing.{HoldAt, HoldBefore, IsBroken, IsFirstAt, IsFirstBroken, IsNever, IsStanding};
-ghost use Rattle.aig_shell.specs.Standing.{StartsRight, standing_text};
+ghost use Rattle.aig_shell.specs.Standing.{HoldAt, HoldBefore, HoldBelow, IsBroken, IsFirstAt, IsFirstBroken, IsNever};
+ghost use Rattle.aig_shell.specs.Standing.{IsStanding, StartsRight, standing_text};
 ghost use Rattle.aig_shell.specs.State.{SessionState};
 
 use crate::answers::gate::letter;
@@ -25,10 +26,10 @@ use aig_sim::{Reached, first_reached, first_states};
 
 /// A frame and a constraint that is not 1 there.
 #[derive(Clone, Copy, Drop)]
-struct Broken {
-    frame: u32,
-    constraint: u32,
-    value: Tern,
+pub(crate) struct Broken {
+    pub(crate) frame: u32,
+    pub(crate) constraint: u32,
+    pub(crate) value: Tern,
 }
 
 /// What a run does to a property.
@@ -92,11 +93,11 @@ fn push_standing(text: &mut Vec<u8>, standing: Standing) -> Result<(), Memory>
     }
 }
 
-/// Says that there is no property, where nothing was said of one.
-fn push_none(text: &mut Vec<u8>) -> Result<(), Memory>
-    ensures { OnOk result ((reasons : List ℕ) × (text.new.items ≡ text.old.items ++ reasons)) }
+/// Says that there is no property, where there is none.
+fn push_none(text: &mut Vec<u8>, properties: &[Lit]) -> Result<(), Memory>
+    ensures { OnOk result (text.new.items ≡ text.old.items ++ no_property_text properties.now) }
 {
-    if text.is_empty() {
+    if properties.is_empty() {
         text.extend_from_slice(b"the circuit has no bad state property\n")?;
     }
     Ok(())
@@ -125,7 +126,8 @@ impl Session {
     fn broken_at(&self, frame: u32) -> Option<Broken>
         requires { frame < length self.now.run.bench.pair.rows }
         ensures some { IfSome result (λ b. (b.frame ≡ frame)
-            × IsBroken self.now.run.bench.pair frame b.constraint b.value) }
+            × IsBroken self.now.run.bench.pair frame b.constraint b.value
+            × HoldBelow self.now.run.bench.pair frame b.constraint) }
         ensures none { IfNone result (HoldAt self.now.run.bench.pair frame) }
     {
         let circuit = self.circuit();
@@ -245,7 +247,8 @@ impl Session {
 
     /// Adds `c1 is 0 at 8`.
     fn push_broken(&self, text: &mut Vec<u8>, broken: Broken) -> Result<(), Memory>
-        ensures { OnOk result ((reasons : List ℕ) × (text.new.items ≡ text.old.items ++ reasons)) }
+        ensures { OnOk result (text.new.items ≡ text.old.items ++
+            broken_text self.now.run.bench.pair.circuit (Some broken)) }
     {
         push_first_name(text, self.circuit(), Kind::Constraint, broken.constraint)?;
         let rest = [
@@ -265,7 +268,8 @@ impl Session {
         latch: u32,
         value: Tern,
     ) -> Result<(), Memory>
-        ensures { OnOk result ((reasons : List ℕ) × (text.new.items ≡ text.old.items ++ reasons)) }
+        ensures { OnOk result (text.new.items ≡ text.old.items ++
+            start_text self.now.run.bench.pair.circuit (Some (latch, value))) }
     {
         push_first_name(text, self.circuit(), Kind::Latch, latch)?;
         let rest = [
@@ -277,14 +281,20 @@ impl Session {
     }
 
     /// Adds why the run is none of the circuit, where it is none.
-    fn push_reasons(&self, text: &mut Vec<u8>, broken: Option<Broken>) -> Result<(), Memory>
-        requires session { IsSession self.now }
-        ensures { OnOk result ((reasons : List ℕ) × (text.new.items ≡ text.old.items ++ reasons)) }
+    fn push_reasons(
+        &self,
+        text: &mut Vec<u8>,
+        broken: Option<Broken>,
+        start: Option<(u32, Tern)>,
+    ) -> Result<(), Memory>
+        ensures { OnOk result (text.new.items ≡ text.old.items ++
+            (broken_text self.now.run.bench.pair.circuit broken
+            ++ start_text self.now.run.bench.pair.circuit start)) }
     {
         if let Some(broken) = broken {
             self.push_broken(text, broken)?;
         }
-        if let Some((latch, value)) = self.other_start() {
+        if let Some((latch, value)) = start {
             self.push_other_start(text, latch, value)?;
         }
         Ok(())
@@ -298,8 +308,8 @@ impl Session {
     {
         let broken = self.broken();
         self.push_standings(text, broken)?;
-        push_none(text)?;
-        self.push_reasons(text, broken)?;
+        push_none(text, self.circuit().bad())?;
+        self.push_reasons(text, broken, self.other_start())?;
         Ok(())
     }
 

@@ -1,5 +1,6 @@
 //! What defines a literal.
 ghost use Rattle.std.specs.Prelude.{◌≡◌, ◌++◌, ◌∷◌, ◌+◌, ◌*◌, [], OnOk, decimal};
+ghost use Rattle.aig_values.specs.Characters.{character};
 ghost use Rattle.aig_shell.specs.Edits.{EndsEdit, has_edited};
 ghost use Rattle.aig_shell.specs.Ends.{EndsQuery};
 ghost use Rattle.aig_shell.specs.Request as request;
@@ -94,7 +95,9 @@ fn push_gate(
 }
 
 /// The letter of a value.
-pub(crate) fn letter(value: Tern) -> &'static [u8] {
+pub(crate) fn letter(value: Tern) -> &'static [u8]
+    ensures { result.now ≡ character value ∷ [] }
+{
     match value {
         Tern::Zero => b"0",
         Tern::One => b"1",

@@ -28,6 +28,7 @@ returns-then-ne-clause-some c =
         value_is = c.value-found.ensures;
         not_one = other_value _ _ c.ne.result c.ne.ensures c.if-ne.true;
       },
+      c.loop-position.invariant,
     )
 
 pub loop-position-preserved : goal.loop-position-preserved

@@ -1,4 +1,4 @@
-use Rattle.std.proofs.Common.{◌≤◌, inl, inr, length, sym, ap, subst, ◌∙◌, arith}
+use Rattle.std.proofs.Common.{◌≤◌, inl, inr, length, Some, sym, ap, subst, ◌∙◌, arith}
 use Rattle.std.proofs.lemmas.Bool.{false≢true}
 use Rattle.aig_parts.specs.declared.raw.Raw.{Raw}
 use Rattle.aig_base.specs.Circuit.{IsCircuit}
@@ -8,7 +8,7 @@ use Rattle.aig_sim.specs.Verdict.{StartsWrong}
 use Rattle.aig_sim.proofs.VerdictLemmas.{no_latch_after, right_more}
 use Rattle.aig_base.proofs.lists.Items.{item_at}
 use Rattle.aig_shell.specs.Session.{own_circuit}
-use Rattle.aig_shell.proofs.reached.Starting.{own_over, own_reset, right_start, same_size, wrong_start}
+use Rattle.aig_shell.proofs.reached.Starting.{own_over, own_reset, right_start, same_size, start_is, wrong_start}
 use Rattle.aig_shell.proofs.session.Session.other_start.Goals as goal
 
 pub starts_elsewhere-requires-clause-literal : goal.starts_elsewhere-requires-clause-literal
@@ -51,7 +51,15 @@ returns-then-starts_elsewhere-clause-some c =
     let stands = item_at c.latches-now.result.now s.run.bench.pair.circuit.latches i now
     (c.latches-now.ensures ∙ ap (λ (r : Raw). r.latches) c.circuit-circuit.ensures)
     (omega (arith, c.loop-place-test.true, c.min-place-end.ensures)) c.index-now-place.is in
-    wrong_start s h i own now at stands (c.starts_elsewhere.ensures.0 c.if-starts_elsewhere.true)
+    let value = c.index-now-place-then-starts_elsewhere.result in
+    let same = item_at c.latches-now.result.now s.run.bench.pair.circuit.latches i value
+    (c.latches-now.ensures ∙ ap (λ (r : Raw). r.latches) c.circuit-circuit.ensures)
+    (omega (arith, c.loop-place-test.true, c.min-place-end.ensures)) c.index-now-place-then-starts_elsewhere.is in
+    record {
+      wrong = wrong_start s h i own now at stands (c.starts_elsewhere.ensures.0 c.if-starts_elsewhere.true);
+      value_is = start_is s h i own value at same ∙ ap Some (sym c.first_value.ensures);
+      before = c.loop-place.invariant;
+    }
 
 pub loop-place-preserved : goal.loop-place-preserved
 loop-place-preserved c =

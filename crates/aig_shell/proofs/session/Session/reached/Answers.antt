@@ -10,7 +10,8 @@ use Rattle.aig_shell.proofs.session.Session.reached.Goals as goal
 pub returns-in-Some-clause-err : goal.returns-in-Some-clause-err
 returns-in-Some-clause-err c = λ other.
     let s = c.args.self.now in
-    reaches_none (own_circuit s) (start_of s.run.bench.pair.circuit) s.run.bench.pair.rows c.args.asked c.in-Some.latch c.in-Some.ensures.some
+    reaches_none (own_circuit s) (start_of s.run.bench.pair.circuit) s.run.bench.pair.rows c.args.asked c.in-Some.latch
+    (let first = c.in-Some.ensures.some in first.wrong)
 
 pub returns-in-Some-2-clause-ok : goal.returns-in-Some-2-clause-ok
 returns-in-Some-2-clause-ok c =
