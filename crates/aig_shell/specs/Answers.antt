@@ -17,7 +17,7 @@ use Rattle.aig_prompt.specs.Table.{TableRow, IsTable}
 use Rattle.aig_prompt.specs.Words.{spaced_byte}
 use Rattle.aig_shell.specs.Edits.{AreFrames, Does}
 use Rattle.aig_shell.specs.Explained.{Explains, IsFrameOrLast}
-use Rattle.aig_shell.specs.Files.{KeptText, Call, refused, calls_of, saved, IsWitnessed, IsWave}
+use Rattle.aig_shell.specs.Files.{KeptText, Call, refused, calls_of, no_start_text, saved, IsWitnessed, IsWave}
 use Rattle.aig_shell.specs.Reasons.{AreConstraints, AreStarts, broken_text, no_property_text, start_text}
 use Rattle.aig_shell.specs.Request as request
 use Rattle.aig_shell.specs.Request.{Request, show, why_first, why, set, start, add, gate, rewire, append, out, check}
@@ -98,15 +98,17 @@ EditsCircuit s r after =
 abbrev pub StartsByReset : SessionState → Type 0
 StartsByReset s = start_of s.pair.circuit ≡ start_of (circuit_of s)
 
--- the circuit is written, and with its rows the run, if it starts by the resets
-abbrev pub IsAfterSave : SessionState → Option (List ℕ) → SessionState → Type 0
-IsAfterSave s None after = after ≡ record s { has_edited_circuit = false; has_warned = false }
-IsAfterSave s (Some stimulus) after =
-    (StartsByReset s → after ≡ record s { kept = run_of s.pair; has_edited_circuit = false; has_warned = false })
-    × ((StartsByReset s → ⊥) → after ≡ record s { has_edited_circuit = false; has_warned = false })
+-- the circuit is written, and with its rows the run, if it starts by the resets; else the answer says that it is not
+abbrev pub AnswersSave : SessionState → Option (List ℕ) → List ℕ → SessionState → Type 0
+AnswersSave s None text after = (text ≡ []) × (after ≡ record s { has_edited_circuit = false; has_warned = false })
+AnswersSave s (Some stimulus) text after =
+    (StartsByReset s → (text ≡ [])
+    × (after ≡ record s { kept = run_of s.pair; has_edited_circuit = false; has_warned = false }))
+    × ((StartsByReset s → ⊥) → (text ≡ no_start_text stimulus)
+    × (after ≡ record s { has_edited_circuit = false; has_warned = false }))
 
 -- What a request answers, which files it writes at once, and what it leaves. Only tested are the texts after `gate`,
--- `save`, `witness`, `wave`, `names` and `help`, and the notes above a table.
+-- `names` and `help`, and the notes above a table.
 abbrev pub Answers : SessionState → Request → List ℕ → List KeptText → SessionState → Type 0
 Answers s (show names frames) text texts after =
     (first : ℕ) × (last : ℕ) × (rows : List TableRow) × (note : List ℕ) × (table : List ℕ)
@@ -140,10 +142,11 @@ Answers s (diff frames) text texts after =
     × IsDifference s.pair s.first first n rows × NoneElsewhere frames s count rows
     × (((rows ≡ []) × (table ≡ codes "no difference\n")) ⊎ ((rows ≢ []) × IsTable first n rows table)) × (text ≡ note ++ table)
     × (texts ≡ []) × (after ≡ calm s)
-Answers s (save circuit stimulus) text texts after = (texts ≡ saved s circuit stimulus) × IsAfterSave s stimulus after
+Answers s (save circuit stimulus) text texts after =
+    (texts ≡ saved s circuit stimulus) × AnswersSave s stimulus text after
 Answers s (witness file name) text texts after =
-    IsWitnessed s file name texts × (after ≡ record s { kept = run_of s.pair; has_warned = false })
-Answers s (wave file) text texts after = IsWave s file texts × (after ≡ calm s)
+    IsWitnessed s file name text texts × (after ≡ record s { kept = run_of s.pair; has_warned = false })
+Answers s (wave file) text texts after = IsWave s file texts × (text ≡ []) × (after ≡ calm s)
 Answers s (list_names part) text texts after = (texts ≡ []) × (after ≡ calm s)
 Answers s (help command) text texts after = (texts ≡ []) × (after ≡ calm s)
 Answers s quit text texts after = ⊥

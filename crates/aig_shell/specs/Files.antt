@@ -1,10 +1,11 @@
 -- What is written to files (our own choice).
 -- Example: `save C` gives C the circuit with the resets of its file.
-use Rattle.std.specs.Prelude.{◌≡◌, ℕ, ◌+◌, List, [], ◌∷◌, ◌++◌, decimal, take, flat_map, Option, None, Some, Result, Ok}
-use Rattle.std.specs.Prelude.{Err}
+use Rattle.std.specs.Prelude.{◌≡◌, ℕ, ◌+◌, List, [], ◌∷◌, ◌++◌, codes, decimal, take, flat_map, Option, None, Some}
+use Rattle.std.specs.Prelude.{Result, Ok, Err}
 use Rattle.aig_base.specs.Value.{start_of}
 use Rattle.aig_format.specs.Spelling.{short_ascii}
 use Rattle.aig_signals.specs.Lookup.{entry_in}
+use Rattle.aig_signals.specs.Names.{position_name}
 use Rattle.aig_parts.specs.declared.raw.Raw.{Raw}
 use Rattle.aig_parts.specs.declared.symbols.Kind.TheVariants.{Bad}
 use Rattle.aig_sim.specs.Dump.{IsDump}
@@ -46,11 +47,19 @@ abbrev pub IsAsked : Raw → Option (List ℕ) → Option ℕ → Type 0
 IsAsked raw None asked = asked ≡ None
 IsAsked raw (Some word) asked = (k : ℕ) × (asked ≡ Some k) × (entry_in raw word Bad ≡ Some k)
 
--- the run up to the first frame that reaches a property that is asked for
-abbrev pub IsWitnessed : SessionState → List ℕ → Option (List ℕ) → List KeptText → Type 0
-IsWitnessed s file word texts =
+-- what is said where the run does not start by the resets: the file of rows does not have its start
+abbrev pub no_start_text : List ℕ → List ℕ
+no_start_text stimulus = stimulus ++ codes " has no start of latches; witness FILE has\n"
+
+-- `b0 at 10: FILE`
+abbrev pub reached_text : ℕ → ℕ → List ℕ → List ℕ
+reached_text k t file = position_name Bad k ++ (codes " at " ++ (decimal t ++ (codes ": " ++ (file ++ 10 ∷ []))))
+
+-- the run up to the first frame that reaches a property that is asked for, and what is said of it
+abbrev pub IsWitnessed : SessionState → List ℕ → Option (List ℕ) → List ℕ → List KeptText → Type 0
+IsWitnessed s file word text texts =
     (asked : Option ℕ) × (t : ℕ) × (k : ℕ) × IsAsked s.pair.circuit word asked
-    × IsFirstReached (circuit_of s) (start_of s.pair.circuit) s.pair.rows asked t k
+    × IsFirstReached (circuit_of s) (start_of s.pair.circuit) s.pair.rows asked t k × (text ≡ reached_text k t file)
     × (texts ≡ record {
       name = file;
       text = witness_text (decimal k) (start_of s.pair.circuit)

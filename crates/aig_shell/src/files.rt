@@ -1,13 +1,13 @@
 //! What is written to files.
-ghost use Rattle.std.specs.Prelude.{◌≡◌, ◌≢◌, ℕ, ◌+◌, ◌<◌, [], IfErr, IfOk, IfSome, decimal, length, map, option_map};
-ghost use Rattle.std.specs.Prelude.{take, None, Option, Some};
+ghost use Rattle.std.specs.Prelude.{◌≡◌, ◌≢◌, ℕ, ◌+◌, ◌<◌, ◌++◌, [], IfErr, IfOk, IfSome, OnOk, decimal, length, map};
+ghost use Rattle.std.specs.Prelude.{option_map, take, None, Option, Some};
 ghost use Rattle.aig_base.specs.Value.{start_of};
 ghost use Rattle.aig_format.specs.Spelling.{short_ascii};
 ghost use Rattle.aig_sim.specs.Dump.{IsDump};
 ghost use Rattle.aig_sim.specs.StimulusText.{SpellsRows};
 ghost use Rattle.aig_sim.specs.WitnessText.{witness_text};
 ghost use Rattle.aig_shell.specs.Ends.{EndsFiles};
-ghost use Rattle.aig_shell.specs.Files.{IsAsked, after_keeping};
+ghost use Rattle.aig_shell.specs.Files.{IsAsked, after_keeping, no_start_text, reached_text};
 ghost use Rattle.aig_shell.specs.Request as request;
 ghost use Rattle.aig_shell.specs.Session.{IsSession, own_circuit};
 
@@ -46,7 +46,9 @@ fn keep<'a, K: Keep>(files: &mut K, texts: &[FileText<'a, '_>]) -> Result<(), Re
 }
 
 /// Adds that a file of rows does not say how the latches start.
-fn push_no_start(text: &mut Vec<u8>, stimulus: &[u8]) -> Result<(), Memory> {
+fn push_no_start(text: &mut Vec<u8>, stimulus: &[u8]) -> Result<(), Memory>
+    ensures { OnOk result (text.new.items ≡ text.old.items ++ no_start_text stimulus.now) }
+{
     let line = [
         Piece::Text(stimulus),
         Piece::Text(b" has no start of latches; witness FILE has\n"),
@@ -55,7 +57,9 @@ fn push_no_start(text: &mut Vec<u8>, stimulus: &[u8]) -> Result<(), Memory> {
 }
 
 /// Adds which property a witness reaches at which frame.
-fn push_reached(text: &mut Vec<u8>, reached: Reached, file: &[u8]) -> Result<(), Memory> {
+fn push_reached(text: &mut Vec<u8>, reached: Reached, file: &[u8]) -> Result<(), Memory>
+    ensures { OnOk result (text.new.items ≡ text.old.items ++ reached_text reached.property reached.frame file.now) }
+{
     push_position(text, Kind::Bad, reached.property)?;
     let rest = [
         Piece::Text(b" at "),
@@ -125,6 +129,7 @@ impl Session {
         stimulus: &'a [u8],
     ) -> Result<(), Refusal<'a>>
         requires session { IsSession self.old }
+        requires empty { text.old.items ≡ [] }
         ensures session { IsSession self.new }
         ensures files { EndsFiles self.old (request.save name.now (Some stimulus.now)) result text.new.items
             (K.calls files.old) (K.calls files.new) self.new }

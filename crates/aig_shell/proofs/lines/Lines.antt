@@ -10,7 +10,7 @@ use Rattle.aig_bench.specs.BenchState.{CircuitAndRows}
 use Rattle.aig_why.specs.Why.{run_of}
 use Rattle.aig_prompt.specs.Words.{spaced_byte}
 use Rattle.aig_shell.specs.Answers.{Answers, AnswersRequest, HasNoAnswer, IsRefusal, IsRefused, IsUnsaved}
-use Rattle.aig_shell.specs.Answers.{IsAfterSave, IsSilent, LineAnswer, StartsByReset, WordsAnswer, WritesNone, calm}
+use Rattle.aig_shell.specs.Answers.{AnswersSave, IsSilent, LineAnswer, StartsByReset, WordsAnswer, WritesNone, calm}
 use Rattle.aig_shell.specs.Answers.{line_words}
 use Rattle.aig_shell.specs.Commands.{query_of, edit_of, export_of, request_of}
 use Rattle.aig_shell.specs.Conversation.{AnswersLine, EndsQuit, EndsRequest, EndsWords, IsAt, ends_after, no_memory}
@@ -136,17 +136,18 @@ either_false : (b : Bool) (P : Type 0) → (P → b ≡ false) → ((P → ⊥) 
 either_false false P holds denied = refl
 either_false true P holds denied = denied (λ p. let e : true ≡ false = holds p in cc e)
 
-save_calms : (s : SessionState) (stimulus : Option (List ℕ)) (after : SessionState) → IsAfterSave s stimulus after → after.has_warned ≡ false
-save_calms s None after h = ap (λ (t : SessionState). t.has_warned) h
-save_calms s (Some stimulus) after h =
-    either_false after.has_warned (StartsByReset s) (λ p. ap (λ (t : SessionState). t.has_warned) (h.0 p))
-    (λ denied. ap (λ (t : SessionState). t.has_warned) (h.1 denied))
+save_calms : (s : SessionState) (stimulus : Option (List ℕ)) (text : List ℕ) (after : SessionState)
+    → AnswersSave s stimulus text after → after.has_warned ≡ false
+save_calms s None text after h = ap (λ (t : SessionState). t.has_warned) h.1
+save_calms s (Some stimulus) text after h =
+    either_false after.has_warned (StartsByReset s) (λ p. let g = h.0 p in ap (λ (t : SessionState). t.has_warned) g.1)
+    (λ denied. let g = h.1 denied in ap (λ (t : SessionState). t.has_warned) g.1)
 
 export_calms : (x : Export) (s : SessionState) (text : List ℕ) (texts : List KeptText) (after : SessionState)
     → Answers s (export_of x) text texts after → after.has_warned ≡ false
-export_calms (exports.Save circuit stimulus) s text texts after h = save_calms s _ after h.1
+export_calms (exports.Save circuit stimulus) s text texts after h = save_calms s _ text after h.1
 export_calms (exports.Witness file name) s text texts after h = ap (λ (t : SessionState). t.has_warned) h.1
-export_calms (exports.Wave file) s text texts after h = ap (λ (t : SessionState). t.has_warned) h.1
+export_calms (exports.Wave file) s text texts after h = ap (λ (t : SessionState). t.has_warned) h.2
 
 abbrev pub Calls : Type 0
 Calls = Option (List Call)

@@ -20,7 +20,7 @@ use Rattle.aig_shell.specs.declared.session.Session.{Session}
 use Rattle.aig_shell.specs.Answers.{Answers, HasNoAnswer, StartsByReset, calm}
 use Rattle.aig_shell.specs.Ends.{EndsFiles, with_calls}
 use Rattle.aig_shell.specs.Files as files
-use Rattle.aig_shell.specs.Files.{KeptText, Call, IsAsked, after_keeping, saved}
+use Rattle.aig_shell.specs.Files.{KeptText, Call, IsAsked, after_keeping, no_start_text, reached_text, saved}
 use Rattle.aig_shell.specs.Request.{Request, save, witness, wave}
 use Rattle.aig_shell.specs.Session.{IsIn, IsSession, KeepsRun, own_circuit}
 use Rattle.aig_shell.specs.State.{SessionState, circuit_of}
@@ -108,7 +108,7 @@ module _ (old : Session) where
       (record old { has_edited_circuit = false })
   circuit_saved name bytes e s h = (
     record s { has_edited_circuit = false; has_warned = false },
-    (ap (λ (t : List ℕ). record { name = name; text = t } ∷ []) (e ∙ ap short_ascii (own_is old s h)), refl),
+    (ap (λ (t : List ℕ). record { name = name; text = t } ∷ []) (e ∙ ap short_ascii (own_is old s h)), (refl, refl)),
     record { pair = h.pair; latches = h.latches; first = h.first; entries = h.entries; start = h.start; rows = h.rows; circuit = refl },
   )
 
@@ -122,13 +122,13 @@ module _ (old : Session) where
   -- the run starts by the resets, and is kept as the one that was written
   pub whole_saved : (name bytes stimulus rows text : List ℕ) (run : KeptRun) → bytes ≡ short_ascii (own_circuit old)
       → rows ≡ flat_map row_line old.run.bench.pair.rows → KeepsRun run old.run.bench.pair
-      → start_of old.run.bench.pair.circuit ≡ start_of (own_circuit old)
+      → start_of old.run.bench.pair.circuit ≡ start_of (own_circuit old) → text ≡ []
       → GivesTexts old (save name (Some stimulus)) text
       (record { name = name; text = bytes } ∷ record { name = stimulus; text = rows } ∷ [])
       (record old { kept = run; has_edited_circuit = false })
-  whole_saved name bytes stimulus rows text run e f keeps start s h = (
+  whole_saved name bytes stimulus rows text run e f keeps start said s h = (
     record s { kept = run_of s.pair; has_edited_circuit = false; has_warned = false },
-    (both_texts name bytes stimulus rows e f s h, ((λ yes. refl), (λ no. absurd (no (starts old s h start))))),
+    (both_texts name bytes stimulus rows e f s h, ((λ yes. (said, refl)), (λ no. absurd (no (starts old s h start))))),
     record {
       pair = h.pair;
       latches = h.latches;
@@ -143,13 +143,13 @@ module _ (old : Session) where
   -- it does not, so that the file of rows is not the run
   pub rows_saved : (name bytes stimulus rows text : List ℕ) → bytes ≡ short_ascii (own_circuit old)
       → rows ≡ flat_map row_line old.run.bench.pair.rows
-      → (start_of old.run.bench.pair.circuit ≡ start_of (own_circuit old) → ⊥)
+      → (start_of old.run.bench.pair.circuit ≡ start_of (own_circuit old) → ⊥) → text ≡ no_start_text stimulus
       → GivesTexts old (save name (Some stimulus)) text
       (record { name = name; text = bytes } ∷ record { name = stimulus; text = rows } ∷ [])
       (record old { has_edited_circuit = false })
-  rows_saved name bytes stimulus rows text e f other s h = (
+  rows_saved name bytes stimulus rows text e f other said s h = (
     record s { has_edited_circuit = false; has_warned = false },
-    (both_texts name bytes stimulus rows e f s h, ((λ yes. absurd (other (starts_back old s h yes))), (λ no. refl))),
+    (both_texts name bytes stimulus rows e f s h, ((λ yes. absurd (other (starts_back old s h yes))), (λ no. (said, refl)))),
     record { pair = h.pair; latches = h.latches; first = h.first; entries = h.entries; start = h.start; rows = h.rows; circuit = refl },
   )
 
@@ -157,9 +157,9 @@ module _ (old : Session) where
       (run : KeptRun) → IsAsked old.run.bench.pair.circuit word asked
       → IsFirstReached (own_circuit old) (start_of old.run.bench.pair.circuit) old.run.bench.pair.rows asked t k
       → bytes ≡ witness_text (decimal k) (start_of old.run.bench.pair.circuit) (take (t + 1) old.run.bench.pair.rows)
-      → KeepsRun run old.run.bench.pair
+      → KeepsRun run old.run.bench.pair → text ≡ reached_text k t file
       → GivesTexts old (witness file word) text (record { name = file; text = bytes } ∷ []) (record old { kept = run })
-  witness_saved file word bytes text asked t k run is_asked reached e keeps s h = (
+  witness_saved file word bytes text asked t k run is_asked reached e keeps said s h = (
     record s { kept = run_of s.pair; has_warned = false },
     (
       (
@@ -168,6 +168,7 @@ module _ (old : Session) where
         k,
         subst (λ (p : CircuitAndRows). IsAsked p.circuit word asked) (sym h.pair) is_asked,
         first_in old s h asked t k reached,
+        said,
         ap (λ (b : List ℕ). record { name = file; text = b } ∷ [])
             (e ∙ ap (λ (p : CircuitAndRows). witness_text (decimal k) (start_of p.circuit) (take (t + 1) p.rows))
             (sym h.pair)),
@@ -190,7 +191,7 @@ module _ (old : Session) where
       → GivesTexts old (wave file) [] (record { name = file; text = bytes } ∷ []) old
   wave_saved file bytes d s h = (
     calm s,
-    ((bytes, dump_in old s h bytes d, refl), refl),
+    ((bytes, dump_in old s h bytes d, refl), refl, refl),
     record { pair = h.pair; latches = h.latches; first = h.first; entries = h.entries; start = h.start; rows = h.rows; circuit = h.circuit },
   )
 
@@ -253,14 +254,14 @@ module _ (session : Session) (file : List ℕ) (word : Option (List ℕ)) where
   -- no property is named so
   pub no_property : ((asked : Option ℕ) → IsAsked session.run.bench.pair.circuit word asked → ⊥) → (s : SessionState)
       → IsIn session s → HasNoAnswer s (witness file word)
-  no_property none s h text texts after ((asked, t, k, is_asked, first, texts_are), after_is) =
+  no_property none s h text texts after ((asked, t, k, is_asked, first, said, texts_are), after_is) =
       none asked (subst (λ (p : CircuitAndRows). IsAsked p.circuit word asked) h.pair is_asked)
 
   -- none that is asked for is reached
   pub no_witness : (asked : Option ℕ) → IsAsked session.run.bench.pair.circuit word asked
       → ReachesNone (own_circuit session) (start_of session.run.bench.pair.circuit) session.run.bench.pair.rows asked
       → (s : SessionState) → IsIn session s → HasNoAnswer s (witness file word)
-  no_witness asked named none s h text texts after ((other, t, k, is_asked, first, texts_are), after_is) =
+  no_witness asked named none s h text texts after ((other, t, k, is_asked, first, said, texts_are), after_is) =
       let same : other ≡ asked
       = asked_one session.run.bench.pair.circuit word other asked
       (subst (λ (p : CircuitAndRows). IsAsked p.circuit word other) h.pair is_asked) named in

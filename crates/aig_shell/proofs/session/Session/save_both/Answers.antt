@@ -1,20 +1,21 @@
-use Rattle.std.proofs.Common.{[], ◌∷◌, Some, sym, ◌∙◌}
+use Rattle.std.proofs.Common.{ℕ, List, [], ◌∷◌, ◌++◌, Some, refl, sym, ap, ◌∙◌}
 use Rattle.std.proofs.lemmas.Bool.{false≢true}
+use Rattle.aig_shell.specs.Files.{no_start_text}
 use Rattle.aig_shell.specs.Request.{save}
 use Rattle.aig_shell.proofs.saved.Saved.{files_kept, files_refused, rows_saved, whole_saved}
 use Rattle.aig_shell.proofs.session.Session.save_both.Goals as goal
 
 pub returns-in_err-keep-clause-files : goal.returns-in_err-keep-clause-files
 returns-in_err-keep-clause-files g c =
-    files_refused c.args.self.now (save c.args.name.now (Some c.args.stimulus.now)) (Unit {0}) _ [] _
-    (g.K.Keep.calls c.args.files.now) (g.K.Keep.calls c.keep.new.files) c.from_residual-in_err-keep.result
+    files_refused c.args.self.now (save c.args.name.now (Some c.args.stimulus.now)) (Unit {0}) _
+    (no_start_text c.args.stimulus.now) _ (g.K.Keep.calls c.args.files.now) (g.K.Keep.calls c.keep.new.files) c.from_residual-in_err-keep.result
     c.in_err-keep.field-0.0
     (record { name = c.args.name.now; text = c.as_slice.result.now })
     (record { name = c.args.stimulus.now; text = c.as_slice-2.result.now } ∷ []) c.from_residual-in_err-keep.ensures.1
     c.in_err-keep.ensures.refused
-    (rows_saved c.args.self.now c.args.name.now c.as_slice.result.now c.args.stimulus.now c.as_slice-2.result.now []
-    (c.as_slice.ensures.value ∙ c.in_ok-circuit.ensures) (c.as_slice-2.ensures.value ∙ c.in_ok-rows.ensures.text_is)
-    (λ e. false≢true (sym c.if-not-starts_by_reset.true ∙ c.starts_by_reset.ensures.1 e)))
+    (rows_saved c.args.self.now c.args.name.now c.as_slice.result.now c.args.stimulus.now c.as_slice-2.result.now
+    (no_start_text c.args.stimulus.now) (c.as_slice.ensures.value ∙ c.in_ok-circuit.ensures) (c.as_slice-2.ensures.value ∙ c.in_ok-rows.ensures.text_is)
+    (λ e. false≢true (sym c.if-not-starts_by_reset.true ∙ c.starts_by_reset.ensures.1 e)) refl)
     c.in_err-keep.ensures.calls
 
 pub returns-then-not-starts_by_reset-clause-files : goal.returns-then-not-starts_by_reset-clause-files
@@ -26,7 +27,8 @@ returns-then-not-starts_by_reset-clause-files g c =
     (rows_saved c.args.self.now c.args.name.now c.as_slice.result.now c.args.stimulus.now c.as_slice-2.result.now
     c.push_no_start.new.text.items (c.as_slice.ensures.value ∙ c.in_ok-circuit.ensures)
     (c.as_slice-2.ensures.value ∙ c.in_ok-rows.ensures.text_is)
-    (λ e. false≢true (sym c.if-not-starts_by_reset.true ∙ c.starts_by_reset.ensures.1 e)))
+    (λ e. false≢true (sym c.if-not-starts_by_reset.true ∙ c.starts_by_reset.ensures.1 e))
+    (c.in_ok-push_no_start.ensures ∙ ap (λ (z : List ℕ). z ++ no_start_text c.args.stimulus.now) c.requires.empty))
     c.in_ok-keep.ensures.calls
 
 pub returns-in_err-keep-2-clause-files : goal.returns-in_err-keep-2-clause-files
@@ -40,7 +42,7 @@ returns-in_err-keep-2-clause-files g c =
     (whole_saved c.args.self.now c.args.name.now c.as_slice.result.now c.args.stimulus.now c.as_slice-2.result.now []
     c.in_ok-run.run' (c.as_slice.ensures.value ∙ c.in_ok-circuit.ensures)
     (c.as_slice-2.ensures.value ∙ c.in_ok-rows.ensures.text_is)
-    (rw c.bench.ensures at c.in_ok-run.ensures) (c.starts_by_reset.ensures.0 c.if-not-starts_by_reset.false))
+    (rw c.bench.ensures at c.in_ok-run.ensures) (c.starts_by_reset.ensures.0 c.if-not-starts_by_reset.false) refl)
     c.in_err-keep-2.ensures.calls
 
 pub returns-clause-files : goal.returns-clause-files
@@ -52,5 +54,6 @@ returns-clause-files g c =
     (whole_saved c.args.self.now c.args.name.now c.as_slice.result.now c.args.stimulus.now c.as_slice-2.result.now
     c.args.text.now.items c.in_ok-run.run' (c.as_slice.ensures.value ∙ c.in_ok-circuit.ensures)
     (c.as_slice-2.ensures.value ∙ c.in_ok-rows.ensures.text_is)
-    (rw c.bench.ensures at c.in_ok-run.ensures) (c.starts_by_reset.ensures.0 c.if-not-starts_by_reset.false))
+    (rw c.bench.ensures at c.in_ok-run.ensures) (c.starts_by_reset.ensures.0 c.if-not-starts_by_reset.false)
+    c.requires.empty)
     c.in_ok-keep-2.ensures.calls
