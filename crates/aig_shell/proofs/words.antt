@@ -1,4 +1,5 @@
--- What the words of a line mean: literals, inputs, latches and frames.
+-- What the words of a line mean: literals, inputs, latches and frames; and what is said of a literal.
+pub mod Definitions
 pub mod Literals
 pub mod Meanings
 pub mod Spans

@@ -15,6 +15,7 @@ use Rattle.aig_why.specs.Why.{run_of}
 use Rattle.aig_sim.specs.Reached.{IsFirstReached}
 use Rattle.aig_prompt.specs.Table.{TableRow, IsTable}
 use Rattle.aig_prompt.specs.Words.{spaced_byte}
+use Rattle.aig_shell.specs.Defined.{IsLiteralText, IsRewiredText}
 use Rattle.aig_shell.specs.Edits.{AreFrames, Does}
 use Rattle.aig_shell.specs.Explained.{Explains, IsFrameOrLast}
 use Rattle.aig_shell.specs.Files.{KeptText, Call, refused, calls_of, no_start_text, saved, IsWitnessed, IsWave}
@@ -107,8 +108,8 @@ AnswersSave s (Some stimulus) text after =
     × ((StartsByReset s → ⊥) → (text ≡ no_start_text stimulus)
     × (after ≡ record s { has_edited_circuit = false; has_warned = false }))
 
--- What a request answers, which files it writes at once, and what it leaves. Only tested are the texts after `gate`,
--- `names` and `help`, and the notes above a table.
+-- What a request answers, which files it writes at once, and what it leaves. Only tested are the texts after `names` and
+-- `help`, and the notes above a table.
 abbrev pub Answers : SessionState → Request → List ℕ → List KeptText → SessionState → Type 0
 Answers s (show names frames) text texts after =
     (first : ℕ) × (last : ℕ) × (rows : List TableRow) × (note : List ℕ) × (table : List ℕ)
@@ -128,8 +129,10 @@ Answers s (start name value) text texts after = EditsRun s (start name value) af
 Answers s (add count) text texts after = EditsRun s (add count) after × (text ≡ []) × (texts ≡ [])
 Answers s (request.drop count) text texts after = EditsRun s (request.drop count) after × (text ≡ []) × (texts ≡ [])
 Answers s (gate name) text texts after =
-    (literal : ℕ) × Means s.pair.circuit name (alone literal) × (texts ≡ []) × (after ≡ calm s)
-Answers s (rewire name side0 side1) text texts after = EditsCircuit s (rewire name side0 side1) after × (texts ≡ [])
+    (literal : ℕ) × Means s.pair.circuit name (alone literal) × IsLiteralText s.pair.circuit s.latches name literal text
+    × (texts ≡ []) × (after ≡ calm s)
+Answers s (rewire name side0 side1) text texts after =
+    EditsCircuit s (rewire name side0 side1) after × IsRewiredText s.pair.circuit name side0 side1 text × (texts ≡ [])
 Answers s (append side0 side1) text texts after =
     EditsCircuit s (append side0 side1) after × (text ≡ decimal (2 * (s.pair.circuit.max_var + 1)) ++ 10 ∷ [])
     × (texts ≡ [])

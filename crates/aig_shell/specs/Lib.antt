@@ -2,6 +2,7 @@ pub mod Answers
 pub mod Compared
 pub mod Commands
 pub mod Conversation
+pub mod Defined
 pub mod Edits
 pub mod Ends
 pub mod Explained

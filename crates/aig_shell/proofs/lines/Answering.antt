@@ -3,11 +3,13 @@ use Rattle.std.proofs.Common.{◌≡◌, ◌≢◌, ◌⊎◌, inl, inr, ℕ, �
 use Rattle.std.proofs.Common.{decimal, Option, None, Some, Result, Ok, Err, OnOk, IsErrAnd, Bor, append_assoc, refl}
 use Rattle.std.proofs.Common.{sym, ap, subst, ◌∙◌}
 use Rattle.aig_bytes.proofs.Results.{on_ok}
+use Rattle.aig_parts.specs.declared.latch.Latch.{Latch}
 use Rattle.aig_parts.specs.declared.ternary.Tern.{Tern}
 use Rattle.aig_bench.specs.BenchState.{CircuitAndRows}
 use Rattle.aig_signals.specs.Lookup.{Means, alone}
 use Rattle.aig_shell.specs.Answers.{Answers, EditsRun, EditsCircuit, HasNoAnswer, calm}
 use Rattle.aig_shell.specs.Commands.{query_of, edit_of, export_of}
+use Rattle.aig_shell.specs.Defined.{IsLiteralText, IsRewiredText}
 use Rattle.aig_shell.specs.Edits.{Does, EndsEdit, IsImpossible, has_edited}
 use Rattle.aig_shell.specs.Ends.{EndsChange, EndsFiles, EndsQuery}
 use Rattle.aig_shell.specs.Files.{Call}
@@ -119,12 +121,20 @@ drop_ends old new count result text empty k same does =
     run_changed old new (request.drop count) result text k same does (λ s after h. (h, empty, refl))
     (λ s none t ts after h. none h.0.0 h.0.1)
 
+rewired : (old : Session) (name side0 side1 : List ℕ) (result : Result (Unit {0}) Refusal) (text : List ℕ)
+    → OnOk result (IsRewiredText old.run.bench.pair.circuit name side0 side1 text)
+    → OnOk result ((s after : SessionState) → s.pair ≡ old.run.bench.pair → EditsCircuit s (rewire name side0 side1) after
+    → Answers s (rewire name side0 side1) text [] after)
+rewired old name side0 side1 (Ok x) text is = λ s after same h.
+    (h, subst (λ (p : CircuitAndRows). IsRewiredText p.circuit name side0 side1 text) (sym same) is, refl)
+rewired old name side0 side1 (Err e) text is = tt
+
 pub rewire_ends : (old new : Session) (name side0 side1 : List ℕ) (result : Result (Unit {0}) Refusal) (text : List ℕ)
-    → KeepsRest old new → new.has_edited_circuit ≡ has_edited old.has_edited_circuit result
+    → OnOk result (IsRewiredText old.run.bench.pair.circuit name side0 side1 text) → KeepsRest old new → new.has_edited_circuit ≡ has_edited old.has_edited_circuit result
     → EndsEdit old.run.bench.pair (rewire name side0 side1) result new.run.bench.pair
     → EndsChange old (rewire name side0 side1) result text new
-rewire_ends old new name side0 side1 result text k edited does =
-    circuit_changed old new (rewire name side0 side1) result text k edited does (on_ok result (λ s after same h. (h, refl)))
+rewire_ends old new name side0 side1 result text is k edited does =
+    circuit_changed old new (rewire name side0 side1) result text k edited does (rewired old name side0 side1 result text is)
     (λ s none t ts after h. none h.0.0 h.0.1)
 
 appended : (old new : Session) (side0 side1 : List ℕ) (result : Result (Unit {0}) Refusal) (was text : List ℕ) → was ≡ []
@@ -168,11 +178,20 @@ query_lacking session r (Ok x) text err = absurd err
 query_lacking session r (Err refusal) text err = λ other. absurd (other err)
 
 -- what defines a literal
-pub gate_answered : (session : Session) (name : List ℕ) (literal : ℕ) (text : List ℕ)
-    → Means session.run.bench.pair.circuit name (alone literal) → (s : SessionState) → IsIn session s
-    → Answers s (request.gate name) text [] (calm s)
-gate_answered session name literal text means s h =
-    (literal, subst (λ (p : CircuitAndRows). Means p.circuit name (alone literal)) (sym h.pair) means, refl, refl)
+pub gate_answered : (session : Session) (name : List ℕ) (literal : ℕ) (old text said : List ℕ) → old ≡ []
+    → text ≡ old ++ said → Means session.run.bench.pair.circuit name (alone literal)
+    → IsLiteralText session.run.bench.pair.circuit session.run.latches.items name literal said
+    → (s : SessionState) → IsIn session s → Answers s (request.gate name) text [] (calm s)
+gate_answered session name literal old text said empty e means is s h = (
+  literal,
+  subst (λ (p : CircuitAndRows). Means p.circuit name (alone literal)) (sym h.pair) means,
+  subst (λ (t : List ℕ). IsLiteralText s.pair.circuit s.latches name literal t)
+      (sym (e ∙ ap (λ (t : List ℕ). t ++ said) empty))
+      (subst (λ (p : CircuitAndRows). IsLiteralText p.circuit s.latches name literal said) (sym h.pair)
+      (subst (λ (ls : List Latch). IsLiteralText session.run.bench.pair.circuit ls name literal said) (sym h.latches) is)),
+  refl,
+  refl,
+)
 
 pub gate_refused : {A : Type 0} (session : Session) (name : List ℕ) (result : Result A Refusal) (refusal : Refusal) (text : List ℕ)
     → IsErrAnd result (λ e. e ≡ refusal)

@@ -29,7 +29,8 @@ returns-in-Drop-clause-change c =
 pub returns-in-Rewire-clause-change : goal.returns-in-Rewire-clause-change
 returns-in-Rewire-clause-change c =
     edit_is c.args.self.now c.rewire.new.self c.args.edit _ c.rewire.result c.rewire.new.text.items c.in-Rewire.is
-    (rewire_ends c.args.self.now c.rewire.new.self c.in-Rewire.name.now c.in-Rewire.side0.now c.in-Rewire.side1.now c.rewire.result c.rewire.new.text.items c.rewire.ensures.rest
+    (rewire_ends c.args.self.now c.rewire.new.self c.in-Rewire.name.now c.in-Rewire.side0.now c.in-Rewire.side1.now c.rewire.result c.rewire.new.text.items
+    c.rewire.ensures.text c.rewire.ensures.rest
     c.rewire.ensures.circuit c.rewire.ensures.edits)
 
 pub returns-in-New-clause-change : goal.returns-in-New-clause-change

@@ -13,4 +13,7 @@ returns-in_err-push_definition c =
     c.from_residual-in_err-push_definition.ensures.1
 
 pub returns : goal.returns
-returns c = gate_answered c.args.self.now c.args.name.now c.in_ok-literal.literal c.push_definition.new.text.items c.in_ok-literal.ensures.ok
+returns c =
+    let (said, is, added) = c.in_ok-push_definition.ensures in
+    gate_answered c.args.self.now c.args.name.now c.in_ok-literal.literal c.args.text.now.items
+    c.push_definition.new.text.items said c.requires.empty added c.in_ok-literal.ensures.ok is

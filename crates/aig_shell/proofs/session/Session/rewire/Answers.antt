@@ -6,6 +6,7 @@ use Rattle.aig_shell.proofs.editing.Impossible.{no_gate, no_gate0, no_gate1, no_
 use Rattle.aig_shell.proofs.editing.Leading.{leads_one}
 use Rattle.aig_shell.proofs.editing.Results.{ends_err, ends_fault}
 use Rattle.aig_shell.proofs.editing.Sessions.{session_kept}
+use Rattle.aig_shell.proofs.words.Definitions.{rewired_text}
 use Rattle.aig_shell.proofs.session.Session.rewire.Goals as goal
 
 pub returns-in_err-literal-clause-edits : goal.returns-in_err-literal-clause-edits
@@ -40,3 +41,11 @@ returns-clause-edits c =
     rewire_done c.args.self.now.run.bench.pair _ c.args.name.now c.args.side0.now c.args.side1.now c.in_ok-literal.literal c.in_ok-side0.side0
     c.in_ok-side1.side1 c.in_ok-literal.ensures.ok c.in_ok-side0.ensures.ok c.in_ok-side1.ensures.ok
     c.in_ok-rewire.ensures.edits
+
+pub returns-clause-text : goal.returns-clause-text
+returns-clause-text c =
+    let (said, is, added) = c.in_ok-push_gate.ensures in
+    rewired_text c.args.self.now.run.bench.pair.circuit c.circuit-2.result.now c.args.name.now c.args.side0.now
+    c.args.side1.now c.in_ok-literal.literal c.in_ok-side0.side0 c.in_ok-side1.side1 c.args.text.now.items
+    c.push_gate.new.text.items said c.circuit-2.ensures c.requires.empty added c.in_ok-literal.ensures.ok
+    c.in_ok-side0.ensures.ok c.in_ok-side1.ensures.ok is
