@@ -1,5 +1,5 @@
 -- What a run needs: a look back from what has to be 1.
-use Rattle.std.proofs.Common.{◌≡◌, ◌≢◌, inl, inr, ℕ, zero, suc, ◌-◌, ◌*◌, ◌%◌, ◌<◌, List, [], ◌∷◌, ◌++◌, Bool, true}
+use Rattle.std.proofs.Common.{◌≡◌, ◌≢◌, ◌⊎◌, inl, inr, ℕ, zero, suc, ◌-◌, ◌*◌, ◌%◌, ◌<◌, List, [], ◌∷◌, ◌++◌, Bool, true}
 use Rattle.std.proofs.Common.{false, length, replicate, Some, slice_get, slice_set, slice_index_or, get_or, refl, sym}
 use Rattle.std.proofs.Common.{ap, ◌∙◌, subst, arith}
 use Rattle.std.specs.List.{AllZip}
@@ -30,7 +30,8 @@ use Rattle.aig_base.proofs.lists.Items.{item_at}
 use Rattle.aig_bench.proofs.cells.CellLemmas.{get_set_other, row_other, row_written}
 use Rattle.aig_bench.specs.BenchState.{CircuitAndRows, HasValue}
 use Rattle.aig_reduce.specs.Irreducible.{IsSameOrX}
-use Rattle.aig_reduce.specs.state.Needed.{AddsNeeded, AreNeeded, AreNeededInputs, AreNeededStarts, IsNeeded}
+use Rattle.aig_reduce.specs.state.Needed.{AddsNeeded, AreFollowing, AreNeeded, AreNeededCells, AreNeededInputs}
+use Rattle.aig_reduce.specs.state.Needed.{AreNeededStarts, Follows, IsListed, IsNeeded}
 use Rattle.aig_reduce.specs.state.Needed.{StillReaches}
 use Rattle.aig_reduce.proofs.CoveredValues.{covered}
 use Rattle.aig_reduce.proofs.Irreducibles.{shaped_widths, cover_shape}
@@ -168,6 +169,47 @@ module _ (p : CircuitAndRows) (circuit : IsCircuit p.circuit) (widths : HaveWidt
         (subst (λ (z : Tern). Value p.circuit start rows t g.lhs z) (and_x a n)
         (value.gate t q g a X at va (literal_x p.circuit start rows t g.rhs1 circuit v))))
 
+  -- ---- what is x where a value is
+
+  pub input_follows : (t i l : ℕ) → slice_get p.circuit.inputs i ≡ Some l → Follows p property t (suc t) i (variable l)
+  input_follows t i l at start rows k x =
+      definition_x p.circuit start rows t l (input_definition p.circuit circuit.sound i l at)
+      (value.input t i l X (row_at rows t) at (slice_get-get_or rows t [] (row_within rows t i X x)) x)
+
+  pub start_follows : (i : ℕ) (x : Latch) → slice_get p.circuit.latches i ≡ Some x
+      → Follows p property 0 0 i (variable x.lit)
+  start_follows i x at start rows k is =
+      definition_x p.circuit start rows 0 x.lit (latch_definition p.circuit circuit.sound i x at)
+      (value.latch_first i x X at is)
+
+  -- a gate with a side that is, whose other side is too, or is not 0
+  module _ (t q m i : ℕ) (g : Gate) (lt : t < length p.rows) (at : slice_get p.circuit.gates q ≡ Some g) where
+    pub rhs0_follows : Follows p property t m i (variable g.rhs0)
+        → (Follows p property t m i (variable g.rhs1) ⊎ (HasValue p t g.rhs1 Zero → ⊥))
+        → Follows p property t m i (variable g.lhs)
+    rhs0_follows f (inl h) start rows k x =
+        definition_x p.circuit start rows t g.lhs (gate_definition p.circuit circuit.sound q g at)
+        (value.gate t q g X X at (literal_x p.circuit start rows t g.rhs0 circuit (f start rows k x))
+        (literal_x p.circuit start rows t g.rhs1 circuit (h start rows k x)))
+    rhs0_follows f (inr denied) start rows k x =
+        let (b, vb, n) = other_not_zero start rows k t g.rhs1 lt (rhs1_defined p.circuit circuit.sound q g at) denied in
+        definition_x p.circuit start rows t g.lhs (gate_definition p.circuit circuit.sound q g at)
+        (subst (λ (z : Tern). Value p.circuit start rows t g.lhs z) (x_and b n)
+        (value.gate t q g X b at (literal_x p.circuit start rows t g.rhs0 circuit (f start rows k x)) vb))
+
+    pub rhs1_follows : Follows p property t m i (variable g.rhs1)
+        → (Follows p property t m i (variable g.rhs0) ⊎ (HasValue p t g.rhs0 Zero → ⊥))
+        → Follows p property t m i (variable g.lhs)
+    rhs1_follows f (inl h) start rows k x =
+        definition_x p.circuit start rows t g.lhs (gate_definition p.circuit circuit.sound q g at)
+        (value.gate t q g X X at (literal_x p.circuit start rows t g.rhs0 circuit (h start rows k x))
+        (literal_x p.circuit start rows t g.rhs1 circuit (f start rows k x)))
+    rhs1_follows f (inr denied) start rows k x =
+        let (a, va, n) = other_not_zero start rows k t g.rhs0 lt (rhs0_defined p.circuit circuit.sound q g at) denied in
+        definition_x p.circuit start rows t g.lhs (gate_definition p.circuit circuit.sound q g at)
+        (subst (λ (z : Tern). Value p.circuit start rows t g.lhs z) (and_x a n)
+        (value.gate t q g a X at va (literal_x p.circuit start rows t g.rhs1 circuit (f start rows k x))))
+
   -- ---- values
 
   pub input_needed : (t i l : ℕ) → slice_get p.circuit.inputs i ≡ Some l → IsNeeded p property t (variable l)
@@ -221,6 +263,50 @@ module _ (p : CircuitAndRows) (circuit : IsCircuit p.circuit) (widths : HaveWidt
         start_needed i x at h start rows k (subst (λ (v : ℕ). slice_get start v ≡ Some X) f x_is)
     | inr other ↦ all j b (sym (get_set_other needed i j w other) ∙ is) n start rows k x_is
   ]
+
+-- one more needed variable is noted
+module _ (p : CircuitAndRows) (property : ℕ) where
+  cell_written : (cells : List (List Tern)) (t i : ℕ) (w : Tern) → t < length cells → IsNeeded p property t i
+      → AreNeededCells p property cells → AreNeededCells p property (with_cell cells t i w)
+  cell_written cells t i w lt h all u j b is n = elim (cases_eq u t) [
+    | inl e ↦ elim (cases_eq j i) [
+      | inl f ↦ subst (λ (v : ℕ). IsNeeded p property v j) (sym e) (subst (IsNeeded p property t) (sym f) h)
+      | inr other ↦
+          let is' : slice_get (row_at (with_cell cells t i w) t) j ≡ Some b =
+          subst (λ (v : ℕ). slice_get (row_at (with_cell cells t i w) v) j ≡ Some b) e is in
+          subst (λ (v : ℕ). IsNeeded p property v j) (sym e)
+          (all t j b
+          (sym (ap (λ (row : List Tern). slice_get row j) (row_written cells t i w lt)
+          ∙ get_set_other (row_at cells t) i j w other) ∙ is') n)
+    ]
+    | inr other ↦ all u j b (sym (ap (λ (row : List Tern). slice_get row j) (row_other cells t i w u other)) ∙ is) n
+  ]
+
+  pub cell_kept : (cells new : List (List Tern)) (t i : ℕ) (w : Tern) → new ≡ with_cell cells t i w → t < length cells
+      → IsNeeded p property t i → AreNeededCells p property cells → AreNeededCells p property new
+  cell_kept cells new t i w e lt h all = subst (AreNeededCells p property) (sym e) (cell_written cells t i w lt h all)
+
+-- what is listed besides is x too
+pub met_follows : (p : CircuitAndRows) (property t m i v : ℕ) (old new : List ℕ)
+    → ((u : ℕ) → IsListed new u → IsListed old u ⊎ (u ≡ v)) → Follows p property t m i v
+    → AreFollowing p property t m i old → AreFollowing p property t m i new
+met_follows p property t m i v old new more h all u at = elim (more u at) [
+  | inl before ↦ all u before
+  | inr e ↦ subst (Follows p property t m i) (sym e) h
+]
+
+-- the other side of a gate
+pub other_follows : (p : CircuitAndRows) (property t m i v l : ℕ) (list : List ℕ) → AreFollowing p property t m i list
+    → (IsListed list v ⊎ (HasValue p t l Zero → ⊥)) → Follows p property t m i v ⊎ (HasValue p t l Zero → ⊥)
+other_follows p property t m i v l list all (inl at) = inl (all v at)
+other_follows p property t m i v l list all (inr denied) = inr denied
+
+nothing_listed : (v : ℕ) → IsListed [] v → ⊥
+nothing_listed v (zero, at) = let no : ⊥ = cc in no
+nothing_listed v (suc k, at) = let no : ⊥ = cc in no
+
+pub none_listed : (list : List ℕ) (v : ℕ) → list ≡ [] → IsListed list v → ⊥
+none_listed list v e listed = nothing_listed v (subst (λ (xs : List ℕ). IsListed xs v) e listed)
 
 -- ---- marks that are read
 

@@ -1,6 +1,6 @@
 -- Values that are needed are not tried: what is tried there is not confirmed.
-use Rattle.std.proofs.Common.{◌≡◌, ◌≢◌, inl, inr, ℕ, zero, suc, ◌+◌, ◌-◌, ◌≤◌, List, [], ◌∷◌, length, drop, get_or}
-use Rattle.std.proofs.Common.{Some, slice_get, refl, sym, ap, ◌∙◌, subst, arith}
+use Rattle.std.proofs.Common.{◌≡◌, ◌≢◌, inl, inr, ℕ, zero, suc, ◌+◌, ◌-◌, ◌*◌, ◌≤◌, List, [], ◌∷◌, length, drop, get_or}
+use Rattle.std.proofs.Common.{Some, slice_get, slice_set, refl, sym, ap, ◌∙◌, subst, arith}
 use Rattle.std.specs.List.{AllZip}
 use Rattle.std.proofs.lemmas.Bool.{cases_eq, cases_lt}
 use Rattle.std.proofs.lemmas.List.{get_or-drop}
@@ -18,13 +18,15 @@ use Rattle.aig_bench.proofs.cells.CellLemmas.{get_set_same, row_written}
 use Rattle.aig_reduce.specs.declared.needed.Known.{Known}
 use Rattle.aig_reduce.specs.Irreducible.{IsConfirmedWitness, IsSameOrX}
 use Rattle.aig_reduce.specs.Reduction.{values_of, witness_of}
-use Rattle.aig_reduce.specs.state.Needed.{AreNeededIn, AreNeededInputs, AreNeededStarts, Knows, StillReaches}
+use Rattle.aig_reduce.specs.state.Needed.{AreNeededCells, AreNeededCellsIn, AreNeededIn, AreNeededInputs, AreNeededStarts}
+use Rattle.aig_reduce.specs.state.Needed.{Breaks, Knows, StillReaches}
 use Rattle.aig_reduce.specs.state.Places.{AreTried, IsPlace}
 use Rattle.aig_reduce.specs.state.Reducing.{Clearing, Confirms, Reducing, Runs}
 use Rattle.aig_reduce.proofs.Irreducibles.{CoverRow, CoverRows, cell_covers, cover_shape, rows_cover, rows_then, run_of}
 use Rattle.aig_reduce.proofs.Irreducibles.{run_shaped}
 use Rattle.aig_reduce.proofs.Places.{tried_more}
-use Rattle.aig_base.proofs.values.Resets.{value_with}
+use Rattle.aig_base.proofs.values.Resets.{other_resets_back, value_with}
+use Rattle.aig_base.specs.Readers.{AreReaders}
 use Rattle.aig_reduce.proofs.RunLemmas.{confirmed_reaches}
 
 -- ---- values that were tried are the given ones or x
@@ -134,17 +136,96 @@ module _ (raw : Raw) (given : Witness) (circuit : IsCircuit raw) (g : IsConfirme
   needed_in starts inputs a b (suc t) i w at n (start ∷ rows) covers c x =
       b t i w at n start rows (still start rows covers.0 covers.1 c) x
 
+  pub cells_in : (cells : List (List Tern)) → AreNeededCells pair given.property cells → AreNeededCellsIn raw given cells
+  cells_in cells all t v w at n start rows covers c x =
+      all t v w at n start rows (still start rows covers.0 covers.1 c) (value_with raw pair.circuit h.resets start rows x)
+
+-- ---- x that makes x of what is needed
+
+cell_there : (start : List Tern) (rows : List (List Tern)) (t p : ℕ)
+    → (begin : List Tern) × (later : List (List Tern)) × (with_cell (start ∷ rows) t p X ≡ begin ∷ later)
+cell_there start rows zero p = (slice_set start p X, rows, refl)
+cell_there start rows (suc t) p = (start, with_cell rows t p X, refl)
+
+module _ (raw : Raw) (given : Witness) (circuit : IsCircuit raw) (cells : List (List Tern)) (all : AreNeededCellsIn raw given cells)
+    (property : ℕ) (named : property ≡ given.property) (pair : CircuitAndRows) (start : List Tern) (h : Runs raw pair start)
+    (t p : ℕ) (place : IsPlace (start ∷ pair.rows) t p) (breaks : Breaks pair cells t p) where
+  abbrev now : List (List Tern)
+  now = start ∷ pair.rows
+
+  broken_by : (begin : List Tern) (rows : List (List Tern)) → with_cell now t p X ≡ begin ∷ rows
+      → IsConfirmedWitness raw (witness_of property now) → AreTried (Confirms raw property) (values_of given) now t p
+      → Confirms raw property (with_cell now t p X) → ⊥
+  broken_by begin rows e g tried c =
+      let (u, v, w, n, at, follows) = breaks in
+      let covers : CoverRows (begin ∷ rows) now = subst (λ (vs : List (List Tern)). CoverRows vs now) e (cell_covers now t p) in
+      let c' : Confirms raw property (begin ∷ rows) = subst (λ (vs : List (List Tern)). Confirms raw property vs) e c in
+      let s : StillReaches pair property begin rows =
+      still raw (witness_of property now) circuit g pair h refl begin rows covers.0 covers.1 c' in
+      let x : Value pair.circuit begin rows u (2 * v) X =
+      follows property begin rows s
+      (subst (λ (vs : List (List Tern)). slice_get (row_at vs t) p ≡ Some X) e (x_there now t p place)) in
+      all u v w at n begin rows
+      (rows_then (begin ∷ rows) now (values_of given) covers (tried_covers (Confirms raw property) (values_of given) now t p tried))
+      (subst (λ (m : ℕ). Confirms raw m (begin ∷ rows)) named c')
+      (value_with pair.circuit raw (other_resets_back raw pair.circuit h.resets) begin rows x)
+
+  broken : IsConfirmedWitness raw (witness_of property now) → AreTried (Confirms raw property) (values_of given) now t p
+      → Confirms raw property (with_cell now t p X) → ⊥
+  broken = let (begin, rows, e) = cell_there start pair.rows t p in broken_by begin rows e
+
+  broken_stays : IsConfirmedWitness raw (witness_of property now) → AreTried (Confirms raw property) (values_of given) now t p
+      → AreTried (Confirms raw property) (values_of given) now t (suc p)
+  broken_stays g tried =
+      tried_more (Confirms raw property) (values_of given) now t p place.0 place.1 tried now (inr (broken g tried, refl))
+
+pub reducing_broken : (raw : Raw) (given : Witness) (cells : List (List Tern)) → AreNeededCellsIn raw given cells
+    → (pair : CircuitAndRows) (property : ℕ) (start : List Tern) (t p : ℕ) → IsPlace (start ∷ pair.rows) t p
+    → Breaks pair cells t p → Reducing raw given pair property start t p → Reducing raw given pair property start t (suc p)
+reducing_broken raw given cells all pair property start t p place breaks h = record {
+  runs = h.runs;
+  property_is = h.property_is;
+  tried = broken_stays raw given h.runs.circuit cells all property h.property_is pair start
+      (record { resets = h.runs.resets; start_is = h.runs.start_is }) t p place breaks h.runs.confirmed h.tried;
+}
+
+pub clearing_broken : (raw : Raw) (given : Witness) (cells : List (List Tern)) → AreNeededCellsIn raw given cells
+    → (pair : CircuitAndRows) (property : ℕ) (start : List Tern) (first t p : ℕ) → IsPlace (start ∷ pair.rows) t p
+    → Breaks pair cells t p → Clearing raw given pair property start first t p
+    → Clearing raw given pair property start first t (suc p)
+clearing_broken raw given cells all pair property start first t p place breaks h = record {
+  circuit = h.circuit;
+  runs = h.runs;
+  run = h.run;
+  property_is = h.property_is;
+  starts = h.starts;
+  from = h.from;
+  constrained = h.constrained;
+  tried = λ c.
+      broken_stays raw given h.circuit cells all property h.property_is pair start h.runs t p place breaks (record {
+        latches = h.run.latches;
+        widths = h.run.widths;
+        some = h.run.some;
+        property = h.run.property;
+        verdict = c;
+      }) (h.tried c);
+}
+
 -- what is known before a value is tried
 pub knows_begun : (raw : Raw) (given : Witness) (pair : CircuitAndRows) → Reducing raw given pair given.property given.start 0 0
     → pair.rows ≡ given.rows → (known : Known) → known.latches.items ≡ raw.latches
-    → AreNeededStarts pair given.property known.needed.start.items → AreNeededInputs pair given.property known.needed.rows.rows
+    → AreReaders pair.circuit known.readers → AreNeededStarts pair given.property known.needed.start.items
+    → AreNeededInputs pair given.property known.needed.rows.rows → AreNeededCells pair given.property known.needed.cells.rows
     → Knows raw given known
-knows_begun raw given pair h rows_are known latches starts inputs =
+knows_begun raw given pair h rows_are known latches readers starts inputs cells =
     let g : IsConfirmedWitness raw given =
     subst (λ (rows : List (List Tern)). IsConfirmedWitness raw (witness_of given.property (given.start ∷ rows))) rows_are
     h.runs.confirmed in
+    let runs : Runs raw pair given.start = record { resets = h.runs.resets; start_is = h.runs.start_is } in
     record {
       latches = latches;
-      needed = needed_in raw given h.runs.circuit g pair (record { resets = h.runs.resets; start_is = h.runs.start_is })
-          rows_are known.needed.start.items known.needed.rows.rows starts inputs;
+      readers = readers.size ∙ ap (λ (n : ℕ). n + 1) h.runs.resets.size;
+      needed = needed_in raw given h.runs.circuit g pair runs rows_are known.needed.start.items known.needed.rows.rows starts
+          inputs;
+      cells = cells_in raw given h.runs.circuit g pair runs rows_are known.needed.cells.rows cells;
     }

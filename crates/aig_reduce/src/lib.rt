@@ -9,6 +9,7 @@ mod place;
 mod reducer;
 mod reduction;
 mod reduction_laws;
+mod spread;
 mod starts;
 
 pub use fault::ReduceFault;

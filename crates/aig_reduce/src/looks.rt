@@ -53,6 +53,11 @@ pub fn is_zero<G: Grid>(bench: &Bench<G>, frame: u32, literal: Lit) -> bool
     }
 }
 
+/// Whether a literal is x at a frame.
+pub fn is_x<G: Grid>(bench: &Bench<G>, frame: u32, literal: Lit) -> bool {
+    matches!(bench.value(frame, literal), Ok(Tern::X))
+}
+
 // Whether all constraints are 1 at a frame.
 fn are_one<G: Grid>(bench: &Bench<G>, frame: u32) -> bool
     requires { frame < length bench.now.pair.rows }

@@ -10,12 +10,13 @@ ghost use Rattle.aig_base.specs.Sound.{IsInRange};
 ghost use Rattle.aig_base.specs.state.Marks.{IsMarked};
 ghost use Rattle.aig_values.specs.InputRows.{row_at};
 ghost use Rattle.aig_bench.specs.BenchState.{HasValue};
-ghost use Rattle.aig_reduce.specs.state.Needed.{AddsNeeded, AreItsGates, AreNeeded, AreNeededInputs, AreNeededStarts};
+ghost use Rattle.aig_reduce.specs.state.Needed.{AddsNeeded, AreItsGates, AreNeeded, AreNeededCells, AreNeededInputs};
+ghost use Rattle.aig_reduce.specs.state.Needed.{AreNeededStarts};
 ghost use Rattle.aig_reduce.specs.state.Needed.{IsNeeded};
 
 use crate::looks::is_zero;
 use crate::place::Place;
-use aig_base::{Circuit, Gate, Latch, List, Lit, Memory, Tern};
+use aig_base::{Circuit, Gate, Latch, List, Lit, Memory, Readers, Tern};
 use aig_bench::Bench;
 use aig_sim::{Grid, Stimulus, first_value};
 use aig_values::gate_order::reordered;
@@ -23,18 +24,20 @@ use std::alloc::Global;
 use std::mem::swap;
 
 /// Values of a witness that it needs, and x at all other places: no confirmed witness has x in their place, whichever
-/// others are x.
+/// others are x. In `cells`, a row a frame, all variables that are x in no confirmed witness there are not x.
 #[derive(Drop)]
 pub struct Needed {
     pub start: Vec<Tern>,
     pub rows: Stimulus,
+    pub cells: Stimulus,
 }
 
-/// What is known of a witness before its values are tried: the latches of its circuit with their own resets, and values
-/// that it needs.
+/// What is known of a witness before its values are tried: the latches of its circuit with their own resets, who reads
+/// its variables, and what the witness needs.
 #[derive(Drop)]
 pub struct Known {
     pub latches: Vec<Latch>,
+    pub readers: Readers,
     pub needed: Needed,
 }
 
@@ -252,6 +255,46 @@ fn keep_inputs<G: Grid>(bench: &Bench<G>, frame: u32, marks: &[bool], rows: &mut
     }
 }
 
+// Notes a variable at a frame, if it is marked.
+fn keep_cell<G: Grid>(
+    bench: &Bench<G>,
+    frame: u32,
+    variable: u32,
+    marks: &[bool],
+    cells: &mut Stimulus,
+)
+    requires frame { frame < length bench.now.pair.rows }
+    requires variable { variable < length marks.now }
+    requires width { cells.old.width ≡ length marks.now }
+    requires rows { length cells.old.rows ≡ length bench.now.pair.rows }
+    ensures width { cells.new.width ≡ cells.old.width }
+    ensures rows { length cells.new.rows ≡ length cells.old.rows }
+    ensures needed { (property : ℕ) → AreNeeded bench.now.pair property frame marks.now →
+        AreNeededCells bench.now.pair property cells.old.rows →
+        AreNeededCells bench.now.pair property cells.new.rows }
+{
+    if !marks[variable as usize] {
+        return;
+    }
+    cells.set(frame, variable, Tern::One);
+}
+
+// Notes the marked variables of a frame.
+fn keep_cells<G: Grid>(bench: &Bench<G>, frame: u32, marks: &[bool], cells: &mut Stimulus)
+    requires frame { frame < length bench.now.pair.rows }
+    requires width { cells.old.width ≡ length marks.now }
+    requires rows { length cells.old.rows ≡ length bench.now.pair.rows }
+    ensures width { cells.new.width ≡ cells.old.width }
+    ensures rows { length cells.new.rows ≡ length cells.old.rows }
+    ensures needed { (property : ℕ) → AreNeeded bench.now.pair property frame marks.now →
+        AreNeededCells bench.now.pair property cells.old.rows →
+        AreNeededCells bench.now.pair property cells.new.rows }
+{
+    for variable in 0..cells.width() {
+        keep_cell(bench, frame, variable, marks, cells);
+    }
+}
+
 // Takes over the start of a latch, if it is marked.
 fn keep_start<G: Grid>(bench: &Bench<G>, position: usize, marks: &[bool], start: &mut Vec<Tern>)
     requires position { position < length start.old.items }
@@ -342,8 +385,12 @@ impl Needed {
         requires width { self.old.rows.width ≡ length bench.now.pair.circuit.inputs }
         requires rows { length self.old.rows.rows ≡ length bench.now.pair.rows }
         requires start { length self.old.start.items ≡ length bench.now.pair.circuit.latches }
+        requires cell_width { self.old.cells.width ≡ bench.now.pair.circuit.max_var + 1 }
+        requires cell_rows { length self.old.cells.rows ≡ length bench.now.pair.rows }
         ensures starts { AreNeededStarts bench.now.pair property self.old.start.items →
             AreNeededStarts bench.now.pair property self.new.start.items }
+        ensures cells { AreNeededCells bench.now.pair property self.old.cells.rows →
+            AreNeededCells bench.now.pair property self.new.cells.rows }
         ensures inputs { AreNeededInputs bench.now.pair property self.old.rows.rows →
             AreNeededInputs bench.now.pair property self.new.rows.rows }
     {
@@ -352,6 +399,7 @@ impl Needed {
             frame -= 1;
             marks.look_at(bench, property, frame, gates);
             keep_inputs(bench, frame, &marks.here, &mut self.rows);
+            keep_cells(bench, frame, &marks.here, &mut self.cells);
         }
         keep_starts(bench, &marks.here, &mut self.start);
     }
@@ -363,11 +411,14 @@ impl Needed {
         requires { property < length bench.now.pair.circuit.bad }
         ensures starts { IfOk result (λ needed. AreNeededStarts bench.now.pair property needed.start.items) }
         ensures inputs { IfOk result (λ needed. AreNeededInputs bench.now.pair property needed.rows.rows) }
+        ensures cells { IfOk result (λ needed. AreNeededCells bench.now.pair property needed.cells.rows) }
     {
         let start = all_x(alloc, bench.circuit().latches().len())?;
         let rows = rows_of_x(alloc, bench.width(), bench.stimulus().frames())?;
-        let mut needed = Needed { start, rows };
-        let mut marks = no_marks(alloc, bench.circuit().max_var() as usize + 1)?;
+        let size = bench.circuit().max_var() + 1;
+        let cells = rows_of_x(alloc, size, bench.stimulus().frames())?;
+        let mut needed = Needed { start, rows, cells };
+        let mut marks = no_marks(alloc, size as usize)?;
         let order = reordered(alloc, bench.circuit())?;
         needed.look_back(
             bench,
@@ -396,6 +447,20 @@ impl Needed {
         }
         self.rows
             .get((place.list - 1) as u32, place.position as u32)
+    }
+
+    /// Whether a variable is known to be needed at a frame.
+    pub fn has_cell(&self, frame: u32, variable: u32) -> bool
+        ensures { IsTrue result → (w : Tern) × (w ≢ Tern.X)
+            × (slice_get (row_at self.now.cells.rows frame) variable ≡ Some w) }
+    {
+        if frame >= self.cells.frames() {
+            return false;
+        }
+        if variable >= self.cells.width() {
+            return false;
+        }
+        !is_unknown(self.cells.get(frame, variable))
     }
 
     /// Whether the value at a place is known to be needed.

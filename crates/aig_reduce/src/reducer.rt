@@ -17,17 +17,20 @@ use crate::looks::reaches_from;
 use crate::needed::{Known, is_unknown};
 use crate::pace::Pace;
 use crate::place::{Cleared, Place, frame_of, is_before};
+use crate::spread::Spread;
 use crate::starts::{is_fixed, is_uninitialised};
 use aig_base::{Latch, Lit, Tern};
 use aig_bench::Bench;
 use aig_sim::Grid;
 
-/// A confirmed witness whose run a bench simulates: the position of its property, and what its latches start at.
+/// A confirmed witness whose run a bench simulates: the position of its property, and what its latches start at; and
+/// room for the variables that an input makes x.
 #[derive(Drop)]
 pub struct Reducer<G: Grid> {
     pub bench: Bench<G>,
     pub property: u32,
     pub start: Vec<Tern>,
+    pub spread: Spread,
 }
 
 impl<G: Grid> Reducer<G> {
@@ -215,6 +218,9 @@ impl<G: Grid> Reducer<G> {
             return next;
         }
         if known.needed.has(place) {
+            return next;
+        }
+        if self.spread.breaks(&self.bench, known, place) {
             return next;
         }
         if cleared.len() >= cleared.capacity() {
@@ -458,6 +464,9 @@ impl<G: Grid> Reducer<G> {
             return next;
         }
         if known.needed.has(place) {
+            return next;
+        }
+        if self.spread.breaks(&self.bench, known, place) {
             return next;
         }
         self.try_place(known, cleared, pace, place)

@@ -12,7 +12,8 @@ use crate::needed::{Known, Needed};
 use crate::pace::ROOM;
 use crate::place::Cleared;
 use crate::reducer::Reducer;
-use aig_base::{Circuit, Io, Latch, Memory, Write, start_at};
+use crate::spread::Spread;
+use aig_base::{Circuit, Io, Latch, Memory, Readers, Write, start_at};
 use aig_bench::{Bench, BenchFault};
 use aig_sim::{PlaneGrid, Verdict, Witness, check_witness, read_witness, write_witness};
 use std::alloc::Global;
@@ -138,10 +139,11 @@ impl Given {
 ///
 /// Refused are, in this order, what `check_witness` refuses and more than 67,108,864 cells, `M + 1` a frame. All memory
 /// is taken before the first value is tried. One look back over the run, in the time of its cells, finds values that
-/// are needed, and these are not tried. Values that can all go are tried together, up to 65,536 at once. Between two
-/// other values that are needed there are about as many looks as the logarithm of their distance. A look costs the
-/// constraints from the frame of the first of its values on, up to one that is not 1. Each value that is put costs the
-/// cells that it changes.
+/// are needed, and these are not tried. Nor is a value whose x makes x of what is needed at its frame, by the values so
+/// far: the gates that become x there are followed. Values that can all go are tried together, up to 65,536 at once.
+/// Between two other values that are needed there are about as many looks as the logarithm of their distance. A look
+/// costs the constraints from the frame of the first of its values on, up to one that is not 1. Each value that is put
+/// costs the cells that it changes.
 pub fn reduce_witness(
     alloc: Global,
     circuit: Circuit,
@@ -167,12 +169,19 @@ pub fn reduce_witness(
         return Ok(Reduction::Refused(verdict));
     }
     let needed = Needed::of(alloc, &bench, property)?;
-    let known = Known { latches, needed };
+    let readers = Readers::of(alloc, bench.circuit())?;
+    let spread = Spread::new(alloc, bench.circuit().max_var() as usize + 1)?;
+    let known = Known {
+        latches,
+        readers,
+        needed,
+    };
     let mut cleared = make_room(alloc)?;
     let mut reducer = Reducer {
         bench,
         property,
         start,
+        spread,
     };
     reducer.try_all(&known, &mut cleared);
     Ok(Reduction::Reduced(ReducedWitness { reducer }))

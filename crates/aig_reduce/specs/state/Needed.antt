@@ -1,5 +1,5 @@
 -- Values that a run needs, whichever others become x.
-use Rattle.std.specs.Prelude.{◌≡◌, ◌≢◌, ℕ, ◌-◌, ◌*◌, ◌<◌, List, Bool, ◌∷◌, length, Some, slice_get}
+use Rattle.std.specs.Prelude.{◌≡◌, ◌≢◌, ℕ, ◌+◌, ◌-◌, ◌*◌, ◌<◌, List, Bool, ◌∷◌, length, Some, slice_get}
 use Rattle.std.specs.List.{AllZip}
 use Rattle.aig_parts.specs.declared.gate.Gate.{Gate}
 use Rattle.aig_parts.specs.declared.ternary.Tern.{Tern}
@@ -54,6 +54,29 @@ AreNeededStarts p property needed =
     → (start : List Tern) (rows : List (List Tern)) → StillReaches p property start rows
     → slice_get start i ≡ Some X → ⊥
 
+-- in no such run is a variable x where these rows, a value a variable, are not x
+abbrev pub AreNeededCells : CircuitAndRows → ℕ → List (List Tern) → Type 0
+AreNeededCells p property cells =
+    (t v : ℕ) (w : Tern) → slice_get (row_at cells t) v ≡ Some w → w ≢ X → IsNeeded p property t v
+
+abbrev pub IsListed : List ℕ → ℕ → Type 0
+IsListed list v = (k : ℕ) × (slice_get list k ≡ Some v)
+
+-- the variable is x at frame t in each such run that has x at position i of list m: the starts, or else inputs
+abbrev pub Follows : CircuitAndRows → ℕ → ℕ → ℕ → ℕ → ℕ → Type 0
+Follows p property t m i v =
+    (start : List Tern) (rows : List (List Tern)) → StillReaches p property start rows
+    → slice_get (row_at (start ∷ rows) m) i ≡ Some X → Value p.circuit start rows t (2 * v) X
+
+abbrev pub AreFollowing : CircuitAndRows → ℕ → ℕ → ℕ → ℕ → List ℕ → Type 0
+AreFollowing p property t m i list = (v : ℕ) → IsListed list v → Follows p property t m i v
+
+-- x at position i of list m makes x of a variable where these rows are not x
+abbrev pub Breaks : CircuitAndRows → List (List Tern) → ℕ → ℕ → Type 0
+Breaks p cells m i =
+    (t v : ℕ) × (w : Tern) × (w ≢ X) × (slice_get (row_at cells t) v ≡ Some w)
+    × ((property : ℕ) → Follows p property t m i v)
+
 -- no confirmed witness that has the values of the given one or x has x at a place where these values are not x
 abbrev pub AreNeededIn : Raw → Witness → List (List Tern) → Type 0
 AreNeededIn raw given needed =
@@ -61,7 +84,16 @@ AreNeededIn raw given needed =
     → (values : List (List Tern)) → AllZip (AllZip IsSameOrX) values (values_of given)
     → Confirms raw given.property values → slice_get (row_at values t) i ≡ Some X → ⊥
 
--- what is known of the given witness: the latches of its circuit, and values that it needs
+-- in no such witness is a variable x where these rows are not x
+abbrev pub AreNeededCellsIn : Raw → Witness → List (List Tern) → Type 0
+AreNeededCellsIn raw given cells =
+    (t v : ℕ) (w : Tern) → slice_get (row_at cells t) v ≡ Some w → w ≢ X
+    → (start : List Tern) (rows : List (List Tern)) → AllZip (AllZip IsSameOrX) (start ∷ rows) (values_of given)
+    → Confirms raw given.property (start ∷ rows) → Value raw start rows t (2 * v) X → ⊥
+
+-- what is known of the given witness: the latches of its circuit, a list of readers for each variable, and what it needs
 pub record Knows (raw : Raw) (given : Witness) (known : Known) : Type 0 where
   pub latches : known.latches.items ≡ raw.latches
+  pub readers : length known.readers.lists ≡ raw.max_var + 1
   pub needed : AreNeededIn raw given (known.needed.start.items ∷ known.needed.rows.rows)
+  pub cells : AreNeededCellsIn raw given known.needed.cells.rows

@@ -1,5 +1,7 @@
 use Rattle.std.proofs.Common.{length, sym, ap, ◌∙◌, subst}
 use Rattle.std.proofs.lemmas.Bool.{false≢true}
+use Rattle.aig_parts.specs.declared.raw.Raw.{Raw}
+use Rattle.aig_base.specs.Readers.{AreReaders}
 use Rattle.aig_sim.specs.Verdict.{IsVerdict}
 use Rattle.aig_sim.specs.WitnessText.{Witness}
 use Rattle.aig_sim.specs.declared.witness.verdict.Verdict.{Verdict}
@@ -31,6 +33,8 @@ try_all-requires-clause-reducing c =
     let given : Witness = record { property = w.property; start = w.start.items; rows = w.rows.rows } in
     let read = c.in_ok-verdict.ensures in
     let pair = c.in_ok-bench.bench.pair in
+    let readers : AreReaders pair.circuit c.in_ok-readers.readers =
+    subst (λ (r : Raw). AreReaders r c.in_ok-readers.readers) c.circuit.ensures c.in_ok-readers.ensures in
     let begins : Reducing c.args.circuit given pair given.property given.start 0 0 =
     reduction_begins c.args.circuit c.start_at.new.circuit c.args.text.now given pair read.circuit read.spelled read.admitted
     (subst (λ (v : Verdict). IsVerdict c.args.circuit given v) (c.is_confirmed.ensures.0 c.if-not-is_confirmed.false)
@@ -38,7 +42,7 @@ try_all-requires-clause-reducing c =
       c.args.circuit,
       given,
       knows_begun c.args.circuit given pair begins (ap (λ (p : CircuitAndRows). p.rows) c.in_ok-bench.ensures.made) _
-          read.latches c.in_ok-needed.ensures.starts c.in_ok-needed.ensures.inputs,
+          read.latches readers c.in_ok-needed.ensures.starts c.in_ok-needed.ensures.inputs c.in_ok-needed.ensures.cells,
       begins,
     )
 
@@ -48,6 +52,8 @@ returns-clause-reduced c =
     let given : Witness = record { property = w.property; start = w.start.items; rows = w.rows.rows } in
     let read = c.in_ok-verdict.ensures in
     let pair = c.in_ok-bench.bench.pair in
+    let readers : AreReaders pair.circuit c.in_ok-readers.readers =
+    subst (λ (r : Raw). AreReaders r c.in_ok-readers.readers) c.circuit.ensures c.in_ok-readers.ensures in
     let confirmed : IsVerdict c.args.circuit given Confirmed =
     subst (λ (v : Verdict). IsVerdict c.args.circuit given v) (c.is_confirmed.ensures.0 c.if-not-is_confirmed.false) read.verdict in
     let begins : Reducing c.args.circuit given pair given.property given.start 0 0 =
@@ -64,6 +70,7 @@ returns-clause-reduced c =
         confirmed,
         c.try_all.ensures c.args.circuit given
             (knows_begun c.args.circuit given pair begins (ap (λ (p : CircuitAndRows). p.rows) c.in_ok-bench.ensures.made) _
-            read.latches c.in_ok-needed.ensures.starts c.in_ok-needed.ensures.inputs) begins,
+            read.latches readers c.in_ok-needed.ensures.starts c.in_ok-needed.ensures.inputs
+            c.in_ok-needed.ensures.cells) begins,
       ),
     )

@@ -13,6 +13,9 @@ frames-init g c = record {
   width = refl;
   rows = refl;
   inputs = λ h. h;
+  cell_width = refl;
+  cell_rows = refl;
+  cells = λ h. h;
 }
 
 pub frames-preserved : goal.frames-preserved
@@ -34,6 +37,10 @@ frames-preserved g c =
       rows = c.keep_inputs.ensures.rows ∙ inv.rows;
       inputs = λ all.
           c.keep_inputs.ensures.needed property (subst (AreNeeded p property t) (sym c.deref.ensures.value) here) (inv.inputs all);
+      cell_width = c.keep_cells.ensures.width ∙ inv.cell_width;
+      cell_rows = c.keep_cells.ensures.rows ∙ inv.cell_rows;
+      cells = λ all.
+          c.keep_cells.ensures.needed property (subst (AreNeeded p property t) (sym c.deref-in-frames.ensures.value) here) (inv.cells all);
     }
 
 pub returns-clause-starts : goal.returns-clause-starts

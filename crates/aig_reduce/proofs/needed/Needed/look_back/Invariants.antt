@@ -1,5 +1,5 @@
 use Rattle.std.proofs.Common.{◌≡◌, ◌≤◌, length}
-use Rattle.aig_reduce.specs.state.Needed.{AreNeeded, AreNeededInputs}
+use Rattle.aig_reduce.specs.state.Needed.{AreNeeded, AreNeededCells, AreNeededInputs}
 use Rattle.aig_reduce.proofs.needed.Needed.look_back.Given as goal
 
 abbrev pub invariant-frames : goal.invariant-frames
@@ -13,6 +13,10 @@ invariant-frames g l = record {
   rows : length l.self.rows.rows ≡ length l.initial.self.rows.rows;
   inputs : AreNeededInputs l.bench.pair l.property l.initial.self.rows.rows
       → AreNeededInputs l.bench.pair l.property l.self.rows.rows;
+  cell_width : l.self.cells.width ≡ l.initial.self.cells.width;
+  cell_rows : length l.self.cells.rows ≡ length l.initial.self.cells.rows;
+  cells : AreNeededCells l.bench.pair l.property l.initial.self.cells.rows
+      → AreNeededCells l.bench.pair l.property l.self.cells.rows;
 }
 
 abbrev pub decreases-frames : goal.decreases-frames

@@ -3,7 +3,7 @@ use Rattle.std.proofs.lemmas.Bool.{false≢true}
 use Rattle.aig_parts.specs.declared.latch.Latch.{Latch}
 use Rattle.aig_reduce.proofs.Clearings.{clearing_at, clearing_fixed, clearing_named, clearing_x, item_there}
 use Rattle.aig_reduce.proofs.Clearings.{runs_length, start_within}
-use Rattle.aig_reduce.proofs.NeededTries.{clearing_needed}
+use Rattle.aig_reduce.proofs.NeededTries.{clearing_broken, clearing_needed}
 use Rattle.aig_reduce.proofs.reducer.Reducer.clear_at.Goals as goal
 
 pub returns-then-is_fixed-clause-clearing : goal.returns-then-is_fixed-clause-clearing
@@ -44,3 +44,17 @@ returns-then-has-clause-clearing g c = λ raw given first e h.
     clearing_at raw given old.bench.pair old.property old.start.items first t (p + 1) t (suc p) refl (omega arith)
     (clearing_needed raw given (needed.start.items ∷ needed.rows.rows) e.needed old.property h.property_is t p w at n
     old.bench.pair old.start.items first c.requires.place h)
+
+pub breaks-requires : goal.breaks-requires
+breaks-requires g c =
+    let (raw, given, first, e, h) = c.requires.clearing in
+    omega (arith, e.readers, h.runs.resets.size)
+
+pub returns-then-breaks-clause-clearing : goal.returns-then-breaks-clause-clearing
+returns-then-breaks-clause-clearing g c = λ raw given first e h.
+    let old = c.args.self.now in
+    let t = c.args.place.list in
+    let p = c.args.place.position in
+    clearing_at raw given old.bench.pair old.property old.start.items first t (p + 1) t (suc p) refl (omega arith)
+    (clearing_broken raw given c.args.known.now.needed.cells.rows e.cells old.bench.pair old.property old.start.items first t p
+    c.requires.place (c.breaks.ensures c.if-breaks.true) h)

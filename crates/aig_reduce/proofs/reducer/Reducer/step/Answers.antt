@@ -2,7 +2,7 @@ use Rattle.std.proofs.Common.{inl, inr, suc, ◌+◌, ◌<◌, List, ◌∷◌, 
 use Rattle.std.proofs.lemmas.Bool.{false≢true}
 use Rattle.aig_parts.specs.declared.latch.Latch.{Latch}
 use Rattle.aig_reduce.proofs.Clearings.{item_there, no_place, reducing_at, start_within}
-use Rattle.aig_reduce.proofs.NeededTries.{reducing_needed}
+use Rattle.aig_reduce.proofs.NeededTries.{reducing_broken, reducing_needed}
 use Rattle.aig_reduce.proofs.Tries.{reducing_list, reducing_skips}
 use Rattle.aig_reduce.proofs.reducer.Reducer.step.Goals as goal
 
@@ -49,3 +49,20 @@ returns-then-has-clause-reducing g c = λ raw given e h.
 
 pub returns-then-has-clause-on : goal.returns-then-has-clause-on
 returns-then-has-clause-on g c = inr (refl, omega arith)
+
+pub breaks-requires : goal.breaks-requires
+breaks-requires g c =
+    let (raw, given, e, h) = c.requires.reducing in
+    omega (arith, e.readers, h.runs.resets.size)
+
+pub returns-then-breaks-clause-reducing : goal.returns-then-breaks-clause-reducing
+returns-then-breaks-clause-reducing g c = λ raw given e h.
+    let old = c.args.self.now in
+    let t = c.args.place.list in
+    let p = c.args.place.position in
+    reducing_at raw given old.bench.pair old.property old.start.items t (p + 1) t (suc p) refl (omega arith)
+    (reducing_broken raw given c.args.known.now.needed.cells.rows e.cells old.bench.pair old.property old.start.items t p
+    (c.has.ensures.0 c.if-not-has.false) (c.breaks.ensures c.if-breaks.true) h)
+
+pub returns-then-breaks-clause-on : goal.returns-then-breaks-clause-on
+returns-then-breaks-clause-on g c = inr (refl, omega arith)
