@@ -178,8 +178,8 @@ pub fn open_circuit_and_properties<'m, 't, R: Files + AllocGlobal + Clock + Epri
 {
     let circuit = open_circuit(terminal, matches)?;
     let texts = texts_of(matches, "P").unwrap_or(&[]);
-    if let Some(positions) = numbers_in(terminal.alloc(), section, texts)? {
-        return Ok((circuit, positions));
+    if let Some(numbers) = numbers_in(terminal.alloc(), section, texts)? {
+        return Ok((circuit, numbers));
     }
     let file = circuit.read_whole(terminal.alloc(), Part::Circuit)?;
     let positions = positions_in(terminal.alloc(), file.bytes(), section, texts)?;
