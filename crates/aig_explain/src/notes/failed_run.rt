@@ -69,8 +69,7 @@ fn of_end<R: Files + AllocGlobal + Print>(
     ended: Result<(), Exit>,
 ) -> Result<(), Memory> {
     match ended {
-        Err(Exit::Run(fault)) if is_memory(fault) => Err(Memory),
-        Err(Exit::Run(fault)) => of_fault(look, fault),
+        Err(Exit::Run(fault)) => of_run_fault(look, fault),
         Err(Exit::Unread(part)) => of_unread(look, part),
         Err(Exit::Reported | Exit::NoCommand | Exit::NotText) => Ok(()),
         Ok(()) | Err(Exit::NotConfirmed) => explain_verdict(look),
@@ -82,15 +81,49 @@ fn of_unread<R: Files + AllocGlobal + Print>(
     look: &mut Look<'_, R>,
     part: Part,
 ) -> Result<(), Memory> {
-    let files = look.files;
+    let name = file_of(look.files, part);
     match part {
-        Part::Circuit => of_file(look, Some(files.circuit)),
-        Part::Stimulus => of_stream(look, files.run),
-        Part::Script => of_stream(look, files.script),
-        Part::Witness | Part::Model | Part::Proof => of_file(look, files.run),
-        Part::StepProof => of_file(look, files.step),
-        Part::Certificate => of_file(look, files.certificate),
-        Part::Names => of_file(look, files.names),
+        Part::Stimulus | Part::Script => of_stream(look, name),
+        _ => of_file(look, name),
+    }
+}
+
+/// The file of a part of the run, if it has one.
+fn file_of<'a>(files: &RunFiles<'a>, part: Part) -> Option<&'a str> {
+    match part {
+        Part::Circuit => Some(files.circuit),
+        Part::Stimulus | Part::Witness | Part::Model | Part::Proof => files.run,
+        Part::Script => files.script,
+        Part::StepProof => files.step,
+        Part::Certificate => files.certificate,
+        Part::Names => files.names,
+    }
+}
+
+/// Why a run failed. Where a file was not read to its end, its bytes do not tell why.
+fn of_run_fault<R: Files + AllocGlobal + Print>(
+    look: &mut Look<'_, R>,
+    fault: RunFault,
+) -> Result<(), Memory> {
+    if is_memory(fault) {
+        return Err(Memory);
+    }
+    match unread_part(fault) {
+        Some(part) => of_unread(look, part),
+        None => of_fault(look, fault),
+    }
+}
+
+/// The part of the run whose file could not be read to its end, if that is the fault.
+fn unread_part(fault: RunFault) -> Option<Part> {
+    match fault {
+        RunFault::Circuit(Fault::Io) => Some(Part::Circuit),
+        RunFault::Certificate(Fault::Io) => Some(Part::Certificate),
+        RunFault::Proof(ProofFault::Io) => Some(Part::Proof),
+        RunFault::StepProof(ProofFault::Io) => Some(Part::StepProof),
+        RunFault::Stimulus(StimFault::Io) => Some(Part::Stimulus),
+        RunFault::Script(_) => Some(Part::Script),
+        _ => None,
     }
 }
 
@@ -117,21 +150,14 @@ fn is_memory(fault: RunFault) -> bool {
     )
 }
 
-/// Why a run failed: which files tell it. Memory is there.
+/// Which files tell why a run failed. Memory is there, and they could be read.
 fn of_fault<R: Files + AllocGlobal + Print>(
     look: &mut Look<'_, R>,
     fault: RunFault,
 ) -> Result<(), Memory> {
-    let files = look.files;
     match fault {
-        RunFault::Circuit(Fault::Io) => of_file(look, Some(files.circuit)),
-        RunFault::Certificate(Fault::Io) => of_file(look, files.certificate),
-        RunFault::Proof(ProofFault::Io) => of_file(look, files.run),
-        RunFault::StepProof(ProofFault::Io) => of_file(look, files.step),
-        RunFault::Stimulus(StimFault::Io) => of_stream(look, files.run),
-        RunFault::Script(_) => of_stream(look, files.script),
         RunFault::Output => of_output(look),
-        RunFault::Proof(fault) => explain_proof(look, proof_of(files), fault),
+        RunFault::Proof(fault) => explain_proof(look, proof_of(look.files), fault),
         RunFault::StepProof(fault) => explain_proof(look, ProofOf::Step, fault),
         RunFault::Model(fault) => explain_model(look, fault),
         RunFault::Reach(fault) => of_reach(look, fault),
