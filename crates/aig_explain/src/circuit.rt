@@ -32,21 +32,22 @@ use aig_parts::Fault;
 fn push_place(lines: &mut Explanation, file: &[u8], wrong: &Wrong) -> Result<(), Memory> {
     let at = wrong.at;
     let found = Word::Found(file.get(at).copied());
-    match wrong.within {
-        Within::BinaryGate { .. } => lines.add("byte {}: {}", &[Word::Size(at), found]),
+    let (template, words) = match wrong.within {
+        Within::BinaryGate { .. } => ("byte {}: {}", [Word::Size(at), found, Word::None]),
         Within::BinarySymbols { from } => {
             let symbols = file.get(from..).unwrap_or(&[]);
             let [line, column] = Place::of(symbols, at.saturating_sub(from)).words();
-            lines.add(
+            (
                 "after the gates, line {}, column {}: {}",
-                &[line, column, found],
+                [line, column, found],
             )
         }
         _ => {
             let [line, column] = Place::of(file, at).words();
-            lines.add("line {}, column {}: {}", &[line, column, found])
+            ("line {}, column {}: {}", [line, column, found])
         }
-    }
+    };
+    lines.add(template, &words)
 }
 
 // What the format wants in place of a wrong token.

@@ -2,7 +2,7 @@
 //! `Kind::of`, for each kind, and a row of `Kind::remedy` for each place that wants something of its own.
 
 use crate::explanation::Explanation;
-use crate::text_lines::{first_other, has_text, is_blank, is_newline};
+use crate::text_lines::{first_other, has_text, is_blank, is_newline, place_of};
 use aig_bytes::Memory;
 use aig_files::Part;
 
@@ -240,7 +240,7 @@ impl Kind {
     pub fn at_word(bytes: &[u8], word: &[u8]) -> Option<Kind> {
         match Kind::of(bytes) {
             // Lines of values may be numbers too.
-            None | Some(Kind::Stimulus) if bytes.contains(&0) => of_binary(bytes),
+            None | Some(Kind::Stimulus) if place_of(bytes, 0).is_some() => of_binary(bytes),
             None | Some(Kind::Stimulus) => match of_line(first_line(bytes)) {
                 None => of_word(word),
                 known => known,

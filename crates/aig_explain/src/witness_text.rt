@@ -82,9 +82,9 @@ fn is_right(line: &[u8], wanted: Wanted) -> bool {
     }
 }
 
-// What the line of this number, counted from 1, should be.
-fn wanted_at(number: usize, header: Option<Header>) -> Wanted {
-    let (latches, inputs) = match header {
+// How many latches and inputs a circuit has.
+fn widths_of(header: Option<Header>) -> (Width, Width) {
+    match header {
         Some(
             Header {
                 latches,
@@ -93,7 +93,11 @@ fn wanted_at(number: usize, header: Option<Header>) -> Wanted {
             },
         ) => (Some(latches), Some(inputs)),
         None => (None, None),
-    };
+    }
+}
+
+// What the line of this number, counted from 1, should be.
+fn wanted_at(number: usize, latches: Width, inputs: Width) -> Wanted {
     match number {
         1 => Wanted::Status,
         2 => Wanted::Property,
@@ -105,6 +109,7 @@ fn wanted_at(number: usize, header: Option<Header>) -> Wanted {
 
 /// The first line that is wrong in a witness for a circuit with this header, if there is one.
 pub fn first_wrong_line(file: &[u8], header: Option<Header>) -> Option<WrongLine<'_>> {
+    let (latches, inputs) = widths_of(header);
     let mut number = 0usize;
     let mut taken = 0usize;
     let mut is_over = false;
@@ -115,7 +120,7 @@ pub fn first_wrong_line(file: &[u8], header: Option<Header>) -> Option<WrongLine
         let wanted = if is_over {
             Wanted::Nothing
         } else {
-            wanted_at(number, header)
+            wanted_at(number, latches, inputs)
         };
         let wrong = WrongLine {
             number,
@@ -244,36 +249,29 @@ impl<'a> WrongLine<'a> {
         }
     }
 
-    // Where the line is wrong, and what is there.
-    fn push_found(&self, lines: &mut Explanation) -> Result<(), Memory> {
-        let number = self.number;
+    // Where the line is wrong, and what is there: a template, and its words after the number of the line.
+    fn found(&self) -> (&'static str, [Word<'a>; 2]) {
         if self.line.is_empty() && !self.is_ended {
-            return lines.add("line {}: the file ends here", &[Word::Size(number)]);
+            return ("line {}: the file ends here", [Word::None, Word::None]);
         }
         if self.lacks_newline() {
-            return lines.add(
+            return (
                 "line {}: the file ends here, without a newline",
-                &[Word::Size(number)],
+                [Word::None, Word::None],
             );
         }
         match (self.wanted, first_other(self.line)) {
             (Wanted::Status | Wanted::Property | Wanted::Nothing, _) => {
-                lines.add(
-                    "line {} is `{}`",
-                    &[Word::Size(number), Word::Bytes(self.line)],
-                )
+                ("line {} is `{}`", [Word::Bytes(self.line), Word::None])
             }
             (_, Some(place)) => {
                 let column = Word::Size(place.saturating_add(1));
-                let found = Word::Found(self.line.get(place).copied());
-                lines.add(
-                    "line {}, column {}: {}",
-                    &[Word::Size(number), column, found],
-                )
+                let byte = Word::Found(self.line.get(place).copied());
+                ("line {}, column {}: {}", [column, byte])
             }
             (_, None) => {
                 let length = Word::Size(self.line.len());
-                lines.add("line {} has the length {}", &[Word::Size(number), length])
+                ("line {} has the length {}", [length, Word::None])
             }
         }
     }
@@ -285,7 +283,8 @@ impl<'a> WrongLine<'a> {
 
     /// Adds what is wrong, and what is wanted, unless a newline is all that the witness lacks.
     pub fn push(&self, lines: &mut Explanation) -> Result<(), Memory> {
-        self.push_found(lines)?;
+        let (template, [second, third]) = self.found();
+        lines.add(template, &[Word::Size(self.number), second, third])?;
         if self.lacks_newline() && is_end(self.line) {
             return Ok(());
         }

@@ -195,7 +195,12 @@ pub fn find_cycle(alloc: Global, file: &[u8], variable: u32) -> Result<Option<Cy
 impl Cycle {
     /// Whether the gate of this variable is on the cycle.
     pub fn contains(&self, variable: u32) -> bool {
-        self.variables.as_slice().contains(&variable)
+        for known in self.variables.as_slice() {
+            if *known == variable {
+                return true;
+            }
+        }
+        false
     }
 
     /// Adds the literals of the gates, each before one that it reads, up to the first again; at most eight.

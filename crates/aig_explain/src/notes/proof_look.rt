@@ -4,7 +4,7 @@ use crate::circuit::place::Place;
 use crate::explanation::Explanation;
 use crate::kind::Kind;
 use crate::line::{Line, Word};
-use crate::notes::look::{Look, Seen};
+use crate::notes::look::{Look, Obstacle, Seen};
 use crate::notes::proof_walk::{Goal, Spelling, Step, Walk};
 use crate::unrolling::{variables_of_step, variables_within};
 use aig_bytes::Memory;
@@ -41,18 +41,37 @@ pub fn explain_proof<R: Files + AllocGlobal>(
     look.lines.name(name)?;
     match look.walk(name, goal_of(fault), None) {
         Ok(seen) => {
-            let spelling = Some(seen.walk.spelling);
-            look.lines.say(why(fault, spelling))?;
             let variables = variables_of(look, about, fault, &seen);
-            push_seen(&mut look.lines, &seen, fault, variables)?;
-            push_cause(&mut look.lines, about, fault, spelling, seen.known)
+            push_walked(&mut look.lines, about, fault, &seen, variables)
         }
-        Err(obstacle) => {
-            look.lines.say(why(fault, None))?;
-            obstacle.push(&mut look.lines)?;
-            push_cause(&mut look.lines, about, fault, None, None)
-        }
+        Err(obstacle) => push_unseen(&mut look.lines, about, fault, obstacle),
     }
+}
+
+// Adds what a walk through the proof shows.
+fn push_walked(
+    lines: &mut Explanation,
+    about: ProofOf,
+    fault: ProofFault,
+    seen: &Seen,
+    variables: Option<u64>,
+) -> Result<(), Memory> {
+    let spelling = Some(seen.walk.spelling);
+    lines.say(why(fault, spelling))?;
+    push_seen(lines, seen, fault, variables)?;
+    push_cause(lines, about, fault, spelling, seen.known)
+}
+
+// Adds why the proof is refused where it is not seen again.
+fn push_unseen(
+    lines: &mut Explanation,
+    about: ProofOf,
+    fault: ProofFault,
+    obstacle: Obstacle,
+) -> Result<(), Memory> {
+    lines.say(why(fault, None))?;
+    obstacle.push(lines)?;
+    push_cause(lines, about, fault, None, None)
 }
 
 // Where the proof is not seen again, it may have hints or not.
@@ -122,11 +141,12 @@ fn push_place(
     template: &str,
     words: &[Word<'_>],
 ) -> Result<(), Memory> {
+    let (before, numbers) = match walk.spelling {
+        Spelling::Text | Spelling::Hinted => ("line {}, column {}", place.words()),
+        Spelling::Binary => ("byte {}", [Word::Number(place.byte), Word::None]),
+    };
     let mut line = Line::new(lines.alloc());
-    match walk.spelling {
-        Spelling::Text | Spelling::Hinted => line.put("line {}, column {}", &place.words())?,
-        Spelling::Binary => line.put("byte {}", &[Word::Number(place.byte)])?,
-    }
+    line.put(before, &numbers)?;
     line.put(template, words)?;
     lines.push(line.as_bytes())
 }
