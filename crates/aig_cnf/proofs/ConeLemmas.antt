@@ -17,9 +17,7 @@ use Rattle.aig_base.specs.Sections.{definitions, uses}
 use Rattle.aig_base.specs.Sound.{IsInRange}
 use Rattle.aig_base.proofs.circuits.EachUse.{each_use}
 use Rattle.aig_base.proofs.lists.Joined.{All-left, All-right, All-unmap}
-use Rattle.aig_cnf.specs.Formula.{cone, gates_for, reads}
-use Rattle.aig_cnf.specs.declared.query.Goal.{Goal}
-use Rattle.aig_cnf.specs.declared.query.Goal.TheVariants as asked
+use Rattle.aig_cnf.specs.Formula.{cone, reads}
 use Rattle.aig_cnf.specs.state.Cones.{AreMarks, IsCone, IsGateBelow}
 
 -- ---- a part of the gates
@@ -36,14 +34,7 @@ module _ (P : Gate → Type 0) (literals : List ℕ) where
         | false ↦ rest
       ]
 
-pub All-gates_for : (P : Gate → Type 0) (goal : Goal) (literals : List ℕ) (gates : List Gate) → All P gates
-    → All P (gates_for goal literals gates)
-All-gates_for P asked.Within literals gates h = h
-All-gates_for P asked.Last literals gates h = h
-All-gates_for P asked.Step literals gates h = h
-All-gates_for P asked.Induction literals gates h = All-cone P literals gates h
-
-length-cone : (literals : List ℕ) (gates : List Gate) → length (cone literals gates) ≤ length gates
+pub length-cone : (literals : List ℕ) (gates : List Gate) → length (cone literals gates) ≤ length gates
 unfolding cone
 length-cone literals [] = omega arith
 length-cone literals (g ∷ gates) =
@@ -53,13 +44,6 @@ length-cone literals (g ∷ gates) =
       | true ↦ omega (arith, rest)
       | false ↦ omega (arith, rest)
     ]
-
-pub length-gates_for : (goal : Goal) (literals : List ℕ) (gates : List Gate)
-    → length (gates_for goal literals gates) ≤ length gates
-length-gates_for asked.Within literals gates = omega arith
-length-gates_for asked.Last literals gates = omega arith
-length-gates_for asked.Step literals gates = omega arith
-length-gates_for asked.Induction literals gates = length-cone literals gates
 
 -- ---- marks
 

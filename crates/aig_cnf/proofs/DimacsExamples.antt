@@ -9,7 +9,7 @@ use Rattle.aig_unroll.specs.InputMap.{origin_lines, start_origins, symbol_name_a
 use Rattle.aig_cnf.specs.CnfText.{cnf_text}
 use Rattle.aig_cnf.specs.Dimacs.{clause_text, formula_text, literal_text, problem_line}
 use Rattle.aig_cnf.specs.DimacsRead.{clauses_of, counts_of, found_in, literal_of, number, read_formula, signed}
-use Rattle.aig_cnf.specs.Formula.{formula_of}
+use Rattle.aig_cnf.specs.Formula.{cone, formula_of}
 use Rattle.aig_cnf.specs.Query.{within}
 use Rattle.aig_cnf.specs.declared.heading.Heading.TheVariants.{Runs}
 
@@ -64,10 +64,10 @@ abbrev text_of : List ℕ → List ℕ
 text_of name = cnf_text (bad_input name) (Runs (within 1 0)) (formula_of (bad_input name) [] (within 1 0))
 
 named : text_of (codes "in") ≡ codes "c aig cnf --frames 1 --property 0 \nc i 2 0 0 in\nc b 2 0\np cnf 2 2\n-1 0\n2 0\n"
-unfolding digits frame_literal origin_lines start_origins symbol_name_at clause_text formula_text literal_text problem_line
+unfolding digits cone frame_literal origin_lines start_origins symbol_name_at clause_text formula_text literal_text problem_line
 named = refl
 
 -- if a name had an LF, a comment line would end there
 line_feed : read_formula (text_of (codes "in\n1 0")) ≡ None
-unfolding digits frame_literal origin_lines start_origins symbol_name_at clause_text formula_text literal_text problem_line clauses_of counts_of found_in literal_of number signed
+unfolding digits cone frame_literal origin_lines start_origins symbol_name_at clause_text formula_text literal_text problem_line clauses_of counts_of found_in literal_of number signed
 line_feed = refl

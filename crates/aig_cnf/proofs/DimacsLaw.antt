@@ -21,7 +21,7 @@ use Rattle.aig_cnf.specs.Answers.{HasFormula}
 use Rattle.aig_cnf.specs.CnfText.{cnf_text, goal_line, goal_lines}
 use Rattle.aig_cnf.specs.Dimacs.{formula_text, literal_text, sign_text}
 use Rattle.aig_cnf.specs.DimacsRead.{read_formula}
-use Rattle.aig_cnf.specs.Formula.{Cnf, IsFormulaOf, all_but_last, first_reached, formula_of, gate_clauses, gates_for}
+use Rattle.aig_cnf.specs.Formula.{Cnf, IsFormulaOf, all_but_last, cone, first_reached, formula_of, gate_clauses}
 use Rattle.aig_cnf.specs.Formula.{goal_clauses, implies, last_alone, start_literals}
 use Rattle.aig_cnf.specs.Heading.{asked_options, goal_option, heading}
 use Rattle.aig_cnf.specs.Query.{depth, from_any_state, last, subject}
@@ -37,7 +37,7 @@ use Rattle.aig_unroll.proofs.UnrolledCircuit.{unrolled_circuit}
 use Rattle.aig_unroll.proofs.UnrolledReady.{IsReadyGate, gates_ready}
 use Rattle.aig_cnf.proofs.AlwaysBad.{always_circuit}
 use Rattle.aig_cnf.proofs.AnyCircuit.{subject_circuit}
-use Rattle.aig_cnf.proofs.ConeLemmas.{All-gates_for, length-gates_for}
+use Rattle.aig_cnf.proofs.ConeLemmas.{All-cone, length-cone}
 use Rattle.aig_cnf.proofs.DimacsLines.{HasNoEnd, decimal_no_end, no_end_by_test, IsLine, line_end, line_more, line_byte}
 use Rattle.aig_cnf.proofs.DimacsLines.{HasLines, lines_none, lines_then, comment_line}
 use Rattle.aig_cnf.proofs.DimacsReading.{AreBelow, reads_after}
@@ -256,7 +256,7 @@ module _ (raw : Raw) (query : Query) (circuit : IsCircuit raw) (has : HasFormula
   starts = start_literals query raw
 
   abbrev kept : List Gate
-  kept = gates_for query.goal F.goals C.gates
+  kept = cone F.goals C.gates
 
   clauses_below : All (AreBelow (C.max_var + 1)) F.clauses
   clauses_below =
@@ -264,16 +264,16 @@ module _ (raw : Raw) (query : Query) (circuit : IsCircuit raw) (has : HasFormula
       (one_below (C.max_var + 1) 1 (omega arith))
       (All-append (AreBelow (C.max_var + 1)) (goal_clauses query.goal starts F.goals) (flat_map gate_clauses kept)
       (goal_below (C.max_var + 1) query.goal starts F.goals (start_below query raw order) goals_are_below)
-      (gates_below C.max_var kept (All-gates_for (IsReadyGate C.max_var) query.goal F.goals C.gates
+      (gates_below C.max_var kept (All-cone (IsReadyGate C.max_var) F.goals C.gates
       (gates_ready S (subject_circuit query.goal raw circuit) order canonical k))))
 
   few_clauses : length F.clauses < 2 ^ 64
   few_clauses =
-      let all = length-formula query.goal starts F.goals C.gates in
+      let all = length-formula query.goal starts F.goals kept in
       let each = length-goals C (length raw.bad) k query.property in
       let most = length-goal_clauses query.goal starts F.goals
       (few_starts query raw (subject_circuit query.goal raw circuit)) (omega (arith, each, has.limits.frames)) in
-      let part = length-gates_for query.goal F.goals C.gates in
+      let part = length-cone F.goals C.gates in
       omega (arith, all, most, part, unrolled_is.formed.counts.gates)
 
   -- whatever circuit its comment lines are about

@@ -12,7 +12,7 @@ use Rattle.aig_parts.specs.declared.gate.Gate.{Gate}
 use Rattle.aig_parts.specs.Literal.{negation}
 use Rattle.aig_unroll.specs.Unrolled.{frames}
 use Rattle.aig_cnf.specs.Dimacs.{clause_text, formula_text, gate_text, problem_line}
-use Rattle.aig_cnf.specs.Formula.{all_but_last, clauses, first_reached, gate_clauses, gates_for, goal_clauses, implies}
+use Rattle.aig_cnf.specs.Formula.{all_but_last, clauses, first_reached, gate_clauses, goal_clauses, implies}
 use Rattle.aig_cnf.specs.declared.query.Goal.{Goal}
 use Rattle.aig_cnf.specs.declared.query.Goal.TheVariants as asked
 
@@ -160,23 +160,21 @@ length-goal_clauses asked.Induction ms ls some few =
     omega (arith, e, most)
 
 pub length-formula : (goal : Goal) (ms ls : List ℕ) (gates : List Gate)
-    → length (clauses goal ms ls gates) ≡ 1 + length (goal_clauses goal ms ls) + 3 * length (gates_for goal ls gates)
+    → length (clauses goal ms ls gates) ≡ 1 + length (goal_clauses goal ms ls) + 3 * length gates
 length-formula goal ms ls gates =
     omega (
       arith,
-      length-append (goal_clauses goal ms ls) (flat_map gate_clauses (gates_for goal ls gates)),
-      length-clauses (gates_for goal ls gates),
+      length-append (goal_clauses goal ms ls) (flat_map gate_clauses gates),
+      length-clauses gates,
     )
 
-pub clauses_text : (goal : Goal) (ms ls : List ℕ) (gates kept : List Gate) (all : List (List ℕ))
-    → kept ≡ gates_for goal ls gates → clauses goal ms ls gates ≡ all
-    → clause_text (1 ∷ []) ++ (flat_map clause_text (goal_clauses goal ms ls) ++ flat_map gate_text kept) ≡ flat_map clause_text all
-clauses_text goal ms ls gates kept all is e =
-    ap (λ (xs : List ℕ). clause_text (1 ∷ []) ++ (flat_map clause_text (goal_clauses goal ms ls) ++ xs))
-    (gates_text kept ∙ ap (λ (gs : List Gate). flat_map clause_text (flat_map gate_clauses gs)) is)
+pub clauses_text : (goal : Goal) (ms ls : List ℕ) (gates : List Gate) (all : List (List ℕ)) → clauses goal ms ls gates ≡ all
+    → clause_text (1 ∷ []) ++ (flat_map clause_text (goal_clauses goal ms ls) ++ flat_map gate_text gates) ≡ flat_map clause_text all
+clauses_text goal ms ls gates all e =
+    ap (λ (xs : List ℕ). clause_text (1 ∷ []) ++ (flat_map clause_text (goal_clauses goal ms ls) ++ xs)) (gates_text gates)
     ∙ ap (λ (xs : List ℕ). clause_text (1 ∷ []) ++ xs)
-    (sym (flat_map-append clause_text (goal_clauses goal ms ls) (flat_map gate_clauses (gates_for goal ls gates))))
-    ∙ sym (flat_map-cons clause_text (1 ∷ []) (goal_clauses goal ms ls ++ flat_map gate_clauses (gates_for goal ls gates)))
+    (sym (flat_map-append clause_text (goal_clauses goal ms ls) (flat_map gate_clauses gates)))
+    ∙ sym (flat_map-cons clause_text (1 ∷ []) (goal_clauses goal ms ls ++ flat_map gate_clauses gates))
     ∙ ap (flat_map clause_text) e
 
 pub formula_parts : (v n w : ℕ) (all : List (List ℕ)) → v ≡ w → n ≡ length all

@@ -1,8 +1,7 @@
 -- The bad literals of the frames of an unrolled circuit.
-use Rattle.std.proofs.Common.{◌≡◌, ℕ, zero, suc, ◌+◌, ◌*◌, ◌<◌, ◌≤◌, List, [], ◌∷◌, length, slice_index, All, Option}
+use Rattle.std.proofs.Common.{◌≡◌, ℕ, zero, suc, ◌+◌, ◌*◌, ◌<◌, ◌≤◌, List, [], ◌∷◌, length, slice_index, All}
 use Rattle.std.proofs.Common.{Result, Ok, Err, IfErr}
 use Rattle.std.proofs.Common.{mul-le-mul_right, refl, sym, ◌∙◌, ap, subst, arith}
-use Rattle.std.specs.Global.{Vec}
 use Rattle.std.specs.Result.{IsErrAnd}
 use Rattle.std.proofs.lemmas.List.Elements.{All-nil, All-cons, All-head, All-tail, All-weaker}
 use Rattle.aig_parts.specs.Literal.{variable}
@@ -13,6 +12,7 @@ use Rattle.aig_base.specs.Circuit.{IsCircuit}
 use Rattle.aig_base.specs.Sections.{definitions, uses}
 use Rattle.aig_base.specs.Sound.{IsInRange}
 use Rattle.aig_base.proofs.circuits.EachUse.{each_use}
+use Rattle.aig_base.proofs.circuits.ShortGates.{short_gates}
 use Rattle.aig_base.proofs.lists.Joined.{All-right}
 use Rattle.aig_unroll.specs.Answers.{IsUnrolled}
 use Rattle.aig_unroll.specs.Unrollable.{FitsLimits}
@@ -22,13 +22,14 @@ use Rattle.aig_unroll.proofs.UnrolledReady.{All-frames}
 use Rattle.aig_cnf.specs.declared.query.Goal.{Goal}
 use Rattle.aig_cnf.specs.declared.query.Goal.TheVariants as asked
 use Rattle.aig_cnf.specs.declared.query.Query.{Query}
-use Rattle.aig_cnf.specs.Formula.{IsFormulaOf, clauses, gates_for, goals, reset_literals, start_literals}
+use Rattle.aig_cnf.specs.Formula.{IsFormulaOf, clauses, cone, goals, reset_literals, start_literals}
 use Rattle.aig_cnf.specs.Answers.{HasFormula, RefusesFormula}
 use Rattle.aig_cnf.specs.Query.{depth, depth_of, subject}
 use Rattle.aig_cnf.specs.declared.fault.CnfFault.{CnfFault}
 use Rattle.aig_cnf.specs.declared.fault.CnfFault.TheVariants as faults
-use Rattle.aig_cnf.specs.state.Kept.{Keeps, kept_gates, kept_latches}
+use Rattle.aig_cnf.specs.state.Kept.{IsShort, Keeps, kept_latches}
 use Rattle.aig_cnf.specs.state.Made.{IsAnswered}
+use Rattle.aig_cnf.proofs.ConeLemmas.{All-cone, length-cone}
 use Rattle.aig_cnf.proofs.StartLemmas.{few_latches, length-reset_literals, starts_are}
 
 -- the goal of frame t is a bad literal
@@ -75,12 +76,13 @@ starts_of raw mid query k first latches starts e depth_is f g h =
     h ∙ ap (λ n. reset_literals n latches) (first_is query.goal raw mid k first e f)
     ∙ ap (λ (xs : List Latch). reset_literals (k * length raw.inputs + 1) xs) g ∙ starts_are query k raw depth_is
 
-pub is_formula : (raw new : Raw) (query : Query) (k n : ℕ) (starts found : List ℕ)
+pub is_formula : (raw new : Raw) (query : Query) (k n variables : ℕ) (starts found : List ℕ) (gates : List Gate)
     → IsUnrolled (subject query.goal raw) k new
-    → k ≡ depth query → n ≡ length raw.bad → starts ≡ start_literals query raw → found ≡ goals new n k query.property
+    → k ≡ depth query → n ≡ length raw.bad → variables ≡ new.max_var + 1 → starts ≡ start_literals query raw
+    → found ≡ goals new n k query.property → gates ≡ cone found new.gates
     → IsFormulaOf raw query
-    (record { variables = new.max_var + 1; goals = found; clauses = clauses query.goal starts found new.gates })
-is_formula raw new query k n starts found (order, canonical, is) e f s g = (order, canonical, cc)
+    (record { variables = variables; goals = found; clauses = clauses query.goal starts found gates })
+is_formula raw new query k n variables starts found gates (order, canonical, is) e f v s g h = (order, canonical, cc)
 
 -- ---- the bad literals of an unrolled circuit are of its variables
 
@@ -122,20 +124,18 @@ pub refused : {A : Type 0} (raw : Raw) (query : Query) (r : Result A CnfFault) �
 refused raw query (Ok x) h some = absurd h
 refused raw query (Err fault) h some = subst (RefusesFormula raw query) (sym h) some
 
--- a goal a frame, of which there are some, and not too many; a literal a latch; and the gates of the goal
-pub keeps : (raw mid new : Raw) (query : Query) (k n p first : ℕ) (latches : List Latch) (starts found : List ℕ)
-    (part : Option (Vec Gate)) → mid ≡ subject query.goal raw → IsCircuit mid → IsAnswered mid query (Ok k)
+-- a goal a frame, of which there are some, and not too many; a literal a latch; and the gates of the cone
+pub keeps : (raw mid new : Raw) (query : Query) (k n p first variables : ℕ) (latches : List Latch) (starts found : List ℕ)
+    (gates : List Gate) → mid ≡ subject query.goal raw → IsCircuit mid → IsAnswered mid query (Ok k)
     → latches ≡ kept_latches query.goal raw → starts ≡ reset_literals first latches → found ≡ goals new n k p
-    → kept_gates part new.gates ≡ gates_for query.goal found new.gates
-    → Keeps query.goal starts found new.gates part
-keeps raw mid new query k n p first latches starts found part same circuit h g s e kept =
+    → IsCircuit new → variables ≡ new.max_var + 1 → gates ≡ cone found new.gates → Keeps variables starts found gates
+keeps raw mid new query k n p first variables latches starts found gates same circuit h g s e whole v kept =
     let size : length found ≡ k = ap length e ∙ length-goals new n k p in
     let positive : 0 < k = rw h.0 (depth_positive query.goal query.frames h.1) in
     let most = h.3.frames in
     let few = few_latches query.goal raw (subst IsCircuit same circuit) in
     record {
-      some = omega (arith, size, positive);
-      frames = omega (arith, size, most);
+      variables_fit = omega (arith, v, whole.formed.counts.max_var);
       latches = omega (
         arith,
         ap (λ (ls : List ℕ). length ls) s,
@@ -143,7 +143,15 @@ keeps raw mid new query k n p first latches starts found part same circuit h g s
         ap (λ (xs : List Latch). length xs) g,
         few,
       );
-      gates_are = kept;
+      some = omega (arith, size, positive);
+      frames = omega (arith, size, most);
+      few = omega (
+        arith,
+        ap (λ (gs : List Gate). length gs) kept,
+        length-cone found new.gates,
+        whole.formed.counts.gates,
+      );
+      short = subst (All IsShort) (sym kept) (All-cone IsShort found new.gates (short_gates new whole));
     }
   where
     depth_positive : (goal : Goal) (k : ℕ) → 0 < k → 0 < depth_of goal k

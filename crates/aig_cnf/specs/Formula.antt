@@ -85,13 +85,6 @@ cone literals [] = []
 cone literals (g ∷ gates) =
     if reads literals (cone literals gates) (variable g.lhs) then g ∷ cone literals gates else cone literals gates
 
--- all gates; for an induction those of the cone
-abbrev pub gates_for : Goal → List ℕ → List Gate → List Gate
-gates_for asked.Within goals gates = gates
-gates_for asked.Last goals gates = gates
-gates_for asked.Step goals gates = gates
-gates_for asked.Induction goals gates = cone goals gates
-
 -- ---- the formula
 
 -- Of the bad literals of all frames: one is true; or the last; or the last, and none before it; or one is true, and the
@@ -105,7 +98,7 @@ goal_clauses asked.Induction start goals = goals ∷ flat_map (implies start) (a
 -- literal 1 is true, the goal is reached, and each gate is an AND
 abbrev pub clauses : Goal → List ℕ → List ℕ → List Gate → List (List ℕ)
 clauses goal start goals gates =
-    (1 ∷ []) ∷ goal_clauses goal start goals ++ flat_map gate_clauses (gates_for goal goals gates)
+    (1 ∷ []) ∷ goal_clauses goal start goals ++ flat_map gate_clauses gates
 
 -- A formula: how many variables it has, the bad literal of each frame, and the clauses.
 pub record Cnf : Type 0 where
@@ -113,7 +106,8 @@ pub record Cnf : Type 0 where
   pub goals : List ℕ
   pub clauses : List (List ℕ)
 
--- the formula of a query about a circuit: one variable is constant, and the others are those of the unrolled circuit
+-- The formula of a query about a circuit: one variable is constant, and the others are those of the unrolled circuit. Of
+-- its gates the formula has the cone of the bad literals: what the property and the constraints read, frame by frame.
 abbrev pub formula_of : Raw → List ℕ → Query → Cnf
 formula_of raw order query =
     let new = unrolled (subject query.goal raw) order (depth query) in
@@ -121,7 +115,7 @@ formula_of raw order query =
     record {
       variables = new.max_var + 1;
       goals = reached;
-      clauses = clauses query.goal (start_literals query raw) reached new.gates;
+      clauses = clauses query.goal (start_literals query raw) reached (cone reached new.gates);
     }
 
 -- it is that, with the gates of a frame in the canonical order

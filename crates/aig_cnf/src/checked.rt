@@ -6,7 +6,7 @@ ghost use Rattle.aig_cnf.specs.Formula.{all_but_last, first_reached, gate_clause
 ghost use Rattle.aig_cnf.specs.state.Added.{Adds};
 ghost use Rattle.aig_sat.specs.checker.Consequence.{Follows};
 
-use crate::formula::{Formula, gates_of, last_of};
+use crate::formula::{Formula, last_of};
 use crate::query::Goal;
 use aig_base::{Gate, Lit, Memory};
 use aig_sat::Refutation;
@@ -115,7 +115,7 @@ impl Formula {
     fn add_all(&self, refutation: &mut Refutation) -> Result<(), Memory>
         ensures { Adds self.now.clauses refutation.old refutation.new }
     {
-        let gates = gates_of(&self.unrolled, &self.cone);
+        let gates = self.gates.as_slice();
         add(refutation, &[Lit::new(1)])?;
         add_goal(refutation, self.goal, &self.starts, &self.goals)?;
         add_gates(refutation, gates)

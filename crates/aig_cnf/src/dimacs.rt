@@ -9,9 +9,10 @@ ghost use Rattle.aig_bytes.specs.Term.{term_text};
 ghost use Rattle.aig_cnf.specs.CnfText.{cnf_text, goal_line, goal_lines};
 ghost use Rattle.aig_cnf.specs.Dimacs.{clause_text, formula_text, gate_text, literal_text, problem_line, sign_text};
 ghost use Rattle.aig_cnf.specs.Formula.{all_but_last, first_reached, goal_clauses, implies};
+ghost use Rattle.aig_cnf.specs.state.Kept.{IsShort};
 ghost use Rattle.aig_cnf.specs.state.Terms.{literal_term};
 
-use crate::formula::{Formula, gates_of, last_of};
+use crate::formula::{Formula, last_of};
 use crate::heading::Heading;
 use crate::query::Goal;
 use aig_base::{Block, Circuit, Gate, Io, Lit, Term, Write, write_all};
@@ -91,7 +92,7 @@ fn put_triple<W: Write>(
 
 // Puts the three clauses of a gate. The digits of each literal are found once.
 fn put_gate<W: Write>(out: &mut W, block: &mut Block, gate: Gate) -> Result<(), Io>
-    requires { (gate.lhs < 10 ^ 8) × (gate.rhs0 < 10 ^ 8) × (gate.rhs1 < 10 ^ 8) }
+    requires { IsShort gate }
     ensures { Gathers W.written W.failures out.old out.new block.old block.new (gate_text gate) result }
 {
     let lhs = term_of(gate.lhs);
@@ -104,7 +105,7 @@ fn put_gate<W: Write>(out: &mut W, block: &mut Block, gate: Gate) -> Result<(), 
 
 // Puts the clauses of all gates.
 fn put_gates<W: Write>(out: &mut W, block: &mut Block, gates: &[Gate]) -> Result<(), Io>
-    requires { All (λ g. (g.lhs < 10 ^ 8) × (g.rhs0 < 10 ^ 8) × (g.rhs1 < 10 ^ 8)) gates.now }
+    requires { All IsShort gates.now }
     ensures { Gathers W.written W.failures out.old out.new block.old block.new (flat_map gate_text gates.now) result }
 {
     for gate in gates {
@@ -262,9 +263,7 @@ impl Formula {
     fn clause_count(&self) -> u64
         ensures { result ≡ length self.now.clauses }
     {
-        let gates = gates_of(&self.unrolled, &self.cone);
-        self.unrolled.facts();
-        1 + goal_count(self.goal, &self.starts, &self.goals) + 3 * gates.len() as u64
+        1 + goal_count(self.goal, &self.starts, &self.goals) + 3 * self.gates.len() as u64
     }
 
     // Puts the clauses.
@@ -272,8 +271,7 @@ impl Formula {
         ensures { Gathers W.written W.failures out.old out.new block.old block.new
             (flat_map clause_text self.now.clauses) result }
     {
-        let gates = gates_of(&self.unrolled, &self.cone);
-        self.unrolled.facts();
+        let gates = self.gates.as_slice();
         put_clause(out, block, &[Lit::new(1)])?;
         put_goal(out, block, self.goal, &self.starts, &self.goals)?;
         put_gates(out, block, gates)

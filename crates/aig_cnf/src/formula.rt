@@ -4,9 +4,9 @@ ghost use Rattle.aig_parts.specs.Limits.{frame_limit};
 ghost use Rattle.aig_parts.specs.Literal.{variable};
 ghost use Rattle.aig_unroll.specs.Unrollable.{FitsLimits};
 ghost use Rattle.aig_cnf.specs.Answers.{HasFormula, RefusesFormula};
-ghost use Rattle.aig_cnf.specs.Formula.{IsFormulaOf, gates_for, goals, last_alone};
+ghost use Rattle.aig_cnf.specs.Formula.{IsFormulaOf, goals, last_alone};
 ghost use Rattle.aig_cnf.specs.Query.{depth, subject};
-ghost use Rattle.aig_cnf.specs.state.Kept.{kept_gates, kept_latches};
+ghost use Rattle.aig_cnf.specs.state.Kept.{kept_latches};
 ghost use Rattle.aig_cnf.specs.state.Made.{IsAnswered};
 
 use crate::any_state::start_in_any_state;
@@ -29,10 +29,10 @@ pub struct Formula {
     pub(crate) starts: Vec<Lit>,
     /// The bad literal of each frame.
     pub(crate) goals: Vec<Lit>,
-    /// The circuit that the query is about, unrolled.
-    pub(crate) unrolled: Circuit,
-    /// The gates that the formula is about, if not all of that circuit.
-    pub(crate) cone: Option<Vec<Gate>>,
+    /// How many variables it has: that of the constant, and those of the unrolled circuit.
+    variables: u32,
+    /// The gates that the bad literals depend on.
+    pub(crate) gates: Vec<Gate>,
 }
 
 // By hand: a value then ends in one call, which is one step of a proof (docs/PROOFS.md, Habits).
@@ -42,26 +42,25 @@ impl Drop for Formula {
             goal: _,
             starts: _,
             goals: _,
-            unrolled: _,
-            cone: _,
+            variables: _,
+            gates: _,
         } = self;
     }
 }
 
 impl Model for Formula {
-    ghost use Rattle.std.specs.Prelude.{◌+◌};
     ghost use Rattle.aig_cnf.specs.Formula.{Cnf, clauses};
     ghost use Rattle.aig_cnf.specs.state.Kept.{Keeps};
 
     ghost Value = { Cnf };
 
     ghost view = { λ f. record {
-      variables = f.unrolled.max_var + 1;
+      variables = f.variables;
       goals = f.goals.items;
-      clauses = clauses f.goal f.starts.items f.goals.items f.unrolled.gates;
+      clauses = clauses f.goal f.starts.items f.goals.items f.gates.items;
     } };
 
-    ghost invariant = { λ f. Keeps f.goal f.starts.items f.goals.items f.unrolled.gates f.cone };
+    ghost invariant = { λ f. Keeps f.variables f.starts.items f.goals.items f.gates.items };
 }
 
 // For how many frames a circuit is unrolled.
@@ -151,32 +150,6 @@ fn goals_of(
     Ok(found)
 }
 
-// The gates that the formula is about, if not all: for an induction those that its bad literals depend on.
-fn cone_for(
-    alloc: Global,
-    circuit: &Circuit,
-    goal: Goal,
-    goals: &[Lit],
-) -> Result<Option<Vec<Gate>>, Memory>
-    requires { All (λ l. variable l ≤ circuit.now.max_var) goals.now }
-    ensures { IfOk result (λ cone. kept_gates cone circuit.now.gates ≡ gates_for goal goals.now circuit.now.gates) }
-{
-    match goal {
-        Goal::Within | Goal::Last | Goal::Step => Ok(None),
-        Goal::Induction => Ok(Some(cone_of(alloc, circuit, goals)?)),
-    }
-}
-
-// The gates of a cone, or all of a circuit.
-pub(crate) fn gates_of<'a>(circuit: &'a Circuit, cone: &'a Option<Vec<Gate>>) -> &'a [Gate]
-    ensures { result.now ≡ kept_gates cone.now circuit.now.gates }
-{
-    match cone {
-        None => circuit.gates(),
-        Some(gates) => gates.as_slice(),
-    }
-}
-
 // The last of the bad literals.
 pub(crate) fn last_of(goals: &[Lit]) -> &[Lit]
     ensures { result.now ≡ last_alone goals.now }
@@ -206,13 +179,13 @@ impl Formula {
         let unrolled = unrolled_circuit(alloc, circuit, &levels, depth)?;
         let goals = goals_of(alloc, &unrolled, bads, depth, query.property)?;
         unrolled.facts();
-        let cone = cone_for(alloc, &unrolled, query.goal, &goals)?;
+        let gates = cone_of(alloc, &unrolled, &goals)?;
         Ok(Formula {
             goal: query.goal,
             starts,
             goals,
-            unrolled,
-            cone,
+            variables: unrolled.max_var() + 1,
+            gates,
         })
     }
 
@@ -222,8 +195,7 @@ impl Formula {
         ensures count { result ≡ self.now.variables }
         ensures few { result < 2 ^ 31 }
     {
-        self.unrolled.facts();
-        self.unrolled.max_var() + 1
+        self.variables
     }
 
     /// For how many frames the circuit is unrolled.

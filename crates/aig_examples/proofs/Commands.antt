@@ -36,7 +36,7 @@ use Rattle.aig_unroll.specs.FrameLiteral.{frame_literal, latch_literal}
 use Rattle.aig_unroll.specs.InputMap.{origin_lines, start_origins, symbol_name_at}
 use Rattle.aig_unroll.specs.Unrolled.{unrolled}
 use Rattle.aig_cnf.specs.Dimacs.{clause_text, formula_text, literal_text, problem_line}
-use Rattle.aig_cnf.specs.Formula.{formula_of}
+use Rattle.aig_cnf.specs.Formula.{cone, formula_of}
 use Rattle.aig_cnf.specs.Query.{within}
 use Rattle.aig_cnf.specs.declared.fault.CnfFault.TheVariants as formulas
 use Rattle.aig_command.specs.Faults.{output_of}
@@ -95,7 +95,7 @@ no_gates raw none = rw none (record {
 -- input 2 is bad, one frame: the formula; for property 1 nothing, with `Property`
 written_formula : WritesFormula (within 1 0) bad_input (Ok tt)
     (codes "c aig cnf --frames 1 --property 0 \nc i 2 0 0 \nc b 2 0\np cnf 2 2\n-1 0\n2 0\n")
-unfolding clause_text digits formula_text frame_literal literal_text origin_lines problem_line start_origins symbol_name_at
+unfolding clause_text cone digits formula_text frame_literal literal_text origin_lines problem_line start_origins symbol_name_at
 written_formula = (
   record {
     frames = omega arith;

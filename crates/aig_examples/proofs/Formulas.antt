@@ -54,13 +54,13 @@ no_frames = (refl, refl)
 -- input 2 is bad, within one frame
 text_of_input : cnf_text bad_input (Runs (within 1 0)) (formula_of bad_input [] (within 1 0))
     ≡ codes "c aig cnf --frames 1 --property 0 \nc i 2 0 0 \nc b 2 0\np cnf 2 2\n-1 0\n2 0\n"
-unfolding clause_text digits formula_text frame_literal literal_text origin_lines problem_line start_origins symbol_name_at
+unfolding clause_text cone digits formula_text frame_literal literal_text origin_lines problem_line start_origins symbol_name_at
 text_of_input = refl
 
 -- the latch `2 3 0` is bad, step of one frame
 text_of_step : cnf_text (subject goals.Step bad_latch) (Runs (step 1 0)) (formula_of bad_latch [] (step 1 0))
     ≡ codes "c aig cnf --step --frames 1 --property 0 \nc l 2 0 \nc b 2 0\nc b -2 1\np cnf 2 3\n-1 0\n-2 0\n-2 0\n"
-unfolding clause_text digits formula_text frame_literal latch_literal literal_text origin_lines problem_line start_origins symbol_name_at
+unfolding clause_text cone digits formula_text frame_literal latch_literal literal_text origin_lines problem_line start_origins symbol_name_at
 text_of_step = refl
 
 -- the clause `7 2` is `-4 2 0`
@@ -101,7 +101,7 @@ cone_of_seven = refl
 -- input 2 is bad, one frame: two variables, the literal 2, the clauses `1` and `2`
 formula_of_input : formula_of bad_input [] (within 1 0)
     ≡ record { variables = 2; goals = 2 ∷ []; clauses = (1 ∷ []) ∷ (2 ∷ []) ∷ [] }
-unfolding frame_literal
+unfolding cone frame_literal
 formula_of_input = refl
 
 -- `c aig cnf --step --frames 3 --property 1 full/`, `c aig cnf --alive --frames 20 /`

@@ -39,12 +39,13 @@ use Rattle.aig_unroll.proofs.UnrolledReady.{IsReadyGate, gates_ready, unrolled_r
 use Rattle.aig_unroll.proofs.UnrolledRow.{evens_at, frames_at, place_at}
 use Rattle.aig_refute.proofs.UnrolledWitnesses.{confirms_row}
 use Rattle.aig_refute.specs.UnrolledWitness.{MakesBad}
-use Rattle.aig_cnf.specs.Formula.{formula_of, gate_clauses, goals}
+use Rattle.aig_cnf.specs.Formula.{cone, formula_of, gate_clauses, goals}
 use Rattle.aig_cnf.specs.Query.{within}
 use Rattle.aig_sat.specs.checker.Clause.{is_true, meets, Satisfies}
 use Rattle.aig_refute.specs.Models.{tern_of, values_of, AreKnown, NamesWitness, IsInModel}
 use Rattle.aig_cnf.proofs.SignLemmas.{signs}
-use Rattle.aig_refute.proofs.Tseitin.{both_and, assigned, known, gates_met, meets_gates, one_met, meets_one}
+use Rattle.aig_refute.proofs.ConeValues.{assigned_in, cone_met, goal_read, read_earlier}
+use Rattle.aig_refute.proofs.Tseitin.{both_and, known, gates_met, meets_gates, one_met, meets_one, tern_and, tern_not}
 
 -- ---- the unrolled circuit
 
@@ -126,13 +127,14 @@ low_of a e = go (a 0) e
     go true e = cc
     go false e = refl
 
--- literal 1 is true, a goal is, and the clauses of the gates are met
+-- literal 1 is true, a goal is, and the clauses of the gates in the cone are met
 pub formula_met : (raw : Raw) (order : List ℕ) (k p : ℕ) (a : ℕ → Bool) → Satisfies a (formula_of raw order (within k p)).clauses
     → (meets a (1 ∷ []) ≡ true) × (meets a (goals (unrolled raw order k) (length raw.bad) k p) ≡ true)
-    × Satisfies a (flat_map gate_clauses (unrolled raw order k).gates)
+    × Satisfies a (flat_map gate_clauses (cone (goals (unrolled raw order k) (length raw.bad) k p) (unrolled raw order k).gates))
 formula_met raw order k p a h =
-    let goal = meets a (goals (unrolled raw order k) (length raw.bad) k p) in
-    let gates = list_all (meets a) (flat_map gate_clauses (unrolled raw order k).gates) in
+    let literals = goals (unrolled raw order k) (length raw.bad) k p in
+    let goal = meets a literals in
+    let gates = list_all (meets a) (flat_map gate_clauses (cone literals (unrolled raw order k).gates)) in
     let (first, rest) = and_parts (meets a (1 ∷ [])) (goal && gates) h in
     let (some, each) = and_parts goal gates rest in (first, some, each)
 
@@ -165,6 +167,24 @@ module _ (raw : Raw) (circuit : IsCircuit raw) (order : List ℕ) (canonical : I
       ∙ get_or-map-range_with_len (λ v. tern_of (a v)) 1 (input_count raw k) i (1 + i) X lt refl in
       value_is ∙ ap (λ v. tern_of (a v)) (sym half) ∙ ap tern_of (sym (true_even a l even))
 
+  -- the bad literals have the values that the assignment says, whatever it says of gates outside the cone
+  pub goal_value : (p : ℕ) (a : ℕ → Bool) → meets a (1 ∷ []) ≡ true
+      → Satisfies a (flat_map gate_clauses (cone (goals (unrolled raw order k) (length raw.bad) k p) (unrolled raw order k).gates))
+      → (t : ℕ) (w : Tern) → t < k
+      → Value (unrolled raw order k) [] (values_of raw k a ∷ []) 0 (slice_index (unrolled raw order k).bad (t * length raw.bad + p)) w
+      → w ≡ tern_of (is_true a (slice_index (unrolled raw order k).bad (t * length raw.bad + p)))
+  goal_value p a first met t w lt v =
+      let C = unrolled raw order k in
+      let f : ℕ → ℕ = λ s. slice_index C.bad (s * length raw.bad + p) in
+      let literals = goals C (length raw.bad) k p in
+      let low = low_of a first in
+      let (j, stands) = frames_at (λ s. f s ∷ []) k t 0 (f t) lt refl in
+      assigned_in C (values_of raw k a) refl (read_earlier raw circuit order canonical k) literals (λ l. tern_of (is_true a l))
+      (ap tern_of low) (ap (λ b. tern_of (not b)) low) (λ i l u. inputs_are a i l u)
+      (λ l odd. ap tern_of (true_below a l odd) ∙ tern_not (is_true a (l - 1)))
+      (λ q g at. ap tern_of (gates_met a (cone literals C.gates) met q g at) ∙ tern_and (is_true a g.rhs0) (is_true a g.rhs1)) v
+      (goal_read literals (cone literals C.gates) j (f t) stands)
+
   pub reaches : (p : ℕ) (a : ℕ → Bool) → p < length raw.bad → Satisfies a (formula_of raw order (within k p)).clauses
       → (t : ℕ) × (t < k) × MakesBad raw order k (values_of raw k a) t p
   reaches p a property h =
@@ -174,9 +194,7 @@ module _ (raw : Raw) (circuit : IsCircuit raw) (order : List ℕ) (canonical : I
       let g = slice_index (unrolled raw order k).bad (t * length raw.bad + p) in
       let (w, v) = valued raw circuit order canonical k (values_of raw k a) (wide_values a) g
       (bad_in_range raw circuit order canonical k t p lt property) in
-      let one : w ≡ One =
-      assigned (unrolled raw order k) (values_of raw k a) refl a (low_of a first) (λ i l w. inputs_are a i l w)
-      (gates_met a (unrolled raw order k).gates gates) v ∙ ap tern_of (ap (is_true a) (sym is) ∙ true_l) in (
+      let one : w ≡ One = goal_value p a first gates t w lt v ∙ ap tern_of (ap (is_true a) (sym is) ∙ true_l) in (
         t,
         lt,
         (
@@ -258,15 +276,6 @@ module _ (raw : Raw) (circuit : IsCircuit raw) (order : List ℕ) (canonical : I
         one_or : (l : ℕ) → l % 2 ≡ 1 → (l ≡ 1) ⊎ (1 < l)
         one_or l odd = grind (arith, odd)
 
-    tern_and : (x y : Bool) → kleene_and (tern_of x) (tern_of y) ≡ tern_of (x && y)
-    tern_and true true = refl
-    tern_and true false = refl
-    tern_and false y = refl
-
-    not_tern : (b : Bool) → kleene_not (tern_of b) ≡ tern_of (not b)
-    not_tern true = refl
-    not_tern false = refl
-
     each_is : (l : ℕ) (w : Tern) → variable l ≤ (unrolled raw order k).max_var → Has l w → w ≡ tern_of (is_true values l)
     each_is l w le h = elim (signs l) [
       | inl even ↦ even_is l w even le h
@@ -276,7 +285,7 @@ module _ (raw : Raw) (circuit : IsCircuit raw) (order : List ℕ) (canonical : I
           let (u, here) = value_in (l - 1) half in
           let e : w ≡ kleene_not u = same l h (under l odd u here) in
           let f : u ≡ tern_of (is_true values (l - 1)) = even_is (l - 1) u even half here in
-          e ∙ ap kleene_not f ∙ not_tern (is_true values (l - 1)) ∙ ap tern_of (sym (true_below values l odd))
+          e ∙ ap kleene_not f ∙ sym (tern_not (is_true values (l - 1))) ∙ ap tern_of (sym (true_below values l odd))
     ]
 
     gate_is : (q : ℕ) (g : Gate) → slice_get (unrolled raw order k).gates q ≡ Some g
@@ -295,7 +304,7 @@ module _ (raw : Raw) (circuit : IsCircuit raw) (order : List ℕ) (canonical : I
         let f : b ≡ tern_of (is_true values g.rhs0) = each_is g.rhs0 b low0 vb in
         let d : c ≡ tern_of (is_true values g.rhs1) = each_is g.rhs1 c low1 vc in
         tern_same (is_true values g.lhs) (is_true values g.rhs0 && is_true values g.rhs1)
-        (sym e ∙ ap₂ kleene_and f d ∙ tern_and (is_true values g.rhs0) (is_true values g.rhs1))
+        (sym e ∙ ap₂ kleene_and f d ∙ sym (tern_and (is_true values g.rhs0) (is_true values g.rhs1)))
 
     row_is : values_of raw k values ≡ row
     unfolding values
@@ -325,6 +334,7 @@ module _ (raw : Raw) (circuit : IsCircuit raw) (order : List ℕ) (canonical : I
           values,
           both_and (meets_one values (1 ∷ []) 0 1 refl low)
               (both_and (meets_one values (goals (unrolled raw order k) (length raw.bad) k p) j (f t) stands true_goal)
-              (meets_gates values (unrolled raw order k).gates gate_is)),
+              (cone_met values (goals (unrolled raw order k) (length raw.bad) k p) (unrolled raw order k).gates
+              (meets_gates values (unrolled raw order k).gates gate_is))),
           row_is,
         )

@@ -1,6 +1,6 @@
 -- Some assignment satisfies the formula of an induction where a run disproves the induction: one from a start that the
 -- resets allow reaches the property within the frames, or one breaks the step.
-use Rattle.std.proofs.Common.{◌≡◌, ◌⊎◌, inl, inr, ℕ, zero, suc, ◌+◌, ◌-◌, ◌*◌, ◌%◌, ◌<◌, Bool, true, false, not}
+use Rattle.std.proofs.Common.{◌≡◌, ◌⊎◌, inl, inr, ℕ, suc, ◌+◌, ◌-◌, ◌*◌, ◌%◌, ◌<◌, Bool, true, false, not}
 use Rattle.std.proofs.Common.{if◌then◌else◌, List, [], ◌∷◌, ◌++◌, length, map, flat_map}
 use Rattle.std.proofs.Common.{Some, slice_get, slice_index, option_map, All, refl, sym, ◌∙◌, ap, subst, arith, add-one}
 use Rattle.std.specs.List.{list_all}
@@ -15,7 +15,6 @@ use Rattle.std.proofs.lemmas.Bool.{and_parts}
 use Rattle.aig_cnf.proofs.AddedLemmas.{satisfies_parts}
 use Rattle.aig_sat.proofs.checking.TruthLemmas.{true_even, true_odd, true_negation}
 use Rattle.aig_parts.specs.Literal.{negation, variable}
-use Rattle.aig_parts.specs.declared.gate.Gate.{Gate}
 use Rattle.aig_parts.specs.declared.latch.Latch.{Latch}
 use Rattle.aig_parts.specs.declared.raw.Raw.{Raw}
 use Rattle.aig_parts.specs.declared.ternary.Tern.{Tern}
@@ -26,7 +25,7 @@ use Rattle.aig_base.specs.Runs.{Allows, ReachesProperty}
 use Rattle.aig_base.specs.Sound.{IsReset}
 use Rattle.aig_base.specs.Value.{reset_value}
 use Rattle.aig_base.proofs.lists.Positions.{slice_get_right}
-use Rattle.aig_cnf.specs.Formula.{all_but_last, cone, first_reached, formula_of, gate_clauses, goals, implies, reads}
+use Rattle.aig_cnf.specs.Formula.{all_but_last, cone, first_reached, formula_of, gate_clauses, goals, implies}
 use Rattle.aig_cnf.specs.Formula.{reset_literal, reset_literals, start_literals}
 use Rattle.aig_cnf.specs.Query.{from_any_state, induction, uninitialised_latch}
 use Rattle.aig_cnf.proofs.AnyCircuit.{from_any_circuit}
@@ -44,7 +43,7 @@ use Rattle.aig_refute.proofs.FirstReached.{at_reached, satisfies_both}
 use Rattle.aig_refute.proofs.RowValues.{Allowed}
 use Rattle.aig_refute.proofs.SettledRows.{length_settled, makes_settled, settled, settled_known}
 use Rattle.aig_refute.proofs.StepFormula.{each_named}
-use Rattle.aig_refute.proofs.Tseitin.{both_and, gates_met, meets_gates, meets_one}
+use Rattle.aig_refute.proofs.Tseitin.{both_and, meets_one}
 use Rattle.aig_refute.proofs.UnrolledRows.{row_in, row_known, row_of_run, row_wide, run_in}
 use Rattle.aig_refute.proofs.UnrolledWitnesses.{in_row, made_bad_in}
 use Rattle.aig_refute.proofs.WithinFormula.{confirmed_at}
@@ -74,28 +73,6 @@ each_implied a ms (l ∷ ls) each =
     subst (λ (cs : List (List ℕ)). Satisfies a cs) (sym (flat_map-cons (implies ms) l ls))
     (satisfies_both a (implies ms l) (flat_map (implies ms) ls) (each 0 l refl)
     (each_implied a ms ls (λ i m at. each (suc i) m at)))
-
--- ---- the gates of the cone
-
-in_cone : (ls : List ℕ) (gates : List Gate) (q : ℕ) (g : Gate) → slice_get (cone ls gates) q ≡ Some g
-    → (j : ℕ) × (slice_get gates j ≡ Some g)
-unfolding cone
-in_cone ls [] q g at = cc
-in_cone ls (x ∷ gates) q g at =
-    go (reads ls (cone ls gates) (variable x.lhs)) q at (λ r here. in_cone ls gates r g here)
-  where
-    go : (b : Bool) (q : ℕ) → slice_get (if b then x ∷ cone ls gates else cone ls gates) q ≡ Some g
-        → ((r : ℕ) → slice_get (cone ls gates) r ≡ Some g → (j : ℕ) × (slice_get gates j ≡ Some g))
-        → (j : ℕ) × (slice_get (x ∷ gates) j ≡ Some g)
-    go true zero at later = (0, at)
-    go true (suc q) at later = let (j, here) = later q at in (suc j, here)
-    go false q at later = let (j, here) = later q at in (suc j, here)
-
--- its clauses are some of those of all gates
-cone_met : (a : ℕ → Bool) (ls : List ℕ) (gates : List Gate) → Satisfies a (flat_map gate_clauses gates)
-    → Satisfies a (flat_map gate_clauses (cone ls gates))
-cone_met a ls gates h =
-    meets_gates a (cone ls gates) (λ q g at. let (j, here) = in_cone ls gates q g at in gates_met a gates h j g here)
 
 -- ---- latches that start as their resets say
 
@@ -212,12 +189,12 @@ module _ (raw : Raw) (circuit : IsCircuit raw) (order : List ℕ) (canonical : I
       subst (λ (m : ℕ). Satisfies a (implies starts m)) (sym is) (each t lt)))
 
   satisfied : (a : ℕ → Bool) → meets a (1 ∷ []) ≡ true → meets a reached ≡ true
-      → ((t : ℕ) → t < k → Satisfies a (implies starts (literal_at t))) → Satisfies a (flat_map gate_clauses all.gates)
-      → Satisfies a clauses
+      → ((t : ℕ) → t < k → Satisfies a (implies starts (literal_at t)))
+      → Satisfies a (flat_map gate_clauses (cone reached all.gates)) → Satisfies a clauses
   satisfied a low some each gates =
       both_and low (both_and some
       (satisfies_both a (flat_map (implies starts) (all_but_last reached)) (flat_map gate_clauses (cone reached all.gates))
-      (earlier a each) (cone_met a reached all.gates gates)))
+      (earlier a each) gates))
 
   -- ---- a run that breaks the step
 
@@ -225,9 +202,9 @@ module _ (raw : Raw) (circuit : IsCircuit raw) (order : List ℕ) (canonical : I
       → IsNamedInduction raw order k p start rows
   broken_named start rows h =
       let (a, satisfies, start_is, rows_are) = each_named raw circuit order canonical k p start rows h in
-      let (low, rest) = and_parts (meets a (1 ∷ [])) (list_all (meets a) (first_reached reached ++ flat_map gate_clauses all.gates))
+      let (low, rest) = and_parts (meets a (1 ∷ [])) (list_all (meets a) (first_reached reached ++ flat_map gate_clauses (cone reached all.gates)))
       satisfies in
-      let (first, gates) = satisfies_parts a (first_reached reached) (flat_map gate_clauses all.gates) rest in
+      let (first, gates) = satisfies_parts a (first_reached reached) (flat_map gate_clauses (cone reached all.gates)) rest in
       let (quiet, loud) = at_reached a literal_at k first in
       let (j, stands) = frames_at (λ s. literal_at s ∷ []) (k + 1) k 0 (literal_at k) (omega arith) refl in (
         a,

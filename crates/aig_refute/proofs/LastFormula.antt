@@ -5,7 +5,7 @@ use Rattle.std.proofs.Common.{refl, sym, ◌∙◌, ap, subst, arith, length-app
 use Rattle.std.specs.List.{list_all}
 use Rattle.std.proofs.Math.Seq.{drop-append_seam}
 use Rattle.std.proofs.lemmas.List.{length-take-le}
-use Rattle.std.proofs.lemmas.Option.{slice_get-get_or, slice_get_within}
+use Rattle.std.proofs.lemmas.Option.{slice_get-get_or}
 use Rattle.std.proofs.lemmas.Bool.{and_parts}
 use Rattle.aig_parts.specs.declared.raw.Raw.{Raw}
 use Rattle.aig_parts.specs.declared.ternary.Tern.{Tern}
@@ -13,7 +13,7 @@ use Rattle.aig_parts.specs.declared.ternary.Tern.TheVariants.{One}
 use Rattle.aig_base.specs.Circuit.{IsCircuit}
 use Rattle.aig_base.specs.Order.{IsCanonicalOrder}
 use Rattle.aig_base.specs.Value.{Value}
-use Rattle.aig_cnf.specs.Formula.{Cnf, IsFormulaOf, formula_of, gate_clauses, goals, last_alone}
+use Rattle.aig_cnf.specs.Formula.{Cnf, IsFormulaOf, cone, formula_of, gate_clauses, goals, last_alone}
 use Rattle.aig_cnf.specs.Query.{last}
 use Rattle.aig_sat.specs.checker.Clause.{is_true, meets, Satisfies}
 use Rattle.aig_sim.specs.Reached.{witness_at}
@@ -21,10 +21,9 @@ use Rattle.aig_sim.specs.WitnessText.{Witness}
 use Rattle.aig_refute.specs.Models.{tern_of, values_of}
 use Rattle.aig_refute.specs.Satisfiable.{IsReachedAt, IsSatisfiable}
 use Rattle.aig_refute.specs.UnrolledWitness.{rows_in, start_in, IsConfirmedWithin, MakesBad}
-use Rattle.aig_refute.proofs.BadFormula.{bad_at, bad_in_range, formula_met, in_model, inputs_are, low_of, valued}
-use Rattle.aig_refute.proofs.BadFormula.{wide_values}
+use Rattle.aig_refute.proofs.BadFormula.{bad_at, bad_in_range, formula_met, goal_value, in_model, valued, wide_values}
 use Rattle.aig_refute.proofs.SettledRows.{length_settled, makes_settled, settled, settled_known}
-use Rattle.aig_refute.proofs.Tseitin.{assigned, both_and, gates_met, meets_one}
+use Rattle.aig_refute.proofs.Tseitin.{both_and, meets_one}
 use Rattle.aig_refute.proofs.UnrolledRows.{run_in}
 use Rattle.aig_refute.proofs.UnrolledWitnesses.{in_row, reaches_in_row}
 use Rattle.aig_refute.proofs.WithinFormula.{confirmed_at}
@@ -86,10 +85,11 @@ module _ (raw : Raw) (circuit : IsCircuit raw) (order : List ℕ) (canonical : I
     row : List Tern
     row = values_of raw k a
 
-    met : (meets a (1 ∷ []) ≡ true) × (meets a (last_alone literals) ≡ true) × Satisfies a (flat_map gate_clauses all.gates)
+    met : (meets a (1 ∷ []) ≡ true) × (meets a (last_alone literals) ≡ true)
+        × Satisfies a (flat_map gate_clauses (cone literals all.gates))
     met =
         let goal = meets a (last_alone literals) in
-        let gates = list_all (meets a) (flat_map gate_clauses all.gates) in
+        let gates = list_all (meets a) (flat_map gate_clauses (cone literals all.gates)) in
         let (low, rest) = and_parts (meets a (1 ∷ [])) (goal && gates) h in
         let (one, each) = and_parts goal gates rest in (low, one, each)
 
@@ -102,8 +102,7 @@ module _ (raw : Raw) (circuit : IsCircuit raw) (order : List ℕ) (canonical : I
         let (w, v) = valued raw circuit order canonical k (values_of raw k a) (wide_values raw circuit order canonical k a)
         (literal_at (k - 1)) (bad_in_range raw circuit order canonical k (k - 1) p below property) in
         let one : w ≡ One =
-        assigned all (values_of raw k a) refl a (low_of a met.0) (λ i l u. inputs_are raw circuit order canonical k a i l u)
-        (gates_met a all.gates met.2) v ∙ ap tern_of goal in (
+        goal_value raw circuit order canonical k p a met.0 met.2 (k - 1) w below v ∙ ap tern_of goal in (
           literal_at (k - 1),
           bad_at raw circuit order canonical k (k - 1) p below property,
           subst (λ (u : Tern). Value all [] (values_of raw k a ∷ []) 0 (literal_at (k - 1)) u) one v,
@@ -142,12 +141,12 @@ module _ (raw : Raw) (circuit : IsCircuit raw) (order : List ℕ) (canonical : I
       let (g, stands, v) = made_here in
       let g_is : g ≡ literal_at (k - 1) =
       (let e : Some g ≡ Some (literal_at (k - 1)) = sym stands ∙ bad_at raw circuit order canonical k (k - 1) p below property in cc) in
-      let one : One ≡ tern_of (is_true values g) =
-      assigned all (map settled r) refl values (low_of values low)
-      (λ i m u here cell. inputs_are raw circuit order canonical k values i m u here
-      (subst (λ (ws : List Tern). slice_get ws i ≡ Some u) (sym row_is) cell)) (gates_met values all.gates gates) v in
+      let here : Value all [] (values_of raw k values ∷ []) 0 (literal_at (k - 1)) One =
+      subst (λ (ws : List Tern). Value all [] (ws ∷ []) 0 (literal_at (k - 1)) One) (sym row_is)
+      (subst (λ (l : ℕ). Value all [] (map settled r ∷ []) 0 l One) g_is v) in
       let goal_true : is_true values (literal_at (k - 1)) ≡ true =
-      subst (λ (l : ℕ). is_true values l ≡ true) g_is (true_of_one (is_true values g) one) in (
+      true_of_one (is_true values (literal_at (k - 1)))
+      (goal_value raw circuit order canonical k p values low gates (k - 1) One below here) in (
         values,
         both_and low (both_and
             (subst (λ (c : List ℕ). meets values c ≡ true) (sym last_is)

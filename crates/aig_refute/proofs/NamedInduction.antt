@@ -1,33 +1,28 @@
 -- An assignment that satisfies the formula of an induction names a run that disproves the induction.
-use Rattle.std.proofs.Common.{◌≡◌, ◌≢◌, ◌↔◌, ◌⊎◌, inl, inr, ℕ, zero, suc, ◌+◌, ◌-◌, ◌*◌, ◌%◌, ◌<◌, ◌≤◌, Bool, true}
+use Rattle.std.proofs.Common.{◌≡◌, ◌↔◌, ◌⊎◌, inl, inr, ℕ, zero, suc, ◌+◌, ◌-◌, ◌*◌, ◌%◌, ◌<◌, Bool, true}
 use Rattle.std.proofs.Common.{false, not, ◌&&◌, ◌||◌, if◌then◌else◌, List, [], ◌∷◌, ◌++◌, length, flat_map}
-use Rattle.std.proofs.Common.{Some, slice_get, slice_index, get_or, All, refl, sym, ◌∙◌, ap, ap₂, subst, arith}
-use Rattle.std.specs.Prelude.{◌==◌}
-use Rattle.std.specs.List.{list_all, list_any}
-use Rattle.std.proofs.lemmas.Bool.{eq-eqb, eqb-true, ne_eqb, not-true, or_left, or_right, and_parts}
+use Rattle.std.proofs.Common.{Some, slice_get, slice_index, get_or, All, refl, sym, ◌∙◌, ap, subst, arith}
+use Rattle.std.specs.List.{list_all}
+use Rattle.std.proofs.lemmas.Bool.{eqb-true, not-true, and_parts}
 use Rattle.std.proofs.lemmas.List.Concat.{flat_map-cons}
 use Rattle.std.proofs.lemmas.List.Elements.{All-head, All-tail}
-use Rattle.std.proofs.lemmas.List.Folds.{list_all-append, list_any_at}
+use Rattle.std.proofs.lemmas.List.Folds.{list_all-append}
 use Rattle.std.proofs.lemmas.List.FromFn.{get_or-map-range_with_len}
 use Rattle.std.proofs.lemmas.Option.{get_or_from_slice_get, slice_get-get_or, slice_get_within}
 use Rattle.aig_cnf.proofs.AddedLemmas.{satisfies_parts}
-use Rattle.aig_sat.proofs.checking.TruthLemmas.{true_even, true_odd, true_negation, true_below}
+use Rattle.aig_sat.proofs.checking.TruthLemmas.{true_even, true_odd, true_negation}
 use Rattle.aig_parts.specs.Literal.{negation, variable}
 use Rattle.aig_parts.specs.declared.gate.Gate.{Gate}
 use Rattle.aig_parts.specs.declared.latch.Latch.{Latch}
 use Rattle.aig_parts.specs.declared.raw.Raw.{Raw}
 use Rattle.aig_parts.specs.declared.ternary.Tern.{Tern}
 use Rattle.aig_parts.specs.declared.ternary.Tern.TheVariants.{One, X}
-use Rattle.aig_parts.specs.Ternary.{kleene_and, kleene_not}
 use Rattle.aig_base.specs.Circuit.{IsCircuit}
 use Rattle.aig_base.specs.Order.{IsCanonicalOrder}
 use Rattle.aig_base.specs.Runs.{Allows, IsAllowed, ReachesBad, ReachesProperty}
 use Rattle.aig_base.specs.Sound.{IsReset}
-use Rattle.aig_base.specs.Value as value
 use Rattle.aig_base.specs.Value.{Value, reset_value}
-use Rattle.aig_base.proofs.circuits.InOrder.{gate_number}
-use Rattle.aig_base.proofs.lists.Gets.{All-at}
-use Rattle.aig_cnf.specs.Formula.{Cnf, IsFormulaOf, all_but_last, cone, formula_of, gate_clauses, goals, implies, reads}
+use Rattle.aig_cnf.specs.Formula.{Cnf, IsFormulaOf, all_but_last, cone, formula_of, gate_clauses, goals, implies}
 use Rattle.aig_cnf.specs.Formula.{reset_literal, reset_literals, start_literals}
 use Rattle.aig_cnf.specs.Query.{from_any_state, induction}
 use Rattle.aig_cnf.proofs.AnyCircuit.{from_any_circuit}
@@ -37,105 +32,19 @@ use Rattle.aig_refute.specs.Satisfiable.{BreaksStep, DisprovesInduction, HasBrok
 use Rattle.aig_refute.specs.Satisfiable.{step_rows, step_start}
 use Rattle.aig_refute.specs.UnrolledWitness.{rows_in, start_in, IsRun, MakesBad}
 use Rattle.aig_refute.proofs.AnyState.{fits_from_any, reaches_any, reaches_from_any}
-use Rattle.aig_refute.proofs.BadFormula.{bad_at, bad_in_range, goal_frame, inputs_are, low_of, valued, values_known}
+use Rattle.aig_refute.proofs.BadFormula.{bad_at, bad_in_range, goal_frame, goal_value, valued, values_known}
 use Rattle.aig_refute.proofs.BadFormula.{wide_values}
 use Rattle.aig_refute.proofs.DisprovedInduction.{broken_satisfies, goals_before, reached_satisfies, start_at}
-use Rattle.aig_refute.proofs.Tseitin.{gates_met, none_of, one_met, only_row, tern_and, tern_not}
+use Rattle.aig_refute.proofs.Tseitin.{one_met}
 use Rattle.aig_refute.proofs.UnrolledRows.{known_in, run_in}
 use Rattle.aig_refute.proofs.UnrolledWitnesses.{reaches_in_row}
 use Rattle.aig_unroll.specs.FrameLiteral.{input_count, is_uninitialised}
 use Rattle.aig_unroll.specs.Unrolled.{frames, unrolled}
-use Rattle.aig_unroll.proofs.UnrolledReady.{unrolled_ready}
 use Rattle.aig_unroll.proofs.UnrolledRow.{frames_at}
 
 true_false : (b : Bool) → b ≡ true → b ≡ false → ⊥
 true_false true e f = cc
 true_false false e f = cc
-
--- ---- the gates of the cone
-
--- no gate reads one behind it, or itself
-abbrev ReadEarlier : List Gate → Type 0
-ReadEarlier gates = (q r : ℕ) (f g : Gate) → q < r → slice_get gates q ≡ Some f → slice_get gates r ≡ Some g
-    → (variable f.rhs0 ≢ variable g.lhs) × (variable f.rhs1 ≢ variable g.lhs)
-
--- a gate that does not read the variable adds nothing
-not_by_first : (ls : List ℕ) (x : Gate) (gates : List Gate) (v : ℕ) → variable x.rhs0 ≢ v → variable x.rhs1 ≢ v
-    → reads ls (x ∷ gates) v ≡ true → reads ls gates v ≡ true
-not_by_first ls x gates v n0 n1 e =
-    let e0 = ne_eqb (variable x.rhs0) v n0 in
-    let e1 = ne_eqb (variable x.rhs1) v n1 in
-    let others : Bool = list_any (λ g. variable g.rhs0 == v || variable g.rhs1 == v) gates in
-    let first : Bool = list_any (λ l. variable l == v) ls in
-    sym (ap₂ (λ b d. first || ((b || d) || others)) e0 e1) ∙ e
-
--- a gate that is read is in the cone
-read_is_kept : (ls : List ℕ) (gates : List Gate) → ReadEarlier gates → (q : ℕ) (g : Gate) → slice_get gates q ≡ Some g
-    → reads ls (cone ls gates) (variable g.lhs) ≡ true → (j : ℕ) × (slice_get (cone ls gates) j ≡ Some g)
-unfolding cone
-read_is_kept ls [] ordered q g at needed = cc
-read_is_kept ls (x ∷ gates) ordered q g at needed =
-    go (reads ls (cone ls gates) (variable x.lhs)) refl q at (λ r here. ordered zero (suc r) x g (omega arith) refl here) needed
-    (λ r here. read_is_kept ls gates (λ i j f h lt. ordered (suc i) (suc j) f h (omega (arith, lt))) r g here)
-  where
-    go : (b : Bool) → reads ls (cone ls gates) (variable x.lhs) ≡ b → (q : ℕ) → slice_get (x ∷ gates) q ≡ Some g
-        → ((r : ℕ) → slice_get gates r ≡ Some g → (variable x.rhs0 ≢ variable g.lhs) × (variable x.rhs1 ≢ variable g.lhs))
-        → reads ls (if b then x ∷ cone ls gates else cone ls gates) (variable g.lhs) ≡ true
-        → ((r : ℕ) → slice_get gates r ≡ Some g → reads ls (cone ls gates) (variable g.lhs) ≡ true
-        → (j : ℕ) × (slice_get (cone ls gates) j ≡ Some g))
-        → (j : ℕ) × (slice_get (if b then x ∷ cone ls gates else cone ls gates) j ≡ Some g)
-    go true e zero at apart needed later = (zero, at)
-    go true e (suc r) at apart needed later =
-        let (n0, n1) = apart r at in
-        let (j, here) = later r at (not_by_first ls x (cone ls gates) (variable g.lhs) n0 n1 needed) in (suc j, here)
-    go false e zero at apart needed later =
-        let same : x ≡ g = (let f : Some x ≡ Some g = at in cc) in
-        absurd (true_false (reads ls (cone ls gates) (variable x.lhs))
-        (subst (λ (h : Gate). reads ls (cone ls gates) (variable h.lhs) ≡ true) (sym same) needed) e)
-    go false e (suc r) at apart needed later = later r at needed
-
--- what a gate of the cone reads is read
-side_read : (ls : List ℕ) (gates : List Gate) (j : ℕ) (g : Gate) (v : ℕ) → slice_get gates j ≡ Some g
-    → (variable g.rhs0 == v || variable g.rhs1 == v) ≡ true → reads ls gates v ≡ true
-side_read ls gates j g v at e =
-    let p : Gate → Bool = λ f. variable f.rhs0 == v || variable f.rhs1 == v in
-    or_right (list_any (λ l. variable l == v) ls) (list_any p gates)
-    (list_any_at p gates j g (slice_get_within gates j g at) (ap p (get_or_from_slice_get gates j g g at) ∙ e))
-
-goal_read : (ls : List ℕ) (gates : List Gate) (i l : ℕ) → slice_get ls i ≡ Some l → reads ls gates (variable l) ≡ true
-goal_read ls gates i l at =
-    let v = variable l in
-    or_left (list_any (λ m. variable m == v) ls) (list_any (λ g. variable g.rhs0 == v || variable g.rhs1 == v) gates)
-    (list_any_at (λ m. variable m == v) ls i l (slice_get_within ls i l at)
-    (ap (λ m. variable m == v) (get_or_from_slice_get ls i l l at) ∙ eq-eqb v v refl))
-
--- where each gate of the cone is an AND, each literal that is read has the value that the assignment says
-module _ (raw : Raw) (row : List Tern) (no_latches : raw.latches ≡ []) (ordered : ReadEarlier raw.gates) (ls : List ℕ) where
-  abbrev kept : List Gate
-  kept = cone ls raw.gates
-
-  assigned_in : (a : ℕ → Bool) → a 0 ≡ false
-      → ((p l : ℕ) (w : Tern) → slice_get raw.inputs p ≡ Some l → slice_get row p ≡ Some w → w ≡ tern_of (is_true a l))
-      → Satisfies a (flat_map gate_clauses kept)
-      → {t l : ℕ} {w : Tern} → Value raw [] (row ∷ []) t l w → reads ls kept (variable l) ≡ true → w ≡ tern_of (is_true a l)
-  assigned_in a low inputs met (value.constant_false t) read = ap tern_of (sym low)
-  assigned_in a low inputs met (value.constant_true t) read = ap (λ b. tern_of (not b)) (sym low)
-  assigned_in a low inputs met (value.input t p l w r at is cell) read =
-      inputs p l w at (subst (λ (r : List Tern). slice_get r p ≡ Some w) (sym (only_row raw row no_latches t r is)) cell)
-  assigned_in a low inputs met (value.latch_first p x w at is) read = absurd (none_of raw.latches p x no_latches at)
-  assigned_in a low inputs met (value.latch_next t p x w at v) read = absurd (none_of raw.latches p x no_latches at)
-  assigned_in a low inputs met (value.gate t q g b c at vb vc) read =
-      let (j, here) = read_is_kept ls raw.gates ordered q g at read in
-      let first = side_read ls kept j g (variable g.rhs0) here
-      (or_left (variable g.rhs0 == variable g.rhs0) (variable g.rhs1 == variable g.rhs0) (eq-eqb (variable g.rhs0) (variable g.rhs0) refl)) in
-      let second = side_read ls kept j g (variable g.rhs1) here
-      (or_right (variable g.rhs0 == variable g.rhs1) (variable g.rhs1 == variable g.rhs1) (eq-eqb (variable g.rhs1) (variable g.rhs1) refl)) in
-      ap₂ kleene_and (assigned_in a low inputs met vb first) (assigned_in a low inputs met vc second)
-      ∙ sym (tern_and (is_true a g.rhs0) (is_true a g.rhs1)) ∙ ap tern_of (sym (gates_met a kept met j g here))
-  assigned_in a low inputs met (value.negated t l w over neg v) read =
-      let same : variable l ≡ variable (l - 1) = grind (arith, neg, over) in
-      ap kleene_not (assigned_in a low inputs met v (subst (λ u. reads ls kept u ≡ true) same read))
-      ∙ sym (tern_not (is_true a (l - 1))) ∙ ap tern_of (sym (true_below a l neg))
 
 -- ---- what a true literal implies
 
@@ -242,24 +151,6 @@ some_true f (suc k) = go (f k) refl (some_true f k)
     go true e (inr none) = inl (k, omega arith, e)
     go false e (inr none) = inr (λ t lt. none_more f k none e t (below_or t lt))
 
--- ---- the gates of an unrolled circuit
-
-module _ (raw : Raw) (circuit : IsCircuit raw) (order : List ℕ) (canonical : IsCanonicalOrder raw order) (k : ℕ) where
-  read_earlier : ReadEarlier (unrolled raw order k).gates
-  read_earlier q r f g lt at_q at_r =
-      let all = unrolled raw order k in
-      let ready = unrolled_ready raw circuit order canonical k in
-      let number_q = gate_number all ready.in_order q f at_q in
-      let number_r = gate_number all ready.in_order r g at_r in
-      let down = All-at (λ (h : Gate). (h.rhs0 < h.lhs) × (h.rhs1 ≤ h.rhs0)) all.gates q f ready.gates at_q in (
-        λ e. no_later (variable f.lhs) (variable g.lhs) f.lhs f.rhs0 refl (omega (arith, number_q, number_r, lt)) down.0 e,
-        λ e. no_later (variable f.lhs) (variable g.lhs) f.lhs f.rhs1 refl (omega (arith, number_q, number_r, lt))
-            (omega (arith, down.0, down.1)) e,
-      )
-    where
-      no_later : (m n l s : ℕ) → m ≡ variable l → m < n → s < l → variable s ≡ n → ⊥
-      no_later m n l s e lt below is = absurd (omega (arith, e, lt, below, is))
-
 -- ---- the run that an assignment names
 
 module _ (raw : Raw) (circuit : IsCircuit raw) (order : List ℕ) (canonical : IsCanonicalOrder (from_any_state raw) order)
@@ -313,16 +204,9 @@ module _ (raw : Raw) (circuit : IsCircuit raw) (order : List ℕ) (canonical : I
   literal_is : (t : ℕ) → t < k + 1 → slice_get all.bad (t * length raw.bad + p) ≡ Some (literal_at t)
   literal_is t below = bad_at free any order canonical (k + 1) t p below property
 
-  is_goal : (t : ℕ) → t < k + 1 → (j : ℕ) × (slice_get reached j ≡ Some (literal_at t))
-  is_goal t below = frames_at (λ s. literal_at s ∷ []) (k + 1) t 0 (literal_at t) below refl
-
   -- the bad literals have the values that the assignment says
   assigns : (t : ℕ) → t < k + 1 → (w : Tern) → Value all [] (row ∷ []) 0 (literal_at t) w → w ≡ tern_of (is_true a (literal_at t))
-  assigns t below w v =
-      let (j, stands) = is_goal t below in
-      assigned_in all row refl (read_earlier free any order canonical (k + 1)) reached a (low_of a met.0)
-      (λ i m u. inputs_are free any order canonical (k + 1) a i m u) met.3 v
-      (goal_read reached kept_gates j (literal_at t) stands)
+  assigns t below w v = goal_value free any order canonical (k + 1) p a met.0 met.3 t w below v
 
   true_there : (t : ℕ) → t < k + 1 → MakesBad free order (k + 1) row t p → is_true a (literal_at t) ≡ true
   true_there t below (g, stands, v) =

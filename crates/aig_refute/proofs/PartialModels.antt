@@ -1,7 +1,7 @@
 -- Values of variables, unknown ones included, that make a literal of each clause 1.
 use Rattle.std.proofs.Common.{◌≡◌, inl, inr, ℕ, zero, suc, ◌+◌, ◌-◌, ◌*◌, ◌%◌, ◌<◌, Bool, true, false, not, ◌&&◌, ◌||◌}
 use Rattle.std.proofs.Common.{List, [], ◌∷◌, length, drop, flat_map, Some, slice_get, slice_index}
-use Rattle.std.proofs.Common.{refl, sym, ◌∙◌, ap, ap₂, subst, arith, length-drop}
+use Rattle.std.proofs.Common.{refl, sym, ◌∙◌, ap, subst, arith, length-drop}
 use Rattle.std.specs.List.{list_all}
 use Rattle.std.proofs.lemmas.List.{get_or-drop, get_or-take, length-take-le}
 use Rattle.std.proofs.lemmas.List.Concat.{flat_map-cons}
@@ -18,16 +18,16 @@ use Rattle.aig_parts.specs.declared.ternary.Tern.TheVariants.{Zero, One, X}
 use Rattle.aig_base.specs.Circuit.{IsCircuit}
 use Rattle.aig_base.specs.Order.{IsCanonicalOrder}
 use Rattle.aig_base.specs.Renumbered.{evens}
-use Rattle.aig_base.specs.Value as value
 use Rattle.aig_base.specs.Value.{Value}
 use Rattle.aig_base.proofs.lists.Evens.{length-evens_from}
-use Rattle.aig_cnf.specs.Formula.{formula_of, gate_clauses, goals}
+use Rattle.aig_cnf.specs.Formula.{cone, formula_of, gate_clauses, goals, reads}
 use Rattle.aig_cnf.specs.Query.{within}
 use Rattle.aig_sat.specs.checker.Clause.{is_true, meets, Satisfies}
 use Rattle.aig_cnf.proofs.SignLemmas.{signs}
 use Rattle.aig_refute.proofs.BadFormula.{bad_at, bad_in_range, goal_frame, names_witness, valued}
 use Rattle.aig_refute.proofs.RowValues.{length-cut}
-use Rattle.aig_refute.proofs.Tseitin.{both_and, none_of}
+use Rattle.aig_refute.proofs.ConeValues.{assigned_in, goal_read, read_earlier}
+use Rattle.aig_refute.proofs.Tseitin.{both_and}
 use Rattle.aig_refute.proofs.UnrolledWitnesses.{confirms_row}
 use Rattle.aig_refute.specs.Models.{tern_of, values_of}
 use Rattle.aig_refute.specs.PartialModels.{is_one, value_in, literal_in, has_one, SatisfiesInPart, IsFilling, inputs_in}
@@ -154,29 +154,6 @@ low_of a e = go (value_in a 0) e
     go One e = cc
     go X e = cc
 
--- ---- values
-
-module _ (raw : Raw) (row : List Tern) (no_latches : raw.latches ≡ []) where
-  only_row : (t : ℕ) (r : List Tern) → slice_get (row ∷ []) t ≡ Some r → row ≡ r
-  only_row zero r e = cc
-  only_row (suc t) r e = cc
-
-  -- where each gate is an AND and the inputs are those of the row, each literal has the value that the values say
-  assigned : (a : List Tern) → value_in a 0 ≡ Zero
-      → ((p l : ℕ) (w : Tern) → slice_get raw.inputs p ≡ Some l → slice_get row p ≡ Some w → w ≡ literal_in a l)
-      → ((q : ℕ) (g : Gate) → slice_get raw.gates q ≡ Some g → IsAnd a g)
-      → {t l : ℕ} {w : Tern} → Value raw [] (row ∷ []) t l w → w ≡ literal_in a l
-  assigned a low inputs gates (value.constant_false t) = sym low
-  assigned a low inputs gates (value.constant_true t) = ap kleene_not (sym low)
-  assigned a low inputs gates (value.input t p l w r at is cell) =
-      inputs p l w at (subst (λ (r : List Tern). slice_get r p ≡ Some w) (sym (only_row t r is)) cell)
-  assigned a low inputs gates (value.latch_first p x w at is) = absurd (none_of raw.latches p x no_latches at)
-  assigned a low inputs gates (value.latch_next t p x w at v) = absurd (none_of raw.latches p x no_latches at)
-  assigned a low inputs gates (value.gate t q g b c at vb vc) =
-      ap₂ kleene_and (assigned a low inputs gates vb) (assigned a low inputs gates vc) ∙ sym (gates q g at)
-  assigned a low inputs gates (value.negated t l w over neg v) =
-      ap kleene_not (assigned a low inputs gates v) ∙ sym (value_below a l neg)
-
 -- ---- from the values to a run
 
 -- a witness in a row
@@ -220,18 +197,20 @@ module _ (raw : Raw) (circuit : IsCircuit raw) (order : List ℕ) (canonical : I
   reaches : (p : ℕ) → p < length raw.bad → SatisfiesInPart a (formula_of raw order (within k p)).clauses
       → (t : ℕ) × (t < k) × MakesBad raw order k (inputs_in raw k a) t p
   reaches p property h =
-      let (first, rest) = and_parts (has_one a (1 ∷ []))
-      (has_one a (goals (unrolled raw order k) (length raw.bad) k p) && list_all (has_one a) (flat_map gate_clauses (unrolled raw order k).gates)) h in
-      let (goal, gates) = and_parts (has_one a (goals (unrolled raw order k) (length raw.bad) k p))
-      (list_all (has_one a) (flat_map gate_clauses (unrolled raw order k).gates)) rest in
-      let (i, l, at, one_l) = one_met a (goals (unrolled raw order k) (length raw.bad) k p) goal in
+      let literals = goals (unrolled raw order k) (length raw.bad) k p in
+      let kept = cone literals (unrolled raw order k).gates in
+      let (first, rest) = and_parts (has_one a (1 ∷ [])) (has_one a literals && list_all (has_one a) (flat_map gate_clauses kept)) h in
+      let (goal, gates) = and_parts (has_one a literals) (list_all (has_one a) (flat_map gate_clauses kept)) rest in
+      let low = low_of a first in
+      let (i, l, at, one_l) = one_met a literals goal in
       let (t, lt, is) = goal_frame (λ t. slice_index (unrolled raw order k).bad (t * length raw.bad + p)) k i l at in
       let g = slice_index (unrolled raw order k).bad (t * length raw.bad + p) in
       let (w, v) = valued raw circuit order canonical k (inputs_in raw k a) wide g
       (bad_in_range raw circuit order canonical k t p lt property) in
       let one : w ≡ One =
-      assigned (unrolled raw order k) (inputs_in raw k a) refl a (low_of a first) (λ i l w. inputs_are i l w)
-      (gates_met a (unrolled raw order k).gates gates) v ∙ ap (literal_in a) (sym is) ∙ one_l in (
+      assigned_in (unrolled raw order k) (inputs_in raw k a) refl (read_earlier raw circuit order canonical k) literals (literal_in a)
+      low (ap kleene_not low) (λ j m u. inputs_are j m u) (λ m odd. value_below a m odd) (gates_met a kept gates) v
+      (subst (λ m. reads literals kept (variable m) ≡ true) is (goal_read literals kept i l at)) ∙ ap (literal_in a) (sym is) ∙ one_l in (
         t,
         lt,
         (

@@ -14,7 +14,7 @@ use Rattle.aig_base.specs.Circuit.{IsCircuit}
 use Rattle.aig_base.specs.Order.{IsCanonicalOrder}
 use Rattle.aig_base.specs.Runs.{ReachesBad}
 use Rattle.aig_base.specs.Value.{Value}
-use Rattle.aig_cnf.specs.Formula.{Cnf, IsFormulaOf, first_reached, formula_of, gate_clauses, goals}
+use Rattle.aig_cnf.specs.Formula.{Cnf, IsFormulaOf, cone, first_reached, formula_of, gate_clauses, goals}
 use Rattle.aig_cnf.specs.Query.{from_any_state, step}
 use Rattle.aig_sat.specs.checker.Clause.{is_true, meets, Satisfies}
 use Rattle.aig_refute.specs.Models.{AreKnown, tern_of, values_of}
@@ -23,10 +23,10 @@ use Rattle.aig_refute.specs.Satisfiable.{step_start}
 use Rattle.aig_refute.specs.UnrolledWitness.{rows_in, start_in, IsRun, MakesBad}
 use Rattle.aig_cnf.proofs.AnyCircuit.{from_any_circuit}
 use Rattle.aig_refute.proofs.AnyState.{any_allowed, any_fits, fits_from_any, reaches_any, reaches_from_any}
-use Rattle.aig_refute.proofs.BadFormula.{bad_at, bad_in_range, formula_met, in_model, inputs_are, low_of, valued}
-use Rattle.aig_refute.proofs.BadFormula.{values_known, wide_values}
+use Rattle.aig_refute.proofs.BadFormula.{bad_at, bad_in_range, formula_met, goal_value, in_model, valued, values_known}
+use Rattle.aig_refute.proofs.BadFormula.{wide_values}
 use Rattle.aig_refute.proofs.FirstReached.{at_reached, reached_at, satisfies_both}
-use Rattle.aig_refute.proofs.Tseitin.{assigned, both_and, gates_met}
+use Rattle.aig_refute.proofs.Tseitin.{both_and}
 use Rattle.aig_refute.proofs.UnrolledRows.{known_in, row_known, row_of_run, row_wide, run_in}
 use Rattle.aig_refute.proofs.UnrolledWitnesses.{made_bad_in, reaches_in_row}
 use Rattle.aig_unroll.specs.FrameLiteral.{input_count}
@@ -60,16 +60,16 @@ module _ (raw : Raw) (circuit : IsCircuit raw) (order : List ℕ) (canonical : I
   unfolding literal_at
   literal_is t below = bad_at free any order canonical (k + 1) t p below property
 
-  -- ---- an assignment that gives each literal the value that a row gives it
+  -- ---- an assignment that gives each bad literal the value that a row gives it
 
   module _ (row : List Tern) (wide : length row ≡ input_count free (k + 1)) (a : ℕ → Bool)
-      (is : (l : ℕ) (w : Tern) → Value all [] (row ∷ []) 0 l w → w ≡ tern_of (is_true a l)) where
+      (is : (t : ℕ) (w : Tern) → t < k + 1 → Value all [] (row ∷ []) 0 (literal_at t) w → w ≡ tern_of (is_true a (literal_at t))) where
     -- it makes the bad literal of a frame true exactly where the row makes it 1
     true_there : (t : ℕ) → t < k + 1 → MakesBad free order (k + 1) row t p → is_true a (literal_at t) ≡ true
     true_there t below (g, stands, v) =
         let same : g ≡ literal_at t = (let e : Some g ≡ Some (literal_at t) = sym stands ∙ literal_is t below in cc) in
         true_of_one (is_true a (literal_at t))
-        (is (literal_at t) One (subst (λ (l : ℕ). Value all [] (row ∷ []) 0 l One) same v))
+        (is t One below (subst (λ (l : ℕ). Value all [] (row ∷ []) 0 l One) same v))
 
     value_there : (t : ℕ) → t < k + 1 → (w : Tern) × Value all [] (row ∷ []) 0 (literal_at t) w
     unfolding literal_at
@@ -81,7 +81,7 @@ module _ (raw : Raw) (circuit : IsCircuit raw) (order : List ℕ) (canonical : I
         let (w, v) = value_there t below in (
           literal_at t,
           literal_is t below,
-          subst (λ (u : Tern). Value all [] (row ∷ []) 0 (literal_at t) u) (is (literal_at t) w v ∙ ap tern_of one) v,
+          subst (λ (u : Tern). Value all [] (row ∷ []) 0 (literal_at t) u) (is t w below v ∙ ap tern_of one) v,
         )
 
   -- ---- from an assignment to a run
@@ -105,17 +105,16 @@ module _ (raw : Raw) (circuit : IsCircuit raw) (order : List ℕ) (canonical : I
     run = run_in free (k + 1) row wide
 
     met : (meets a (1 ∷ []) ≡ true) × (Satisfies a (first_reached (goals all (length raw.bad) (k + 1) p))
-        × Satisfies a (flat_map gate_clauses all.gates))
+        × Satisfies a (flat_map gate_clauses (cone (goals all (length raw.bad) (k + 1) p) all.gates)))
     met =
         let first = first_reached (goals all (length raw.bad) (k + 1) p) in
-        let gates = flat_map gate_clauses all.gates in
+        let gates = flat_map gate_clauses (cone (goals all (length raw.bad) (k + 1) p) all.gates) in
         let (low, rest) = and_parts (meets a (1 ∷ [])) (list_all (meets a) (first ++ gates)) h in
         (low, satisfies_parts a first gates rest)
 
-    assigns : (l : ℕ) (w : Tern) → Value all [] (row ∷ []) 0 l w → w ≡ tern_of (is_true a l)
-    unfolding row
-    assigns l w v = assigned all (values_of free (k + 1) a) refl a (low_of a met.0)
-        (λ i m u. inputs_are free any order canonical (k + 1) a i m u) (gates_met a all.gates met.1.1) v
+    assigns : (t : ℕ) (w : Tern) → t < k + 1 → Value all [] (row ∷ []) 0 (literal_at t) w → w ≡ tern_of (is_true a (literal_at t))
+    unfolding row literal_at
+    assigns t w below v = goal_value free any order canonical (k + 1) p a met.0 met.1.1 t w below v
 
     goal : ((t : ℕ) → t < k → is_true a (literal_at t) ≡ false) × (is_true a (literal_at k) ≡ true)
     unfolding literal_at
@@ -190,7 +189,8 @@ module _ (raw : Raw) (circuit : IsCircuit raw) (order : List ℕ) (canonical : I
     silent true never = absurd (never refl)
     silent false never = refl
 
-    met_by : (a : ℕ → Bool) → ((l : ℕ) (w : Tern) → Value all [] (row_of ∷ []) 0 l w → w ≡ tern_of (is_true a l))
+    met_by : (a : ℕ → Bool)
+        → ((t : ℕ) (w : Tern) → t < k + 1 → Value all [] (row_of ∷ []) 0 (literal_at t) w → w ≡ tern_of (is_true a (literal_at t)))
         → Satisfies a (first_reached (goals all (length raw.bad) (k + 1) p))
     unfolding literal_at
     met_by a is = reached_at a literal_at k
@@ -199,18 +199,17 @@ module _ (raw : Raw) (circuit : IsCircuit raw) (order : List ℕ) (canonical : I
         (true_there row_of wide_of a is k (omega arith) made)
 
     named : IsNamedStep raw order k p start rows
-    unfolding row_of
+    unfolding row_of literal_at
     named =
         let holds = row_of_run free (k + 1) start rows run_of in
         let (a, sat, row_is) = in_model free any order canonical (k + 1) row_of wide_of row_of_known k p (omega arith) property made in
         let (first, goal, gates) = formula_met free order (k + 1) p a sat in
-        let is : (l : ℕ) (w : Tern) → Value all [] (row_of ∷ []) 0 l w → w ≡ tern_of (is_true a l) =
-        (λ l w v. assigned all row_of refl a (low_of a first)
-        (λ i m u here cell. inputs_are free any order canonical (k + 1) a i m u here
-        (subst (λ (r : List Tern). slice_get r i ≡ Some u) (sym row_is) cell)) (gates_met a all.gates gates) v) in (
+        let is : (t : ℕ) (w : Tern) → t < k + 1 → Value all [] (row_of ∷ []) 0 (literal_at t) w → w ≡ tern_of (is_true a (literal_at t)) =
+        (λ t w below v. goal_value free any order canonical (k + 1) p a first gates t w below
+        (subst (λ (r : List Tern). Value all [] (r ∷ []) 0 (literal_at t) w) (sym row_is) v)) in (
           a,
-          both_and first (satisfies_both a (first_reached (goals all (length raw.bad) (k + 1) p)) (flat_map gate_clauses all.gates)
-              (met_by a is) gates),
+          both_and first (satisfies_both a (first_reached (goals all (length raw.bad) (k + 1) p))
+              (flat_map gate_clauses (cone (goals all (length raw.bad) (k + 1) p) all.gates)) (met_by a is) gates),
           ap (λ (r : List Tern). start_in free (k + 1) r) row_is ∙ holds.start_is,
           ap (λ (r : List Tern). rows_in free (k + 1) r) row_is ∙ holds.rows_are,
         )

@@ -1,12 +1,12 @@
 -- A circuit without latches, and an assignment that makes each gate an AND.
 use Rattle.std.proofs.Common.{◌≡◌, ◌≢◌, ℕ, zero, suc, ◌-◌, Bool, true, false}
 use Rattle.std.proofs.Common.{not, ◌&&◌, ◌||◌, List, [], ◌∷◌, flat_map, Some, slice_get}
-use Rattle.std.proofs.Common.{refl, sym, ◌∙◌, ap, ap₂, subst}
+use Rattle.std.proofs.Common.{refl, sym, ◌∙◌, ap, subst}
 use Rattle.std.specs.List.{list_all, list_any}
 use Rattle.std.proofs.lemmas.List.Folds.{list_all-append}
 use Rattle.std.proofs.lemmas.List.Concat.{flat_map-cons}
 use Rattle.std.proofs.lemmas.Bool.{and_parts}
-use Rattle.aig_sat.proofs.checking.TruthLemmas.{true_negation, true_below}
+use Rattle.aig_sat.proofs.checking.TruthLemmas.{true_negation}
 use Rattle.aig_parts.specs.Ternary.{kleene_and, kleene_not}
 use Rattle.aig_parts.specs.declared.gate.Gate.{Gate}
 use Rattle.aig_parts.specs.declared.raw.Raw.{Raw}
@@ -118,24 +118,6 @@ module _ (raw : Raw) (row : List Tern) (no_latches : raw.latches ≡ []) where
   pub only_row : (t : ℕ) (r : List Tern) → slice_get (row ∷ []) t ≡ Some r → row ≡ r
   only_row zero r e = cc
   only_row (suc t) r e = cc
-
-  -- where each gate is an AND and the inputs are those of the row, each literal has the value that the assignment says
-  pub assigned : (a : ℕ → Bool) → a 0 ≡ false
-      → ((p l : ℕ) (w : Tern) → slice_get raw.inputs p ≡ Some l → slice_get row p ≡ Some w → w ≡ tern_of (is_true a l))
-      → ((q : ℕ) (g : Gate) → slice_get raw.gates q ≡ Some g → IsAnd a g)
-      → {t l : ℕ} {w : Tern} → Value raw [] (row ∷ []) t l w → w ≡ tern_of (is_true a l)
-  assigned a low inputs gates (value.constant_false t) = ap tern_of (sym low)
-  assigned a low inputs gates (value.constant_true t) = ap (λ b. tern_of (not b)) (sym low)
-  assigned a low inputs gates (value.input t p l w r at is cell) =
-      inputs p l w at (subst (λ (r : List Tern). slice_get r p ≡ Some w) (sym (only_row t r is)) cell)
-  assigned a low inputs gates (value.latch_first p x w at is) = absurd (none_of raw.latches p x no_latches at)
-  assigned a low inputs gates (value.latch_next t p x w at v) = absurd (none_of raw.latches p x no_latches at)
-  assigned a low inputs gates (value.gate t q g b c at vb vc) =
-      ap₂ kleene_and (assigned a low inputs gates vb) (assigned a low inputs gates vc)
-      ∙ sym (tern_and (is_true a g.rhs0) (is_true a g.rhs1)) ∙ ap tern_of (sym (gates q g at))
-  assigned a low inputs gates (value.negated t l w over neg v) =
-      ap kleene_not (assigned a low inputs gates v) ∙ sym (tern_not (is_true a (l - 1)))
-      ∙ ap tern_of (sym (true_below a l neg))
 
   known_and : (b c : Tern) → b ≢ X → c ≢ X → kleene_and b c ≢ X
   known_and Zero c p q e = cc

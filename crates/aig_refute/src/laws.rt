@@ -31,8 +31,7 @@ pub fn law_of_induction()
 {}
 
 /// Where no assignment satisfies the formula of an induction over k frames, no run of any length from a start that the
-/// resets allow reaches the property. It is one formula in place of the two of `law_of_induction`, with the clauses of
-/// those gates alone that it needs.
+/// resets allow reaches the property. It is one formula in place of the two of `law_of_induction`.
 pub fn law_of_one_formula()
     ensures { (raw : Raw) (formula : Cnf) (k p : ℕ) → IsCircuit raw → IsFormulaOf raw (induction k p) formula →
         IsUnsatisfiable formula.clauses → IsUnreachable raw p }

@@ -24,7 +24,7 @@ const RING: &[u8] =
 // A circuit's file, a goal over so many frames, the formula's text, and whether propagation refutes it.
 type Asked = (&'static [u8], Goal, u32, &'static [u8], bool);
 
-const FORMULAS: [Asked; 9] = [
+const FORMULAS: [Asked; 10] = [
     // Variable 1 is false, the bad literal is true, and three clauses say that it is the AND of the inputs.
     (
         ONE_BAD,
@@ -70,6 +70,15 @@ const FORMULAS: [Asked; 9] = [
         1,
         b"c aig cnf --step --frames 1 --property 0 \n\
             c l 2 0 \nc b 2 0\nc b 2 1\np cnf 2 3\n-1 0\n-2 0\n2 0\n",
+        true,
+    ),
+    // The bad literal is the AND of the resets 0 and 1. The gate that it does not need has no clauses.
+    (
+        THREE_RESETS,
+        Goal::Within,
+        1,
+        b"c aig cnf --frames 1 --property 0 \n\
+            c i 2 0 0 \nc l 3 2 \nc b 5 0\np cnf 5 5\n-1 0\n5 0\n-5 -1 0\n-5 1 0\n5 1 -1 0\n",
         true,
     ),
     // One of the two is true. If it is the one of frame 0, the latches have their resets, as far as these are 0 or 1.

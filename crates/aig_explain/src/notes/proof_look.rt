@@ -275,11 +275,12 @@ fn push_order(
 
 fn formula_of(about: ProofOf) -> &'static str {
     match about {
-        ProofOf::Runs => "it has to be about the formula of aig cnf for the same K, P and CIRCUIT",
+        ProofOf::Runs =>
+            "it has to be about the formula of aig cnf for the same K, P and CIRCUIT; aig 0.2.0 wrote one with more gates",
         ProofOf::Alive =>
-            "it has to be about the formula of aig cnf --alive for the same K and CIRCUIT",
+            "it has to be about the formula of aig cnf --alive for the same K and CIRCUIT; aig 0.2.0 wrote one with more gates",
         ProofOf::Step =>
-            "it has to be about the formula of aig cnf --step for the same K, P and CIRCUIT",
+            "it has to be about the formula of aig cnf --step for the same K, P and CIRCUIT; aig 0.2.0 wrote one with more gates",
         ProofOf::Certificate =>
             "it has to be about the formula of aig cnf --certificate for the same P, CERTIFICATE and CIRCUIT",
     }

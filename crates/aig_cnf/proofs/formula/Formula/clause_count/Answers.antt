@@ -1,7 +1,5 @@
 use Rattle.std.proofs.Common.{◌∙◌, length, ℕ, List, ap, ap₂, arith}
-use Rattle.aig_parts.specs.declared.gate.Gate.{Gate}
 use Rattle.aig_cnf.specs.Formula.{Cnf, goal_clauses}
-use Rattle.aig_cnf.proofs.ConeLemmas.{length-gates_for}
 use Rattle.aig_cnf.proofs.FormulaText.{length-formula, length-goal_clauses}
 use Rattle.aig_cnf.proofs.formula.Formula.clause_count.Goals as goal
 
@@ -33,16 +31,14 @@ overflow_add-result-2 c =
       arith,
       some,
       length-goal_clauses f.goal f.starts.items f.goals.items c.self.invariant.latches c.self.invariant.frames,
-      c.facts.ensures.formed.counts.gates,
-      ap (λ (gs : List Gate). length gs) (c.gates_of-gates.ensures ∙ c.self.invariant.gates_are),
-      length-gates_for f.goal f.goals.items f.unrolled.gates,
+      c.self.invariant.few,
     )
 
 pub returns : goal.returns
 returns c =
     let f = c.self.inside in
     let all = ap (λ (x : Cnf). length x.clauses) c.self.view_is in
-    let size = length-formula f.goal f.starts.items f.goals.items f.unrolled.gates in
+    let size = length-formula f.goal f.starts.items f.goals.items f.gates.items in
     let some = c.goal_count.ensures
     ∙ ap₂ (λ (ms ls : List ℕ). length (goal_clauses f.goal ms ls)) c.deref.ensures.value c.deref-2.ensures.value in
     omega (
@@ -50,5 +46,4 @@ returns c =
       all,
       size,
       some,
-      ap (λ (gs : List Gate). length gs) (c.gates_of-gates.ensures ∙ c.self.invariant.gates_are),
     )

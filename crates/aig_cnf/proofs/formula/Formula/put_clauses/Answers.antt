@@ -1,22 +1,16 @@
-use Rattle.std.proofs.Common.{ℕ, List, ◌∷◌, [], ◌∙◌, ap, ap₂, subst, sym, All, ◌<◌, ◌^◌}
+use Rattle.std.proofs.Common.{ℕ, List, ◌∷◌, [], ap, ap₂, subst, sym, All}
 use Rattle.std.specs.List.{flat_map}
-use Rattle.aig_base.proofs.circuits.ShortGates.{short_gates}
 use Rattle.aig_bytes.proofs.GatherLemmas.{gathers_then, gathers_stop, gathers_failed, gathers_same}
 use Rattle.aig_parts.specs.declared.gate.Gate.{Gate}
 use Rattle.aig_cnf.specs.Dimacs.{clause_text, gate_text}
 use Rattle.aig_cnf.specs.Formula.{Cnf, goal_clauses}
-use Rattle.aig_cnf.proofs.ConeLemmas.{All-gates_for}
+use Rattle.aig_cnf.specs.state.Kept.{IsShort}
 use Rattle.aig_cnf.proofs.FormulaText.{clauses_text}
 use Rattle.aig_cnf.proofs.formula.Formula.put_clauses.Goals as goal
 
-abbrev IsShort : Gate → Type 0
-IsShort g = (g.lhs < 10 ^ 8) × (g.rhs0 < 10 ^ 8) × (g.rhs1 < 10 ^ 8)
-
 pub put_gates-requires : goal.put_gates-requires
 put_gates-requires g c =
-    let f = c.self.inside in
-    subst (λ (gs : List Gate). All IsShort gs) (sym (c.gates_of-gates.ensures ∙ c.self.invariant.gates_are))
-    (All-gates_for IsShort f.goal f.goals.items f.unrolled.gates (short_gates f.unrolled c.facts.ensures))
+    subst (λ (gs : List Gate). All IsShort gs) (sym c.as_slice-gates.ensures) c.self.invariant.short
 
 pub returns-in_err-put_clause : goal.returns-in_err-put_clause
 returns-in_err-put_clause g c =
@@ -24,7 +18,7 @@ returns-in_err-put_clause g c =
     let f = c.self.inside in
     gathers_same (gathers_stop _ h (gathers_failed (gathers_same c.in_err-put_clause.ensures
     (ap (λ l. clause_text (l ∷ [])) c.new.ensures)) h))
-    (clauses_text f.goal f.starts.items f.goals.items f.unrolled.gates _ _ c.self.invariant.gates_are
+    (clauses_text f.goal f.starts.items f.goals.items f.gates.items _
     (ap (λ (x : Cnf). x.clauses) c.self.view_is))
 
 pub returns-in_err-put_goal : goal.returns-in_err-put_goal
@@ -34,7 +28,7 @@ returns-in_err-put_goal g c =
     gathers_same (gathers_then (gathers_same c.in_ok-put_clause.ensures (ap (λ l. clause_text (l ∷ [])) c.new.ensures))
     (gathers_stop _ h (gathers_failed (gathers_same c.in_err-put_goal.ensures
     (ap₂ (λ (ms ls : List ℕ). flat_map clause_text (goal_clauses f.goal ms ls)) c.deref.ensures.value c.deref-2.ensures.value)) h)))
-    (clauses_text f.goal f.starts.items f.goals.items f.unrolled.gates _ _ c.self.invariant.gates_are
+    (clauses_text f.goal f.starts.items f.goals.items f.gates.items _
     (ap (λ (x : Cnf). x.clauses) c.self.view_is))
 
 pub returns : goal.returns
@@ -43,6 +37,6 @@ returns g c =
     gathers_same (gathers_then (gathers_same c.in_ok-put_clause.ensures (ap (λ l. clause_text (l ∷ [])) c.new.ensures))
     (gathers_then (gathers_same c.in_ok-put_goal.ensures
     (ap₂ (λ (ms ls : List ℕ). flat_map clause_text (goal_clauses f.goal ms ls)) c.deref.ensures.value c.deref-2.ensures.value))
-    (gathers_same c.put_gates.ensures (ap (flat_map gate_text) c.gates_of-gates.ensures))))
-    (clauses_text f.goal f.starts.items f.goals.items f.unrolled.gates _ _ c.self.invariant.gates_are
+    (gathers_same c.put_gates.ensures (ap (flat_map gate_text) c.as_slice-gates.ensures))))
+    (clauses_text f.goal f.starts.items f.goals.items f.gates.items _
     (ap (λ (x : Cnf). x.clauses) c.self.view_is))
