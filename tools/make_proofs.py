@@ -1,7 +1,8 @@
 #!/usr/bin/env python3
 """Makes the files of tests/proofs again, with cadical 1.5.3 (Debian's package `cadical`), in a minute. Each circuit has two
 chains of exclusive ors over the same inputs in two orders, and is bad where they differ, so never. Its last gate is for
-an output: cadical deletes the clauses of that gate, so the proof names the last variable too.
+an output. cadical gets the formula of all gates, and deletes the clauses of that gate: so the proof names the last
+variable too, and deletes clauses that the formula of `aig cnf` does not have.
 
 `parity` has about 200 variables and a proof of about 50 KB, as text and in the binary form. `long` has a proof with over
 5,000 clauses, and about as many deletions, in the binary form. `outcomes` says how runs on changed proofs and circuits
@@ -130,7 +131,7 @@ def main():
         with open(f"{name}.aag", "w", encoding="ascii") as file:
             file.write(text)
         clauses = clauses_of(text)
-        solved(name, clauses)
+        solved(name, clauses_of(text, whole=True))
         steps = steps_of(f"{name}.text.drat")
         assert steps == steps_of(f"{name}.binary.drat")
         if name == "long":

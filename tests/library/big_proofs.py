@@ -5,15 +5,21 @@ from library.runs import TESTS, contents
 FOLDER = TESTS + "/proofs"
 
 
-def clauses_of(text, negated=False):
+def clauses_of(text, negated=False, whole=False):
     """The formula for one frame of a circuit without latches whose gates are in the order of an unrolled circuit: the
-    variable of a literal is half of it, and one more. The property is its only bad state, or the negation of that."""
+    variable of a literal is half of it, and one more. The property is its only bad state, or the negation of that. The
+    formula has the gates that it depends on; with `whole` it has all, as those that `aig` 0.2.0 wrote."""
     lines = text.splitlines()
     _, _, inputs, _, outputs, gates, _ = lines[0].split()
     bad = int(lines[1 + int(inputs) + int(outputs)]) ^ negated
     clauses = [[-1]]
-    for line in lines[len(lines) - int(gates):]:
-        gate, left, right = (signed(int(word)) for word in line.split())
+    wanted, kept = {bad & ~1}, []
+    for line in reversed(lines[len(lines) - int(gates):]):
+        gate, *sides = map(int, line.split())
+        if whole or gate in wanted:
+            wanted |= {side & ~1 for side in sides}
+            kept.insert(0, map(signed, (gate, *sides)))
+    for gate, left, right in kept:
         clauses += [[-gate, left], [-gate, right], [gate, -left, -right]]
     return [*clauses, [signed(bad)]]
 

@@ -11,6 +11,9 @@ TOGGLES = "aag 1 0 1 0 0 1\n2 3\n2\n"
 # 64 inputs, one of which is bad.
 WIDE = "aag 64 64 0 0 0 1\n" + "".join(f"{2 * at}\n" for at in range(1, 65)) + "2\n"
 
+# A latch whose next state is the gate, so the gate of the last frame is read by nothing.
+LATER = "aag 3 1 1 0 1 1\n2\n4 6\n4\n6 4 2\n"
+
 # What is asked for, the circuit, and what is written.
 FORMULAS = (
     ("a bad literal that is a negated input", "--frames 1 negated", "aag 1 1 0 0 0 1\n2\n3\n",
@@ -35,6 +38,13 @@ FORMULAS = (
      "c aig cnf --frames 2 --property 0 \n"
      "c i 2 0 0 \nc i 3 0 1 \nc i 4 1 0 \nc i 5 1 1 \nc b 7 0\nc b 9 1\np cnf 9 14\n-1 0\n7 9 0\n"
      "-6 3 0\n-6 -1 0\n6 -3 1 0\n-7 6 0\n-7 2 0\n7 -6 -2 0\n-8 6 0\n-8 5 0\n8 -6 -5 0\n-9 8 0\n-9 4 0\n9 -8 -4 0\n"),
+    ("a gate and an input that the property does not read", "--frames 1 outside",
+     "aag 5 3 0 1 2 1\n2\n4\n6\n10\n8\n8 4 2\n10 8 6\n",
+     "c aig cnf --frames 1 --property 0 \n"
+     "c i 2 0 0 \nc i 3 0 1 \nc i 4 0 2 \nc b 5 0\np cnf 6 5\n-1 0\n5 0\n-5 3 0\n-5 2 0\n5 -3 -2 0\n"),
+    ("a gate that a later frame reads", "--frames 2 later", LATER,
+     "c aig cnf --frames 2 --property 0 \n"
+     "c i 2 0 0 \nc i 3 1 0 \nc b 1 0\nc b 4 1\np cnf 5 5\n-1 0\n1 4 0\n-4 2 0\n-4 1 0\n4 -2 -1 0\n"),
     ("justice and fairness, which are ignored", "--frames 1 sections", TEXTS["sections"],
      "c aig cnf --frames 1 --property 0 \n"
      "c i 2 0 0 in\nc l 3 0 state\nc b 6 0\np cnf 6 11\n-1 0\n6 0\n"
@@ -74,8 +84,8 @@ ALIVE = (
      "c b -1 0\nc b -1 1\nc b -1 2\np cnf 1 2\n-1 0\n-1 0\n"),
     ("properties, which are ignored, and names", "--alive --frames 1 sections", TEXTS["sections"],
      "c aig cnf --alive --frames 1 \n"
-     "c i 2 0 0 in\nc l 3 0 state\nc b 6 0\np cnf 6 11\n-1 0\n6 0\n"
-     "-4 3 0\n-4 2 0\n4 -3 -2 0\n-5 3 0\n-5 -1 0\n5 -3 1 0\n-6 5 0\n-6 -1 0\n6 -5 1 0\n"),
+     "c i 2 0 0 in\nc l 3 0 state\nc b 6 0\np cnf 6 8\n-1 0\n6 0\n"
+     "-5 3 0\n-5 -1 0\n5 -3 1 0\n-6 5 0\n-6 -1 0\n6 -5 1 0\n"),
 )
 
 REFUSALS = (

@@ -55,7 +55,7 @@ def is_large(tally, name, steps, size, clauses, deletions):
 
 
 def formula(rows, name, clauses):
-    """The formula that cadical got is the one that `aig cnf` writes, and the proof has its last variable."""
+    """The formula that `aig cnf` writes: that of cadical without the last gate, whose variable the proof has."""
     lines = rows.run("cnf", "--frames", "1", name).out.decode().splitlines()
     got = [sorted(map(int, line.split()[:-1])) for line in lines if line[0] not in "cp"]
     rows.tally.compare(f"large_proofs: {name}, the formula", sorted(got), sorted(map(sorted, clauses)))
