@@ -21,5 +21,5 @@ returns c =
     adds_same (adds_then (adds_same c.in_ok-add.ensures (ap (λ n. (n ∷ []) ∷ []) c.new.ensures))
     (adds_then (adds_same c.in_ok-add_goal.ensures
     (ap₂ (λ (ms ls : List ℕ). goal_clauses c.self.inside.goal ms ls) c.deref.ensures.value c.deref-2.ensures.value))
-    (adds_same c.add_gates.ensures (ap (flat_map gate_clauses) c.as_slice-gates.ensures))))
+    (adds_same c.add_gates.ensures (ap (flat_map gate_clauses) c.as_slice-gates.ensures.value))))
     (ap (λ (x : Cnf). x.clauses) c.self.view_is)

@@ -10,7 +10,7 @@ use Rattle.aig_cnf.proofs.formula.Formula.put_clauses.Goals as goal
 
 pub put_gates-requires : goal.put_gates-requires
 put_gates-requires g c =
-    subst (λ (gs : List Gate). All IsShort gs) (sym c.as_slice-gates.ensures) c.self.invariant.short
+    subst (λ (gs : List Gate). All IsShort gs) (sym c.as_slice-gates.ensures.value) c.self.invariant.short
 
 pub returns-in_err-put_clause : goal.returns-in_err-put_clause
 returns-in_err-put_clause g c =
@@ -37,6 +37,6 @@ returns g c =
     gathers_same (gathers_then (gathers_same c.in_ok-put_clause.ensures (ap (λ l. clause_text (l ∷ [])) c.new.ensures))
     (gathers_then (gathers_same c.in_ok-put_goal.ensures
     (ap₂ (λ (ms ls : List ℕ). flat_map clause_text (goal_clauses f.goal ms ls)) c.deref.ensures.value c.deref-2.ensures.value))
-    (gathers_same c.put_gates.ensures (ap (flat_map gate_text) c.as_slice-gates.ensures))))
+    (gathers_same c.put_gates.ensures (ap (flat_map gate_text) c.as_slice-gates.ensures.value))))
     (clauses_text f.goal f.starts.items f.goals.items f.gates.items _
     (ap (λ (x : Cnf). x.clauses) c.self.view_is))
