@@ -176,7 +176,7 @@ def verdicts(_, tally, __):
                   {CONFIRMED.encode()})
     tally.compare("the formula, clause by clause", list(formula), formula.clauses)
     tally.compare("inputs of the formula", sorted(formula.inputs), [(0, frame) for frame in range(4)])
-    tally.compare("clauses", (len(formula.clauses), formula.size), (74, 74))
+    tally.compare("clauses", (len(formula.clauses), formula.size), (62, 62))
 
 
 def certificates(_, tally, __):

@@ -101,7 +101,7 @@ def models(_, tally, __):
     tally.compare("the clauses", formula.clauses, [[int(word) for word in words[:-1]] for words in lines])
     tally.compare("clause by clause", list(formula), formula.clauses)
     tally.compare("how many", len(lines), formula.size)
-    large = chain.cnf(12, 12)
+    large = chain.cnf(20, 12)
     tally.check("over 1,000", len(large.clauses) == large.size > 1000, (len(large.clauses), large.size))
     rows = ROWS[:5]
     values = {variable: rows[frame][at] == "1" for (at, frame), variable in formula.inputs.items()}
