@@ -1,6 +1,7 @@
 pub mod AliveFormula
 pub mod AnyState
 pub mod BadFormula
+pub mod ConeValues
 pub mod ConvertedDumps
 pub mod ConvertedTraces
 pub mod ConvertedVerdicts
