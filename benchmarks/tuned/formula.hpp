@@ -1,5 +1,5 @@
 // The formula that a bad state is reached within some frames: its clauses, or in DIMACS with the comment lines of `aig
-// cnf`. Frames are unrolled one after the other: only the literals of one frame are kept.
+// cnf`. It has the gates that the goals depend on.
 #pragma once
 
 #include "checker.hpp"
@@ -132,19 +132,19 @@ public:
                                frames * uint64_t(circuit.bad.size())};
         for (uint64_t section : sections)
             if (frames > 65536 || section > 4194303) throw Refusal{"cnf: limit"};
+        unroll();
+        find_cone();
     }
 
     void write() {
-        Array<Gate> gates = Levels(circuit).ordered_gates();
-        std::vector<uint32_t> goals = goals_of(gates);
         put_heading("--frames " + std::to_string(frames) + " ", property, Names(circuit).of_bad[property]);
         origins();
         for (uint32_t frame = 0; frame < frames; ++frame) put_goal(goals[frame], frame);
-        put_head(variables(), uint32_t(3 * frames * size + 2));
+        put_head(variables(), 3 * cone + 2);
         clause({1});
         for (uint32_t goal : goals) put_literal(goal);
         out.put("0\n", 2);
-        each_frame(gates, [&](uint32_t lhs, uint32_t a, uint32_t b) { put_gate(lhs, a, b); }, [](uint32_t) {});
+        each_gate([&](const Gate& gate) { put_gate(gate.lhs, gate.rhs0, gate.rhs1); });
     }
 
     uint32_t variables() const { return uint32_t(inputs() + frames * size + 1); }
@@ -152,20 +152,18 @@ public:
     // Calls with each clause. Variable 0 is false.
     template <class EachClause>
     void each_clause(EachClause each) const {
-        Array<Gate> gates = Levels(circuit).ordered_gates();
         std::vector<uint32_t> literals;
         auto call = [&](std::initializer_list<uint32_t> clause) {
             literals.assign(clause);
             each(literals);
         };
         call({1});
-        each(goals_of(gates));
-        auto each_gate = [&](uint32_t lhs, uint32_t a, uint32_t b) {
-            call({lhs ^ 1, a});
-            call({lhs ^ 1, b});
-            call({lhs, a ^ 1, b ^ 1});
-        };
-        each_frame(gates, each_gate, [](uint32_t) {});
+        each(goals);
+        each_gate([&](const Gate& gate) {
+            call({gate.lhs ^ 1, gate.rhs0});
+            call({gate.lhs ^ 1, gate.rhs1});
+            call({gate.lhs, gate.rhs0 ^ 1, gate.rhs1 ^ 1});
+        });
     }
 
 private:
@@ -173,42 +171,60 @@ private:
     uint32_t frames, property;
     bool guarded;
     uint64_t starts = 0, size;
+    // The gates of all frames, which of their variables are wanted, and how many.
+    std::vector<Gate> gates;
+    std::vector<uint8_t> wanted;
+    uint32_t cone = 0;
+    std::vector<uint32_t> goals;
 
     uint64_t inputs() const { return uint64_t(frames) * circuit.inputs.size() + starts; }
 
-    // Calls with each gate of each frame, and with the goal of each frame.
-    template <class EachGate, class EachGoal>
-    void each_frame(const Array<Gate>& gates, EachGate each_gate, EachGoal each_goal) const {
+    // The gates and the goal of each frame.
+    void unroll() {
+        Array<Gate> ordered = Levels(circuit).ordered_gates();
+        gates.reserve(frames * size);
         std::vector<uint32_t> now(circuit.max_var + 1, 0), states;
         uint32_t start = uint32_t(frames * circuit.inputs.size()), next = uint32_t(inputs()), chain = 1;
         for (const Latch& latch : circuit.latches) states.push_back(latch.reset == latch.lit ? 2 * ++start : latch.reset);
         auto at = [&](uint32_t literal) { return now[literal >> 1] ^ (literal & 1); };
         auto add = [&](uint32_t a, uint32_t b) {
-            each_gate(2 * ++next, std::max(a, b), std::min(a, b));
+            gates.push_back({2 * ++next, std::max(a, b), std::min(a, b)});
             return 2 * next;
         };
         for (uint32_t frame = 0; frame < frames; ++frame) {
             for (uint32_t place = 0; place < circuit.inputs.size(); ++place)
                 now[circuit.inputs[place] >> 1] = 2 * uint32_t(frame * circuit.inputs.size() + place + 1);
             for (uint32_t place = 0; place < states.size(); ++place) now[circuit.latches[place].lit >> 1] = states[place];
-            for (const Gate& gate : gates) now[gate.lhs >> 1] = add(at(gate.rhs0), at(gate.rhs1));
+            for (const Gate& gate : ordered) now[gate.lhs >> 1] = add(at(gate.rhs0), at(gate.rhs1));
             if (guarded) {
                 for (uint32_t constraint : circuit.constraints) chain = add(at(constraint), chain);
                 for (uint32_t place = 0; place < circuit.bad.size(); ++place) {
                     uint32_t guard = add(at(circuit.bad[place]), chain);
-                    if (place == property) each_goal(guard);
+                    if (place == property) goals.push_back(guard);
                 }
             } else {
-                each_goal(at(circuit.bad[property]));
+                goals.push_back(at(circuit.bad[property]));
             }
             for (uint32_t place = 0; place < states.size(); ++place) states[place] = at(circuit.latches[place].next);
         }
     }
 
-    std::vector<uint32_t> goals_of(const Array<Gate>& gates) const {
-        std::vector<uint32_t> goals;
-        each_frame(gates, [](uint32_t, uint32_t, uint32_t) {}, [&](uint32_t goal) { goals.push_back(goal); });
-        return goals;
+    void find_cone() {
+        wanted.assign(variables(), 0);
+        for (uint32_t goal : goals) wanted[goal >> 1] = 1;
+        for (size_t place = gates.size(); place-- > 0;) {
+            const Gate& gate = gates[place];
+            if (!wanted[gate.lhs >> 1]) continue;
+            wanted[gate.rhs0 >> 1] = wanted[gate.rhs1 >> 1] = 1;
+            ++cone;
+        }
+    }
+
+    // Calls with each gate that is wanted.
+    template <class EachGate>
+    void each_gate(EachGate each) const {
+        for (const Gate& gate : gates)
+            if (wanted[gate.lhs >> 1]) each(gate);
     }
 
     // The lines that say what the inputs of the unrolled circuit are.
