@@ -54,15 +54,16 @@ def refutations(rows, asked, count):
         rows["refute"].ends(name, f"refute {words} --property {asked} circuit proof", wanted)
     made = Conjunctions(count)
     write("circuit", made.circuit(made.ends))
-    # A proof is the first input of the property's conjunction, at the last frame.
+    # A proof is the first input of the property's conjunction, at the last frame. No clause about another property has
+    # this input, so such a step is taken there on its first literal, and proves nothing.
     at_start, at_step = ([f"{2 + first + 2 * at} 0\n" for at in range(count)] for first in (0, 2 * count))
     words = f"refute --frames 1 --property {asked}"
     for other in range(count):
         name = f"property {asked} of {count}, a proof about property {other}"
         right = other == asked
-        wanted = Ended(0, b"unreachable within 1\n", b"") if right else refused("proof: step 1")
+        wanted = Ended(0, b"unreachable within 1\n", b"") if right else refused("proof: no refutation")
         rows["refute"].ends(name, f"{words} circuit proof", wanted, proof=at_start[other])
-        wanted = Ended(0, b"unreachable\n", b"") if right else refused("step proof: step 1")
+        wanted = Ended(0, b"unreachable\n", b"") if right else refused("step proof: no refutation")
         rows["refute"].ends(f"{name}, of the step", f"{words} --step step circuit proof", wanted, proof=at_start[asked],
                             step=at_step[other])
 
