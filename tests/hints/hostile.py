@@ -61,7 +61,7 @@ def one_step(proof):
         proof.add(proof.own(1), [])
 
 
-def groups(proof, length=300):
+def groups(proof, length=200):
     """Steps whose candidates have their groups of hints the other way round, so each is searched for through all."""
     free, others = proof.own(1)[0], proof.own(length)
     trues = [proof.add([other], []) for other in others]
