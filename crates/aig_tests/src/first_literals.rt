@@ -1,6 +1,7 @@
 //! Steps that are added on their first literal, and variables of the proof's own, through the public calls. A slow
 //! checker that follows the definition gave the numbers of steps; it shares nothing with ours. A function that names a
 //! table is proved in the square of its rows, so no table has more than eight.
+use crate::refutations::formula_of;
 use aig_base::{Lit, MemReader};
 use aig_sat::{ProofReader, Refutation, StepKind};
 use std::alloc::Global;
@@ -124,15 +125,9 @@ static BOTH_SIGNS: [Steps; 7] = [
 ];
 
 // The formula of a row, with the variables of the proof's own.
-fn formula_of(alloc: Global, row: Steps) -> Option<Refutation> {
+fn formula_with_own(alloc: Global, row: Steps) -> Option<Refutation> {
     let (variables, own, text, clauses, ..) = row;
-    let mut source = MemReader::new(text);
-    let mut reader = ProofReader::new(alloc, u32::from(variables));
-    let mut formula = Refutation::new(alloc, u32::from(variables)).ok()?;
-    for _ in 0..clauses {
-        reader.next(&mut source).ok()??;
-        formula.add_clause(reader.clause()).ok()?;
-    }
+    let mut formula = formula_of(alloc, variables, text, clauses)?;
     let all = u32::from(variables) + u32::from(own);
     formula.add_variables(all).ok()?;
     Some(formula)
@@ -173,7 +168,7 @@ fn steps_taken(alloc: Global, formula: &mut Refutation, row: Steps) -> (usize, b
 
 fn is_as_expected(alloc: Global, row: Steps) -> bool {
     let (_, _, _, _, _, taken, refuted) = row;
-    match formula_of(alloc, row) {
+    match formula_with_own(alloc, row) {
         Some(mut formula) => steps_taken(alloc, &mut formula, row) == (taken, refuted),
         None => false,
     }

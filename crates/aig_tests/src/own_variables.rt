@@ -1,4 +1,5 @@
 //! Variables of a proof's own: which ones their names get, and proofs that need them, through the public calls.
+use crate::refutations::formula_of;
 use aig_base::{Lit, MemReader, Memory};
 use aig_sat::{ProofReader, Refutation, StepKind};
 use std::alloc::Global;
@@ -161,19 +162,6 @@ static PROOFS: [Steps; 4] = [
     ),
 ];
 
-fn formula_of(alloc: Global, row: Steps) -> Option<Refutation> {
-    let (variables, text, clauses, ..) = row;
-    let variables = u32::from(variables);
-    let mut source = MemReader::new(text);
-    let mut reader = ProofReader::new(alloc, variables);
-    let mut formula = Refutation::new(alloc, variables).ok()?;
-    for _ in 0..clauses {
-        reader.next(&mut source).ok()??;
-        formula.add_clause(reader.clause()).ok()?;
-    }
-    Some(formula)
-}
-
 fn is_right(formula: &mut Refutation, clause: &[Lit]) -> bool {
     formula.add_step(clause, None) == Ok(true) || formula.add_on_first(clause, None) == Ok(true)
 }
@@ -197,8 +185,8 @@ fn steps_taken(alloc: Global, formula: &mut Refutation, row: Steps) -> (usize, b
 }
 
 fn is_as_expected(alloc: Global, row: Steps) -> bool {
-    let (_, _, _, _, taken, refuted) = row;
-    match formula_of(alloc, row) {
+    let (variables, text, clauses, _, taken, refuted) = row;
+    match formula_of(alloc, variables, text, clauses) {
         Some(mut formula) => steps_taken(alloc, &mut formula, row) == (taken, refuted),
         None => false,
     }

@@ -10,16 +10,39 @@ use std::alloc::Global;
 /// and a solver's proof that there is none of all.
 pub type Refuted = (u8, &'static [u8], usize, &'static [u8]);
 
-// The formula of the first clauses of a text.
-fn formula_of(alloc: Global, variables: u8, text: &[u8], clauses: usize) -> Option<Refutation> {
+/// The formula of the first clauses of a text, over so many variables.
+pub fn formula_of(alloc: Global, variables: u8, text: &[u8], clauses: usize) -> Option<Refutation> {
+    let mut formula = Refutation::new(alloc, u32::from(variables)).ok()?;
+    if gets_clauses(alloc, &mut formula, variables, text, clauses) {
+        Some(formula)
+    } else {
+        None
+    }
+}
+
+fn gets_clauses(
+    alloc: Global,
+    formula: &mut Refutation,
+    variables: u8,
+    text: &[u8],
+    clauses: usize,
+) -> bool {
     let mut source = MemReader::new(text);
     let mut reader = ProofReader::new(alloc, u32::from(variables));
-    let mut formula = Refutation::new(alloc, u32::from(variables)).ok()?;
     for _ in 0..clauses {
-        reader.next(&mut source).ok()??;
-        formula.add_clause(reader.clause()).ok()?;
+        if !gets_clause(formula, &mut reader, &mut source) {
+            return false;
+        }
     }
-    Some(formula)
+    true
+}
+
+fn gets_clause(
+    formula: &mut Refutation,
+    reader: &mut ProofReader,
+    source: &mut MemReader<'_>,
+) -> bool {
+    matches!(reader.next(source), Ok(Some(_))) && formula.add_clause(reader.clause()).is_ok()
 }
 
 // Whether a proof refutes a formula.
@@ -58,21 +81,25 @@ fn is_told_apart(alloc: Global, row: Refuted) -> bool {
         && !refutes(alloc, variables, text, clauses, proof)
 }
 
-// A solver's proofs refute their formulas, and not those that an assignment satisfies.
-#[test]
-fn proofs_of_a_solver(rt: HostRuntime) {
-    for row in TEXT_PROOFS.iter().chain(&BINARY_PROOFS) {
-        assert!(rt; is_told_apart(rt.alloc(), *row));
+fn are_told_apart(alloc: Global, rows: &[Refuted]) -> bool {
+    for row in rows {
+        if !is_told_apart(alloc, *row) {
+            return false;
+        }
     }
+    true
 }
 
 // Whether a proof, cut at any byte, refutes the first clauses of a text.
 fn refutes_cut(alloc: Global, row: Refuted) -> bool {
     let (variables, text, clauses, proof) = row;
-    (0..proof.len()).any(|place| {
+    for place in 0..proof.len() {
         let (begun, _) = proof.split_at(place);
-        refutes(alloc, variables, text, clauses, begun)
-    })
+        if refutes(alloc, variables, text, clauses, begun) {
+            return true;
+        }
+    }
+    false
 }
 
 // Whether a proof with this byte at any place refutes the first clauses of a text.
@@ -93,19 +120,31 @@ fn refutes_changed(alloc: Global, row: Refuted, byte: u8) -> Option<bool> {
     Some(found)
 }
 
-// No cut or changed proof refutes a formula that an assignment satisfies.
-#[test]
-fn changed_proofs(rt: HostRuntime) {
-    for row in TEXT_PROOFS
-        .iter()
-        .take(1)
-        .chain(BINARY_PROOFS.iter().take(1))
-    {
-        assert!(rt; !refutes_cut(rt.alloc(), *row));
-        for byte in b"d0\x05" {
-            assert!(rt; refutes_changed(rt.alloc(), *row, *byte) == Some(false));
-        }
+// Whether no cut or changed proof refutes a formula that an assignment satisfies.
+fn stays_apart(alloc: Global, row: Refuted) -> bool {
+    !refutes_cut(alloc, row)
+        && refutes_changed(alloc, row, b'd') == Some(false)
+        && refutes_changed(alloc, row, b'0') == Some(false)
+        && refutes_changed(alloc, row, 5) == Some(false)
+}
+
+// Whether a solver's proofs refute their formulas, and not those that an assignment satisfies; nor does the first one,
+// cut or changed.
+fn are_checked(alloc: Global, rows: &[Refuted]) -> bool {
+    match rows {
+        [first, ..] => are_told_apart(alloc, rows) && stays_apart(alloc, *first),
+        [] => false,
     }
+}
+
+#[test]
+fn proofs_in_the_text_form(rt: HostRuntime) {
+    assert!(rt; are_checked(rt.alloc(), &TEXT_PROOFS));
+}
+
+#[test]
+fn proofs_in_the_binary_form(rt: HostRuntime) {
+    assert!(rt; are_checked(rt.alloc(), &BINARY_PROOFS));
 }
 
 // Numbers at random.
@@ -159,7 +198,12 @@ fn is_true(values: [bool; 5], literal: Lit) -> bool {
 }
 
 fn satisfies(values: [bool; 5], clauses: &[[Lit; 3]]) -> bool {
-    clauses.iter().all(|clause| clause.iter().any(|literal| is_true(values, *literal)))
+    for &[first, second, third] in clauses {
+        if !is_true(values, first) && !is_true(values, second) && !is_true(values, third) {
+            return false;
+        }
+    }
+    true
 }
 
 // Whether the first values of a number, of so many, are those of another one.
@@ -169,7 +213,12 @@ fn begins(whole: u32, number: u32, numbers: u32) -> bool {
 
 // Whether values whose first ones are those of a number, of so many, satisfy the clauses.
 fn can_begin(clauses: &[[Lit; 3]], number: u32, numbers: u32) -> bool {
-    (0..32).any(|whole| begins(whole, number, numbers) && satisfies(values_of(whole), clauses))
+    for whole in 0..32 {
+        if begins(whole, number, numbers) && satisfies(values_of(whole), clauses) {
+            return true;
+        }
+    }
+    false
 }
 
 // The clause that the first so many of these values are not there, the last of them first.
@@ -207,23 +256,38 @@ fn delete_all(formula: &mut Refutation, clauses: &[[Lit; 3]]) {
 fn is_decided(alloc: Global, random: &mut Random) -> Option<bool> {
     let clauses = random.clauses(alloc)?;
     let mut formula = Refutation::new(alloc, 5).ok()?;
-    for clause in &clauses {
+    decides(alloc, &mut formula, &clauses)
+}
+
+fn decides(alloc: Global, formula: &mut Refutation, clauses: &[[Lit; 3]]) -> Option<bool> {
+    for clause in clauses {
         formula.add_clause(clause).ok()?;
     }
     let mut right = true;
     for (count, numbers, more) in COUNTS {
         for number in 0..numbers {
-            let taken = formula.add_step(&denial(alloc, number, count)?, None).ok()?;
-            right &= taken != can_begin(&clauses, number, numbers);
+            right &= takes_denial(alloc, formula, number, count)?
+                != can_begin(clauses, number, numbers);
         }
         for number in 0..more {
             formula.delete(&denial(alloc, number, count + 1)?);
         }
         if count == 5 {
-            delete_all(&mut formula, &clauses);
+            delete_all(formula, clauses);
         }
     }
-    Some(right && formula.is_refuted() != can_begin(&clauses, 0, 1))
+    Some(right && formula.is_refuted() != can_begin(clauses, 0, 1))
+}
+
+// Whether the denial of values is taken as a step.
+fn takes_denial(
+    alloc: Global,
+    formula: &mut Refutation,
+    number: u32,
+    count: usize,
+) -> Option<bool> {
+    let clause = denial(alloc, number, count)?;
+    formula.add_step(&clause, None).ok()
 }
 
 // Steps at random follow exactly where all assignments say so.

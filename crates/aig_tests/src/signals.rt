@@ -56,11 +56,11 @@ static NUMBERS: [Meaning; 8] = [
 ];
 
 fn are(found: &[Lit], wanted: &[u32]) -> bool {
-    found.len() == wanted.len()
-        && found
-            .iter()
-            .zip(wanted.iter())
-            .all(|(literal, number)| literal.value() == *number)
+    let mut right = found.len() == wanted.len();
+    for (literal, number) in found.iter().zip(wanted) {
+        right &= literal.value() == *number;
+    }
+    right
 }
 
 fn means(alloc: Global, circuit: &Circuit, name: &[u8], wanted: Option<&[u32]>) -> bool {
@@ -127,11 +127,11 @@ fn has_signals(alloc: Global, circuit: &Circuit) -> bool {
     let Ok(signals) = signals_of(alloc, circuit) else {
         return false;
     };
-    signals.len() == SIGNALS.len()
-        && signals
-            .iter()
-            .zip(SIGNALS.iter())
-            .all(|(signal, name)| signal.name.as_slice() == *name)
+    let mut right = signals.len() == SIGNALS.len();
+    for (signal, name) in signals.iter().zip(SIGNALS) {
+        right &= signal.name.as_slice() == name;
+    }
+    right
 }
 
 #[test]
