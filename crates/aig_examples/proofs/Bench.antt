@@ -27,7 +27,7 @@ use Rattle.aig_bench.specs.Touched.{Changes, HasOther, IsOnce, Touches}
 use Rattle.aig_bench.specs.state.Latches.{QueuesNextLatches}
 use Rattle.aig_bench.specs.declared.edit.EditFault.{EditFault}
 use Rattle.aig_bench.specs.declared.edit.EditFault.TheVariants as faults
-use Rattle.aig_script.specs.Command.{command_text, edit, edit_text, trace, unroll, value, IsNoCommand}
+use Rattle.aig_script.specs.Command.{command_text, edit, trace, unroll, value, IsNoCommand}
 use Rattle.aig_script.specs.Lines.{lines_of, unfinished, whole}
 use Rattle.aig_script.specs.ScriptLine.{KeepsScriptLine}
 use Rattle.aig_sim.specs.declared.stimulus.row_parser.Shape.TheVariants.{Row}
@@ -240,13 +240,13 @@ other_letter text e other = other (sym (ap (λ (xs : List ℕ). slice_index_or x
 no_command : IsNoCommand (codes "v 00 8")
 no_command (value t l) number e = no_leading_zero t (decimal t) (decimal l) (codes " 8") (leads t number.0)
     (ap (λ (xs : List ℕ). drop 2 xs) e)
-no_command (edit (rewire lhs r0 r1)) number e = other_letter (edit_text (rewire lhs r0 r1)) e (λ f. omega (arith, f))
-no_command (edit (set_reset latch w)) number e = other_letter (edit_text (set_reset latch w)) e (λ f. omega (arith, f))
-no_command (edit (set_bit t p w)) number e = other_letter (edit_text (set_bit t p w)) e (λ f. omega (arith, f))
-no_command (edit (add_frame row)) number e = other_letter (edit_text (add_frame row)) e (λ f. omega (arith, f))
-no_command (edit drop_frame) number e = other_letter (edit_text drop_frame) e (λ f. omega (arith, f))
-no_command (edit (append_gate r0 r1)) number e = other_letter (edit_text (append_gate r0 r1)) e (λ f. omega (arith, f))
-no_command (edit (set_output p l)) number e = other_letter (edit_text (set_output p l)) e (λ f. omega (arith, f))
+no_command (edit (rewire lhs r0 r1)) number e = other_letter (command_text (edit (rewire lhs r0 r1))) e (λ f. omega (arith, f))
+no_command (edit (set_reset latch w)) number e = other_letter (command_text (edit (set_reset latch w))) e (λ f. omega (arith, f))
+no_command (edit (set_bit t p w)) number e = other_letter (command_text (edit (set_bit t p w))) e (λ f. omega (arith, f))
+no_command (edit (add_frame row)) number e = other_letter (command_text (edit (add_frame row))) e (λ f. omega (arith, f))
+no_command (edit drop_frame) number e = other_letter (command_text (edit drop_frame)) e (λ f. omega (arith, f))
+no_command (edit (append_gate r0 r1)) number e = other_letter (command_text (edit (append_gate r0 r1))) e (λ f. omega (arith, f))
+no_command (edit (set_output p l)) number e = other_letter (command_text (edit (set_output p l))) e (λ f. omega (arith, f))
 no_command trace number e = other_letter (codes "t") e (λ f. omega (arith, f))
 no_command unroll number e = other_letter (codes "u") e (λ f. omega (arith, f))
 

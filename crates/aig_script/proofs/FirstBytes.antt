@@ -16,17 +16,17 @@ short_number n small = let d = length-decimal-le 10 n (omega arith) (omega arith
 -- a command is short, or appends a frame
 short : (c : Command) → IsCommand c → (length (command_text c) < 35) ⊎ BeginsRow (command_text c)
 short (edit (edits.rewire lhs r0 r1)) is =
-    inl (let a = short_number lhs is.0 in let b = short_number r0 is.1 in let d = short_number r1 is.2 in simp length-append (omega (arith, a, b, d)))
-short (edit (edits.set_reset latch w)) is = inl (let a = short_number latch is in simp length-append (omega (arith, a)))
+    inl (let a = short_number lhs is.0 in let b = short_number r0 is.1.0 in let d = short_number r1 is.1.1.0 in simp length-append (omega (arith, a, b, d)))
+short (edit (edits.set_reset latch w)) is = inl (let a = short_number latch is.0 in simp length-append (omega (arith, a)))
 short (edit (edits.set_bit t p w)) is =
-    inl (let a = short_number t is.0 in let b = short_number p is.1 in simp length-append (omega (arith, a, b)))
+    inl (let a = short_number t is.0 in let b = short_number p is.1.0 in simp length-append (omega (arith, a, b)))
 short (edit (edits.add_frame row)) is = inr (_, refl)
 short (edit edits.drop_frame) is = inl (omega arith)
 short (edit (edits.append_gate r0 r1)) is =
-    inl (let a = short_number r0 is.0 in let b = short_number r1 is.1 in simp length-append (omega (arith, a, b)))
+    inl (let a = short_number r0 is.0 in let b = short_number r1 is.1.0 in simp length-append (omega (arith, a, b)))
 short (edit (edits.set_output p l)) is =
-    inl (let a = short_number p is.0 in let b = short_number l is.1 in simp length-append (omega (arith, a, b)))
-short (value t l) is = inl (let a = short_number t is.0 in let b = short_number l is.1 in simp length-append (omega (arith, a, b)))
+    inl (let a = short_number p is.0 in let b = short_number l is.1.0 in simp length-append (omega (arith, a, b)))
+short (value t l) is = inl (let a = short_number t is.0 in let b = short_number l is.1.0 in simp length-append (omega (arith, a, b)))
 short trace is = inl (omega arith)
 short unroll is = inl (omega arith)
 

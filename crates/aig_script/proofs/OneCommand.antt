@@ -8,8 +8,8 @@ use Rattle.aig_parts.specs.declared.ternary.Tern.{Tern}
 use Rattle.aig_values.specs.Characters.{character}
 use Rattle.aig_sim.proofs.OneText.{same_row}
 use Rattle.aig_bench.specs.Edit.{Edit, rewire, set_reset, set_bit, add_frame, drop_frame, append_gate, set_output}
-use Rattle.aig_script.specs.Command.{Command, edit, value, trace, unroll, number_field, edit_text, command_text}
-use Rattle.aig_script.specs.Command.{IsNumber, HasNumbers, IsCommand}
+use Rattle.aig_script.specs.Command.{Command, edit, value, trace, unroll, command_text, IsCommand}
+use Rattle.aig_script.specs.state.Fields.{IsNumber, number_field}
 
 one_number : (m n : ℕ) → IsNumber m → IsNumber n → decimal m ≡ decimal n → m ≡ n
 one_number m n p q e = decimal_injective m n (omega arith) (omega arith) e
@@ -51,21 +51,21 @@ command_letter (value t l) = 118
 command_letter trace = 116
 command_letter unroll = 117
 
-one_edit : (x : Edit) (d : Command) → HasNumbers x → IsCommand d → edit_text x ≡ command_text d → edit x ≡ d
+one_edit : (x : Edit) (d : Command) → IsCommand (edit x) → IsCommand d → command_text (edit x) ≡ command_text d → edit x ≡ d
 one_edit (rewire g a b) (edit (rewire h c d)) p q e =
     let s = one_field g h _ _ p.0 q.0 (tails_of_two 119 32 _ _ e) in
-    let t = one_field a c _ _ p.1 q.1 s.1 in
-    let u = one_number b d p.2 q.2 t.1 in
+    let t = one_field a c _ _ p.1.0 q.1.0 s.1 in
+    let u = one_number b d p.1.1.0 q.1.1.0 t.1 in
     cc
 one_edit (rewire g a b) d p q e = absurd (first_differs 119 (command_letter d) _ _ (λ h. omega arith) e)
 one_edit (set_reset l w) (edit (set_reset m v)) p q e =
-    let s = one_field l m _ _ p q (tails_of_two 114 32 _ _ e) in
+    let s = one_field l m _ _ p.0 q.0 (tails_of_two 114 32 _ _ e) in
     let t = one_value w v s.1 in
     cc
 one_edit (set_reset l w) d p q e = absurd (first_differs 114 (command_letter d) _ _ (λ h. omega arith) e)
 one_edit (set_bit t i w) (edit (set_bit u j v)) p q e =
     let r = one_field t u _ _ p.0 q.0 (tails_of_two 115 32 _ _ e) in
-    let s = one_field i j _ _ p.1 q.1 r.1 in
+    let s = one_field i j _ _ p.1.0 q.1.0 r.1 in
     let k = one_value w v s.1 in
     cc
 one_edit (set_bit t i w) d p q e = absurd (first_differs 115 (command_letter d) _ _ (λ h. omega arith) e)
@@ -76,12 +76,12 @@ one_edit drop_frame (edit drop_frame) p q e = refl
 one_edit drop_frame d p q e = absurd (first_differs 45 (command_letter d) _ _ (λ h. omega arith) e)
 one_edit (append_gate a b) (edit (append_gate c d)) p q e =
     let s = one_field a c _ _ p.0 q.0 (tails_of_two 103 32 _ _ e) in
-    let t = one_number b d p.1 q.1 s.1 in
+    let t = one_number b d p.1.0 q.1.0 s.1 in
     cc
 one_edit (append_gate a b) d p q e = absurd (first_differs 103 (command_letter d) _ _ (λ h. omega arith) e)
 one_edit (set_output i l) (edit (set_output j m)) p q e =
     let s = one_field i j _ _ p.0 q.0 (tails_of_two 111 32 _ _ e) in
-    let t = one_number l m p.1 q.1 s.1 in
+    let t = one_number l m p.1.0 q.1.0 s.1 in
     cc
 one_edit (set_output i l) d p q e = absurd (first_differs 111 (command_letter d) _ _ (λ h. omega arith) e)
 
@@ -89,7 +89,7 @@ pub one_command : (c d : Command) → IsCommand c → IsCommand d → command_te
 one_command (edit x) d p q e = one_edit x d p q e
 one_command (value t l) (value u m) p q e =
     let s = one_field t u _ _ p.0 q.0 (tails_of_two 118 32 _ _ e) in
-    let k = one_number l m p.1 q.1 s.1 in
+    let k = one_number l m p.1.0 q.1.0 s.1 in
     cc
 one_command (value t l) (edit x) p q e = sym (one_edit x (value t l) q p (sym e))
 one_command (value t l) d p q e = absurd (first_differs 118 (command_letter d) _ _ (λ h. omega arith) e)

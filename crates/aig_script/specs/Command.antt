@@ -2,6 +2,7 @@
 -- Example: `v 0 8` asks for literal 8 at frame 0; `u` for the unrolled circuit; `v 00 8` is no command; `+ 10` appends
 -- the row `10`, `g 9 2` a gate with the right sides 9 and 2.
 use Rattle.std.specs.Prelude.{◌≢◌, ℕ, ◌^◌, ◌<◌, List, [], ◌∷◌, ◌++◌, codes, map}
+use Rattle.std.specs.List.{AllByRecursion, join_with_byte}
 use Rattle.std.specs.Fmt.{decimal}
 use Rattle.aig_parts.specs.declared.ternary.Tern.{Tern}
 use Rattle.aig_values.specs.Characters.{character}
@@ -14,69 +15,28 @@ pub data Command : Type 0 where
   trace : Command
   unroll : Command
 
--- a number, and a space in front of what follows
-abbrev pub number_field : ℕ → List ℕ → List ℕ
-number_field n rest = decimal n ++ 32 ∷ rest
+-- its letter, its numbers, and the values that follow them
+abbrev pub command_parts : Command → List ℕ × List ℕ × List (List Tern)
+command_parts (edit (rewire lhs r0 r1)) = (codes "w", lhs ∷ r0 ∷ r1 ∷ [], [])
+command_parts (edit (set_reset latch w)) = (codes "r", latch ∷ [], (w ∷ []) ∷ [])
+command_parts (edit (set_bit t p w)) = (codes "s", t ∷ p ∷ [], (w ∷ []) ∷ [])
+command_parts (edit (add_frame row)) = (codes "+", [], row ∷ [])
+command_parts (edit drop_frame) = (codes "-", [], [])
+command_parts (edit (append_gate r0 r1)) = (codes "g", r0 ∷ r1 ∷ [], [])
+command_parts (edit (set_output p l)) = (codes "o", p ∷ l ∷ [], [])
+command_parts (value t l) = (codes "v", t ∷ l ∷ [], [])
+command_parts trace = (codes "t", [], [])
+command_parts unroll = (codes "u", [], [])
 
--- ---- what follows a command's letter
-
--- gate and right sides
-abbrev pub rewire_fields : ℕ → ℕ → ℕ → List ℕ
-rewire_fields lhs r0 r1 = number_field lhs (number_field r0 (decimal r1))
-
--- latch and value
-abbrev pub reset_fields : ℕ → Tern → List ℕ
-reset_fields latch w = number_field latch (character w ∷ [])
-
--- frame, position and value
-abbrev pub bit_fields : ℕ → ℕ → Tern → List ℕ
-bit_fields t p w = number_field t (number_field p (character w ∷ []))
-
--- right sides
-abbrev pub append_fields : ℕ → ℕ → List ℕ
-append_fields r0 r1 = number_field r0 (decimal r1)
-
--- position and literal
-abbrev pub output_fields : ℕ → ℕ → List ℕ
-output_fields p l = number_field p (decimal l)
-
--- frame and literal
-abbrev pub value_fields : ℕ → ℕ → List ℕ
-value_fields t l = number_field t (decimal l)
-
-abbrev pub edit_text : Edit → List ℕ
-edit_text (rewire lhs r0 r1) = codes "w " ++ rewire_fields lhs r0 r1
-edit_text (set_reset latch w) = codes "r " ++ reset_fields latch w
-edit_text (set_bit t p w) = codes "s " ++ bit_fields t p w
-edit_text (add_frame row) = codes "+ " ++ map character row
-edit_text drop_frame = codes "-"
-edit_text (append_gate r0 r1) = codes "g " ++ append_fields r0 r1
-edit_text (set_output p l) = codes "o " ++ output_fields p l
-
+-- these with a space between each two, numbers in decimal and values by their characters
 abbrev pub command_text : Command → List ℕ
-command_text (edit e) = edit_text e
-command_text (value t l) = codes "v " ++ value_fields t l
-command_text trace = codes "t"
-command_text unroll = codes "u"
+command_text c =
+    let parts = command_parts c in
+    join_with_byte 32 (parts.0 ∷ map decimal parts.1 ++ map (map character) parts.2)
 
--- a number of a script is at most 4,294,967,295
-abbrev pub IsNumber : ℕ → Type 0
-IsNumber n = n < 2 ^ 32
-
-abbrev pub HasNumbers : Edit → Type 0
-HasNumbers (rewire lhs r0 r1) = IsNumber lhs × IsNumber r0 × IsNumber r1
-HasNumbers (set_reset latch w) = IsNumber latch
-HasNumbers (set_bit t p w) = IsNumber t × IsNumber p
-HasNumbers (add_frame row) = Unit {0}
-HasNumbers drop_frame = Unit {0}
-HasNumbers (append_gate r0 r1) = IsNumber r0 × IsNumber r1
-HasNumbers (set_output p l) = IsNumber p × IsNumber l
-
+-- its numbers are at most 4,294,967,295
 abbrev pub IsCommand : Command → Type 0
-IsCommand (edit e) = HasNumbers e
-IsCommand (value t l) = IsNumber t × IsNumber l
-IsCommand trace = Unit {0}
-IsCommand unroll = Unit {0}
+IsCommand c = let parts = command_parts c in AllByRecursion (λ n. n < 2 ^ 32) parts.1
 
 -- the line is no command
 abbrev pub IsNoCommand : List ℕ → Type 0

@@ -3,10 +3,10 @@ ghost use Rattle.std.specs.Prelude.{◌≡◌, ◌≢◌, ◌<◌, ℕ, List, �
 ghost use Rattle.std.specs.Fmt.{decimal};
 ghost use Rattle.aig_parts.specs.declared.ternary.Tern.{Tern};
 ghost use Rattle.aig_values.specs.Characters.{character};
-ghost use Rattle.aig_script.specs.Command.{command_text, number_field, rewire_fields, reset_fields, bit_fields};
-ghost use Rattle.aig_script.specs.Command.{append_fields};
-ghost use Rattle.aig_script.specs.Command.{output_fields, value_fields, IsCommand, IsNoCommand, IsNumber};
+ghost use Rattle.aig_script.specs.Command.{command_text, IsCommand, IsNoCommand};
 ghost use Rattle.aig_script.specs.state.CommandMeaning.{meaning};
+ghost use Rattle.aig_script.specs.state.Fields.{IsNumber, number_field, rewire_fields, reset_fields, bit_fields};
+ghost use Rattle.aig_script.specs.state.Fields.{two_fields};
 ghost use Rattle.aig_script.specs.state.Numbers.{EndsNumber};
 ghost use Rattle.aig_script.specs.ScriptLine.{BeginsRow};
 
@@ -180,7 +180,7 @@ fn parse_bit(fields: &[u8]) -> Option<Command>
 /// What follows `g `.
 fn parse_append(fields: &[u8]) -> Option<Command>
     ensures some { IfSome result (λ c. IsCommand (meaning c) × (codes "g " ++ fields.now ≡ command_text (meaning c))) }
-    ensures none { IfNone result ((a b : ℕ) → IsNumber a → IsNumber b → fields.now ≢ append_fields a b) }
+    ensures none { IfNone result ((a b : ℕ) → IsNumber a → IsNumber b → fields.now ≢ two_fields a b) }
 {
     let (right0, last) = parse_field(fields)?;
     Some(Command::AppendGate {
@@ -192,7 +192,7 @@ fn parse_append(fields: &[u8]) -> Option<Command>
 /// What follows `o `.
 fn parse_output(fields: &[u8]) -> Option<Command>
     ensures some { IfSome result (λ c. IsCommand (meaning c) × (codes "o " ++ fields.now ≡ command_text (meaning c))) }
-    ensures none { IfNone result ((p l : ℕ) → IsNumber p → IsNumber l → fields.now ≢ output_fields p l) }
+    ensures none { IfNone result ((p l : ℕ) → IsNumber p → IsNumber l → fields.now ≢ two_fields p l) }
 {
     let (position, literal) = parse_field(fields)?;
     Some(Command::SetOutput {
@@ -204,7 +204,7 @@ fn parse_output(fields: &[u8]) -> Option<Command>
 /// What follows `v `.
 fn parse_question(fields: &[u8]) -> Option<Command>
     ensures some { IfSome result (λ c. IsCommand (meaning c) × (codes "v " ++ fields.now ≡ command_text (meaning c))) }
-    ensures none { IfNone result ((t l : ℕ) → IsNumber t → IsNumber l → fields.now ≢ value_fields t l) }
+    ensures none { IfNone result ((t l : ℕ) → IsNumber t → IsNumber l → fields.now ≢ two_fields t l) }
 {
     let (frame, literal) = parse_field(fields)?;
     Some(Command::Value {
