@@ -61,7 +61,7 @@ module _ {Y T : Type 0} (circuit : Flow Y) (Means : Raw → Result T RunFault �
       record {
         of_file = λ file e ne.
             let reading = answers file e (λ is. let no : ⊥ = cc in no) in
-            of_file Means raw none file (record { spelled = reading.found; circuit = is_circuit }) answer bytes m;
+            of_file Means raw none file (record { spelled = reading.found.1; circuit = is_circuit }) answer bytes m;
         of_circuit = of_circuit Means raw none is_circuit answer bytes m;
         count = omega (arith, count, no_read Means raw none answer bytes m);
       }

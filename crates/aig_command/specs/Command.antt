@@ -9,7 +9,7 @@ use Rattle.aig_parts.specs.declared.fault.Fault.TheVariants as circuits
 use Rattle.aig_bytes.specs.Bytes.{before, after, IsAtEnd, IsBeginning}
 use Rattle.aig_bytes.specs.Flow.{Flow}
 use Rattle.aig_base.specs.Circuit.{IsCircuit}
-use Rattle.aig_format.specs.Spells.{Spells}
+use Rattle.aig_format.specs.Spells.{IsTextOf}
 use Rattle.aig_format.specs.FileReading.{IsReading}
 use Rattle.aig_parts.specs.declared.ternary.Tern.{Tern}
 use Rattle.aig_parts.specs.Limits.{frame_limit}
@@ -21,7 +21,7 @@ use Rattle.aig_command.specs.declared.run_fault.RunFault.TheVariants as run_faul
 
 -- the bytes are a file of this circuit
 pub record IsFileOf (bytes : List ℕ) (raw : Raw) : Type 0 where
-  pub spelled : Spells bytes raw
+  pub spelled : IsTextOf bytes raw
   pub circuit : IsCircuit raw
 
 -- why a circuit file is refused; no read fails

@@ -16,6 +16,7 @@ use Rattle.aig_sim.specs.Dump.{closing}
 use Rattle.aig_sim.specs.DumpHeader.{header}
 use Rattle.aig_sim.proofs.SimulationLemmas.{before_nil}
 use Rattle.aig_command.specs.Command.{IsFileOf}
+use Rattle.aig_command.proofs.CircuitFiles.{file_spells}
 use Rattle.aig_command.proofs.Files.{Answers}
 use Rattle.aig_commands.specs.Wave.{HeaderFirst}
 use Rattle.aig_commands.proofs.Runs.{Dumped}
@@ -72,6 +73,6 @@ module _ {Y X : Type 0} (reader : Flow Y) (out : Flow X) (raw : Raw) where
 pub header_of_file : {Z Y X : Type 0} (circuit : Flow Z) (reader : Flow Y) (out : Flow X) (read : Raw) → Answers circuit (Ok read)
     → HeaderFirst reader out read → (file : List ℕ) (raw : Raw) → circuit.bytes circuit.old ≡ Some file → IsFileOf file raw
     → HeaderFirst reader out raw
-header_of_file circuit reader out read answers first file raw is spelled =
-    let same : read ≡ raw = (answers file is (λ e. let no : ⊥ = cc in no)).only raw spelled.spelled in
+header_of_file circuit reader out read answers first file raw is of_file =
+    let same : read ≡ raw = (answers file is (λ e. let no : ⊥ = cc in no)).only raw (file_spells file raw of_file) in
     subst (HeaderFirst reader out) same first

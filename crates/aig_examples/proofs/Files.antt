@@ -1,5 +1,5 @@
 -- The examples of the definitions of `aig_format`.
-use Rattle.std.proofs.Common.{◌≡◌, inl, ℕ, ◌+◌, ◌≤◌, ◌<◌, List, [], ◌∷◌, None}
+use Rattle.std.proofs.Common.{◌≡◌, ℕ, ◌+◌, ◌≤◌, ◌<◌, List, [], ◌∷◌, None}
 use Rattle.std.proofs.Common.{refl, sym, arith}
 use Rattle.std.specs.Prelude.{codes, true, Ok, length, All}
 use Rattle.std.specs.Fmt.{digits}
@@ -13,7 +13,7 @@ use Rattle.aig_format.specs.Delta.{delta, groups}
 use Rattle.aig_format.specs.Formats.{IsInFormat}
 use Rattle.aig_format.specs.Header.{all_zero, header_line, tail}
 use Rattle.aig_format.specs.Spelling.{WrittenZeros, ascii, lines, names_text, no_zeros, property_lines, short_ascii}
-use Rattle.aig_format.specs.Spells.{HasSpelling, HasWrongCounts, Spells, SpellsAscii, AreSmall, greatest}
+use Rattle.aig_format.specs.Spells.{HasSpelling, HasWrongCounts, Spells, AreSmall, greatest}
 use Rattle.aig_format.specs.declared.reader.header.Format.TheVariants.{Ascii}
 use Rattle.aig_format.specs.state.Reading.{digit_at, digits_at, number_at, number_then}
 
@@ -138,22 +138,20 @@ one_latch_has_spelling = few_have_spelling 1 [] (record { lit = 2; next = 2; res
     (record { lit = 2; next = 2; reset = 0 }) [] (omega arith, omega arith, omega arith) (All-nil _))
     (All-nil _) (omega arith)
 
-both_spell : SpellsAscii (codes "aag 1 0 1 0 0 0 0\n2 2 0\n") one_latch
-    × SpellsAscii (codes "aag 1 0 1 0 0\n2 2\n") one_latch
+both_spell : Spells (codes "aag 1 0 1 0 0 0 0\n2 2 0\n") one_latch × Spells (codes "aag 1 0 1 0 0\n2 2\n") one_latch
 both_spell = (
-  record { parts = one_latch_has_spelling; zeros = written_zeros; spelled = sym long_spelling },
-  record { parts = one_latch_has_spelling; zeros = no_zeros; spelled = sym short_spelling },
+  (one_latch_has_spelling, (Ascii, (written_zeros, sym long_spelling))),
+  (one_latch_has_spelling, (Ascii, (no_zeros, sym short_spelling))),
 )
 
 -- `aag 0 0 0 0 0/` is in the text format
 empty_circuit : IsInFormat Ascii (codes "aag 0 0 0 0 0\n") (parts 0 [] [] [])
 unfolding all_zero ascii digits header_line lines names_text property_lines tail
-empty_circuit = record {
-  parts = few_have_spelling 0 [] [] [] (omega arith) (omega arith) (omega arith) (omega arith) (All-nil _) (All-nil _)
-      (All-nil _) (omega arith);
-  zeros = no_zeros;
-  spelled = refl;
-}
+empty_circuit = (
+  few_have_spelling 0 [] [] [] (omega arith) (omega arith) (omega arith) (omega arith) (All-nil _) (All-nil _)
+  (All-nil _) (omega arith),
+  (no_zeros, refl),
+)
 
 -- `aag 1 1 0 1 0/2/4/` is spelled, and `Range` is its first fault
 abbrev output_of_four : Raw
@@ -161,12 +159,11 @@ output_of_four = parts 1 (2 ∷ []) [] (4 ∷ [])
 
 four_is_spelled : Spells (codes "aag 1 1 0 1 0\n2\n4\n") output_of_four
 unfolding all_zero ascii digits header_line lines names_text property_lines tail
-four_is_spelled = inl (record {
-  parts = few_have_spelling 1 (2 ∷ []) [] (4 ∷ []) (omega arith) (omega arith) (omega arith) (omega arith)
-      (small_alone 2 (omega arith)) (All-nil _) (small_alone 4 (omega arith)) (omega arith);
-  zeros = no_zeros;
-  spelled = refl;
-})
+four_is_spelled = (
+  few_have_spelling 1 (2 ∷ []) [] (4 ∷ []) (omega arith) (omega arith) (omega arith) (omega arith)
+  (small_alone 2 (omega arith)) (All-nil _) (small_alone 4 (omega arith)) (omega arith),
+  (Ascii, (no_zeros, refl)),
+)
 
 four_is_over_range : IsFirstFault output_of_four faults.Range
 four_is_over_range = record { applies = (1, 4, omega arith, refl, omega arith); first = none }

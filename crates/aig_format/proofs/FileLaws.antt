@@ -1,5 +1,5 @@
 -- The file that is read is spelled so, and what is spelled so is read.
-use Rattle.std.proofs.Common.{◌≡◌, inl, inr, ℕ, ◌+◌, Bool, true, false, cond, not, eqb, eq-eqb}
+use Rattle.std.proofs.Common.{◌≡◌, ℕ, ◌+◌, Bool, true, false, cond, not, eqb, eq-eqb}
 use Rattle.std.proofs.Common.{subst, List, [], ◌++◌, length, Result, Ok, Err, refl, sym, ap, ◌∙◌, arith}
 use Rattle.std.proofs.lemmas.Bool.{ltb-false, le-ltb, eqb-true, not-false}
 use Rattle.aig_parts.specs.declared.raw.Raw.{Raw}
@@ -10,7 +10,8 @@ use Rattle.aig_format.specs.Header.{are_wrong, counts_of, header_line}
 use Rattle.aig_format.specs.Spelling.{WrittenZeros, ascii, binary, literal_line, latch_line, implicit_latch_line}
 use Rattle.aig_format.specs.Spelling.{gate_line}
 use Rattle.aig_format.specs.Spelling.{gate_deltas, lines, properties_of, names_text}
-use Rattle.aig_format.specs.Spells.{SpellsAscii, SpellsBinary, Spells, HasWrongCounts}
+use Rattle.aig_format.specs.Spells.{IsTextIn, Spells, HasWrongCounts}
+use Rattle.aig_format.specs.Formats.{IsInFormat}
 use Rattle.aig_format.specs.state.Reading.{Refusal}
 use Rattle.aig_format.specs.state.ReadingSections.{header_at}
 use Rattle.aig_format.specs.state.ReadingFile.{body_at, FileRefusal, token, counts, and_then, file_at}
@@ -51,25 +52,27 @@ ok_is p q e = cc
 
 -- the counts of the parts in place of those of the header
 ascii_spells : (bytes : List ℕ) (c : Counts) (left : List ℕ) (raw : Raw) → HeaderRead bytes Ascii c left
-    → are_wrong Ascii c ≡ false → AsciiRead c left raw → SpellsAscii bytes raw
+    → are_wrong Ascii c ≡ false → AsciiRead c left raw → IsInFormat Ascii bytes raw
 unfolding ascii
 ascii_spells bytes c left raw h fine r =
     let is : c ≡ counts_of raw = sym r.counted in
     let h2 : HeaderRead bytes Ascii (counts_of raw) left = subst (λ (k : Counts). HeaderRead bytes Ascii k left) is h in
     let fine2 : are_wrong Ascii (counts_of raw) ≡ false = subst (λ (k : Counts). are_wrong Ascii k ≡ false) is fine in
     let r2 : AsciiRead (counts_of raw) left raw = subst (λ (k : Counts). AsciiRead k left raw) is r in
-    record {
-      parts = record {
+    (
+      record {
         formed = formed_from raw h2.within r2.sum r2.entries r2.once;
         numbers = r2.numbers;
         room = ltb-false _ _ fine2;
-      };
-      zeros = record { counts = h2.least; resets = r2.resets };
-      spelled = r2.spelled bytes (header_line Ascii h2.least (counts_of raw)) h2.spelled;
-    }
+      },
+      (
+        record { counts = h2.least; resets = r2.resets },
+        r2.spelled bytes (header_line Ascii h2.least (counts_of raw)) h2.spelled,
+      ),
+    )
 
 binary_spells : (bytes : List ℕ) (c : Counts) (left : List ℕ) (raw : Raw) → HeaderRead bytes Binary c left
-    → are_wrong Binary c ≡ false → BinaryRead c left raw → SpellsBinary bytes raw
+    → are_wrong Binary c ≡ false → BinaryRead c left raw → IsInFormat Binary bytes raw
 unfolding binary
 binary_spells bytes c left raw h fine r =
     let is : c ≡ counts_of raw = sym r.counted in
@@ -80,16 +83,18 @@ binary_spells bytes c left raw h fine r =
     let exact : raw.max_var ≡ length raw.inputs + length raw.latches + length raw.gates =
     eqb-true _ _ (not-false _ fine2) in
     let both = binary_numbers left raw r2 h2.within exact in
-    record {
-      parts = record {
+    (
+      record {
         formed = formed_from raw h2.within r2.fits.within r2.entries r2.once;
         numbers = both.0;
         room = omega (arith, exact);
-      };
-      ready = both.1;
-      zeros = record { counts = h2.least; resets = r2.resets };
-      spelled = r2.spelled bytes (header_line Binary h2.least (counts_of raw)) h2.spelled;
-    }
+      },
+      (
+        record { counts = h2.least; resets = r2.resets },
+        both.1,
+        r2.spelled bytes (header_line Binary h2.least (counts_of raw)) h2.spelled,
+      ),
+    )
 
 pub file_takes : (bytes : List ℕ) (raw : Raw) → file_at bytes ≡ Ok raw → Spells bytes raw
 unfolding file_at
@@ -100,8 +105,10 @@ file_takes bytes raw e =
   where
     by_body : (f : Format) (c : Counts) (left : List ℕ) (rest : List ℕ) → HeaderRead bytes f c left
         → are_wrong f c ≡ false → body_at f c left ≡ Ok (raw, rest) → Spells bytes raw
-    by_body Ascii c left rest h fine b = inl (ascii_spells bytes c left raw h fine (ascii_take c left raw rest b))
-    by_body Binary c left rest h fine b = inr (binary_spells bytes c left raw h fine (binary_take c left raw rest b))
+    by_body Ascii c left rest h fine b =
+        let s = ascii_spells bytes c left raw h fine (ascii_take c left raw rest b) in (s.0, (Ascii, s.1))
+    by_body Binary c left rest h fine b =
+        let s = binary_spells bytes c left raw h fine (binary_take c left raw rest b) in (s.0, (Binary, s.1))
 
     by_wrong : (f : Format) (c : Counts) (left : List ℕ) → header_at bytes ≡ Ok ((f, c), left) → (b : Bool)
         → are_wrong f c ≡ b
@@ -138,35 +145,41 @@ binary_pieces zeros raw =
     (lines implicit_latch_line zeros.resets raw.latches ++
     (properties_of raw ++ (flat_map gate_deltas raw.gates ++ t)))) (append-nil (names_text raw.symbols raw.comment))
 
-ascii_is_read : (bytes : List ℕ) (raw : Raw) → SpellsAscii bytes raw → file_at bytes ≡ is_read raw
+ascii_is_read : (bytes : List ℕ) (raw : Raw) → IsInFormat Ascii bytes raw → file_at bytes ≡ is_read raw
 unfolding file_at
 ascii_is_read bytes raw s =
-    let z = s.zeros in
-    let fine : are_wrong Ascii (counts_of raw) ≡ false = le-ltb _ _ s.parts.room in
-    ap file_at (s.spelled ∙ ascii_pieces z raw)
+    let parts = s.0 in
+    let z = s.1.0 in
+    let fine : are_wrong Ascii (counts_of raw) ≡ false = le-ltb _ _ parts.room in
+    ap file_at (s.1.1 ∙ ascii_pieces z raw)
     ∙ rw (
-      header_again Ascii z.counts (counts_of raw) (ascii_rest z.resets raw) (within_from raw s.parts.formed),
+      header_again Ascii z.counts (counts_of raw) (ascii_rest z.resets raw) (within_from raw parts.formed),
       fine,
-      ascii_again z.resets raw s.parts,
+      ascii_again z.resets raw parts,
     ) refl
 
-binary_is_read : (bytes : List ℕ) (raw : Raw) → SpellsBinary bytes raw → file_at bytes ≡ is_read raw
+binary_is_read : (bytes : List ℕ) (raw : Raw) → IsInFormat Binary bytes raw → file_at bytes ≡ is_read raw
 unfolding file_at
 binary_is_read bytes raw s =
-    let z = s.zeros in
+    let parts = s.0 in
+    let z = s.1.0 in
+    let ready = s.1.1 in
     let same : eqb raw.max_var (length raw.inputs + length raw.latches + length raw.gates) ≡ true =
-    eq-eqb _ _ (exact_from raw s.ready) in
+    eq-eqb _ _ (exact_from raw ready) in
     let fine : are_wrong Binary (counts_of raw) ≡ false = ap not same in
-    ap file_at (s.spelled ∙ binary_pieces z raw)
+    ap file_at (s.1.2 ∙ binary_pieces z raw)
     ∙ rw (
-      header_again Binary z.counts (counts_of raw) (binary_rest z.resets raw) (within_from raw s.parts.formed),
+      header_again Binary z.counts (counts_of raw) (binary_rest z.resets raw) (within_from raw parts.formed),
       fine,
-      binary_again z.resets raw s.parts s.ready,
+      binary_again z.resets raw parts ready,
     ) refl
 
 pub file_again : (bytes : List ℕ) (raw : Raw) → Spells bytes raw → file_at bytes ≡ is_read raw
-file_again bytes raw (inl s) = ascii_is_read bytes raw s
-file_again bytes raw (inr s) = binary_is_read bytes raw s
+file_again bytes raw s = by_format s.1.0 s.1.1
+  where
+    by_format : (format : Format) → IsTextIn format bytes raw → file_at bytes ≡ is_read raw
+    by_format Ascii text = ascii_is_read bytes raw (s.0, text)
+    by_format Binary text = binary_is_read bytes raw (s.0, text)
 
 -- ---- wrong counts
 

@@ -1,5 +1,5 @@
 -- The header line names the format.
-use Rattle.std.proofs.Common.{◌≡◌, inl, inr, ℕ, List, ◌++◌, get_or, Ok, refl, ap, ◌∙◌, arith}
+use Rattle.std.proofs.Common.{◌≡◌, ℕ, List, ◌++◌, get_or, Ok, refl, sym, ap, subst, ◌∙◌, arith}
 use Rattle.aig_parts.specs.declared.raw.Raw.{Raw}
 use Rattle.aig_format.specs.declared.reader.header.Format.{Format}
 use Rattle.aig_format.specs.declared.reader.header.Format.TheVariants.{Ascii, Binary}
@@ -7,7 +7,7 @@ use Rattle.aig_format.specs.declared.reader.header.Counts.{Counts}
 use Rattle.aig_format.specs.Formats.{IsInFormat}
 use Rattle.aig_format.specs.Header.{header_line}
 use Rattle.aig_format.specs.Spelling.{ascii, binary}
-use Rattle.aig_format.specs.Spells.{Spells, SpellsAscii, SpellsBinary}
+use Rattle.aig_format.specs.Spells.{IsTextIn, Spells}
 use Rattle.aig_format.specs.state.ReadingSections.{header_at}
 use Rattle.aig_format.proofs.HeaderLaws.{header_takes}
 
@@ -16,13 +16,17 @@ second : Format → ℕ
 second Ascii = 97
 second Binary = 105
 
-second_of_ascii : (bytes : List ℕ) (raw : Raw) → SpellsAscii bytes raw → get_or bytes 1 0 ≡ 97
-unfolding ascii header_line
-second_of_ascii bytes raw s = ap (λ (xs : List ℕ). get_or xs 1 0) s.spelled
+one_format : (f g : Format) → second f ≡ second g → f ≡ g
+unfolding second
+one_format Ascii Ascii e = refl
+one_format Ascii Binary e = absurd (omega (arith, e))
+one_format Binary Ascii e = absurd (omega (arith, e))
+one_format Binary Binary e = refl
 
-second_of_binary : (bytes : List ℕ) (raw : Raw) → SpellsBinary bytes raw → get_or bytes 1 0 ≡ 105
-unfolding binary header_line
-second_of_binary bytes raw s = ap (λ (xs : List ℕ). get_or xs 1 0) s.spelled
+second_of_text : (f : Format) (bytes : List ℕ) (raw : Raw) → IsTextIn f bytes raw → get_or bytes 1 0 ≡ second f
+unfolding ascii binary header_line second
+second_of_text Ascii bytes raw text = ap (λ (xs : List ℕ). get_or xs 1 0) text.1
+second_of_text Binary bytes raw text = ap (λ (xs : List ℕ). get_or xs 1 0) text.2
 
 second_of_line : (f : Format) (least : ℕ) (c : Counts) (rest : List ℕ) → get_or (header_line f least c ++ rest) 1 0 ≡ second f
 unfolding header_line second
@@ -38,10 +42,7 @@ second_read bytes f c rest e =
 -- what is spelled after such a header line is spelled in its format
 pub format_read : (bytes : List ℕ) (f : Format) (c : Counts) (rest : List ℕ) → header_at bytes ≡ Ok ((f, c), rest)
     → (raw : Raw) → Spells bytes raw → IsInFormat f bytes raw
-unfolding second
-format_read bytes Ascii c rest e raw (inl s) = s
-format_read bytes Ascii c rest e raw (inr s) =
-    absurd (omega (arith, second_of_binary bytes raw s, second_read bytes Ascii c rest e))
-format_read bytes Binary c rest e raw (inl s) =
-    absurd (omega (arith, second_of_ascii bytes raw s, second_read bytes Binary c rest e))
-format_read bytes Binary c rest e raw (inr s) = s
+format_read bytes f c rest e raw s =
+    let same : s.1.0 ≡ f =
+    one_format s.1.0 f (sym (second_of_text s.1.0 bytes raw s.1.1) ∙ second_read bytes f c rest e) in
+    (s.0, subst (λ (g : Format). IsTextIn g bytes raw) same s.1.1)

@@ -23,8 +23,9 @@ use Rattle.aig_base.specs.Sections.{definitions, uses}
 use Rattle.aig_base.specs.Sound.{IsInRange, IsDefinition, IsReset, StandsTwice}
 use Rattle.aig_base.proofs.lists.Joined.{All-left, All-right, All-unmap, All-unflat}
 use Rattle.aig_format.specs.Spelling.{no_zeros, short_ascii, short_binary}
-use Rattle.aig_format.specs.Spells.{greatest, AreSmall, HasSmallNumbers, HasSpelling, SpellsAscii}
-use Rattle.aig_format.specs.Spells.{SpellsBinary}
+use Rattle.aig_format.specs.Spells.{greatest, AreSmall, HasSmallNumbers, HasSpelling, IsTextOf, Spells}
+use Rattle.aig_format.specs.Formats.{IsInFormat}
+use Rattle.aig_format.specs.declared.reader.header.Format.TheVariants.{Ascii, Binary}
 
 -- ---- numbers
 
@@ -130,9 +131,11 @@ room_of raw c =
 pub has_spelling : (raw : Raw) → IsCircuit raw → HasSpelling raw
 has_spelling raw c = record { formed = c.formed; numbers = small_numbers raw c; room = room_of raw c }
 
-pub ascii_round_trip : (raw : Raw) → IsCircuit raw → SpellsAscii (short_ascii raw) raw
-ascii_round_trip raw c = record { parts = has_spelling raw c; zeros = no_zeros; spelled = refl }
+pub text_spells : (bytes : List ℕ) (raw : Raw) → IsCircuit raw → IsTextOf bytes raw → Spells bytes raw
+text_spells bytes raw c text = (has_spelling raw c, text)
 
-pub binary_round_trip : (raw : Raw) → IsCircuit raw → IsBinaryReady raw → SpellsBinary (short_binary raw) raw
-binary_round_trip raw c ready =
-    record { parts = has_spelling raw c; ready = ready; zeros = no_zeros; spelled = refl }
+pub ascii_round_trip : (raw : Raw) → IsCircuit raw → IsInFormat Ascii (short_ascii raw) raw
+ascii_round_trip raw c = (has_spelling raw c, (no_zeros, refl))
+
+pub binary_round_trip : (raw : Raw) → IsCircuit raw → IsBinaryReady raw → IsInFormat Binary (short_binary raw) raw
+binary_round_trip raw c ready = (has_spelling raw c, (no_zeros, ready, refl))

@@ -4,13 +4,11 @@ use Rattle.std.specs.Prelude.{ℕ, List, Result, Ok, Err}
 use Rattle.aig_parts.specs.declared.fault.Fault.{Fault}
 use Rattle.aig_parts.specs.declared.raw.Raw.{Raw}
 use Rattle.aig_format.specs.declared.reader.header.Format.{Format}
-use Rattle.aig_format.specs.declared.reader.header.Format.TheVariants.{Ascii, Binary}
-use Rattle.aig_format.specs.Spells.{SpellsAscii, SpellsBinary}
+use Rattle.aig_format.specs.Spells.{HasSpelling, IsTextIn}
 
 -- the bytes are a file of the parts in this format
 abbrev pub IsInFormat : Format → List ℕ → Raw → Type 0
-IsInFormat Ascii bytes raw = SpellsAscii bytes raw
-IsInFormat Binary bytes raw = SpellsBinary bytes raw
+IsInFormat format bytes raw = HasSpelling raw × IsTextIn format bytes raw
 
 -- an answer without the format in which the circuit was read
 abbrev pub without_format : Result (Format × Raw) Fault → Result Raw Fault

@@ -1,11 +1,12 @@
 -- What bytes spell. What makes parts a circuit, such as the range of literals and what a reset may be, is no part of
 -- it. Where the standard is silent, the greatest number is our own choice.
 -- Example: both files above spell the same latch.
-use Rattle.std.specs.Prelude.{◌≡◌, ◌⊎◌, ℕ, ◌+◌, ◌≤◌, List, ◌++◌, length, true, All}
+use Rattle.std.specs.Prelude.{◌≡◌, ℕ, ◌+◌, ◌≤◌, List, ◌++◌, length, true, All}
 use Rattle.aig_parts.specs.declared.raw.Raw.{Raw}
 use Rattle.aig_parts.specs.Formed.{IsFormed}
 use Rattle.aig_base.specs.Renumbered.{IsBinaryReady}
 use Rattle.aig_format.specs.declared.reader.header.Format.{Format}
+use Rattle.aig_format.specs.declared.reader.header.Format.TheVariants.{Ascii, Binary}
 use Rattle.aig_format.specs.declared.reader.header.Counts.{Counts}
 use Rattle.aig_format.specs.Header.{AreWithin, are_wrong, header_line}
 use Rattle.aig_format.specs.Spelling.{WrittenZeros, ascii, binary}
@@ -34,21 +35,17 @@ pub record HasSpelling (raw : Raw) : Type 0 where
   pub numbers : HasSmallNumbers raw
   pub room : length raw.inputs + length raw.latches + length raw.gates ≤ raw.max_var
 
--- the bytes are an ASCII file of these parts
-pub record SpellsAscii (bytes : List ℕ) (raw : Raw) : Type 0 where
-  pub parts : HasSpelling raw
-  pub zeros : WrittenZeros
-  pub spelled : bytes ≡ ascii zeros raw
+-- the bytes are the text of these parts in this format; a binary text leaves out inputs, latches and left sides
+abbrev pub IsTextIn : Format → List ℕ → Raw → Type 0
+IsTextIn Ascii bytes raw = (zeros : WrittenZeros) × (bytes ≡ ascii zeros raw)
+IsTextIn Binary bytes raw = (zeros : WrittenZeros) × IsBinaryReady raw × (bytes ≡ binary zeros raw)
 
--- the bytes are a binary file of these parts, whose inputs, latches and left sides are left out
-pub record SpellsBinary (bytes : List ℕ) (raw : Raw) : Type 0 where
-  pub parts : HasSpelling raw
-  pub ready : IsBinaryReady raw
-  pub zeros : WrittenZeros
-  pub spelled : bytes ≡ binary zeros raw
+-- in one of the two formats
+abbrev pub IsTextOf : List ℕ → Raw → Type 0
+IsTextOf bytes raw = (format : Format) × IsTextIn format bytes raw
 
 abbrev pub Spells : List ℕ → Raw → Type 0
-Spells bytes raw = SpellsAscii bytes raw ⊎ SpellsBinary bytes raw
+Spells bytes raw = HasSpelling raw × IsTextOf bytes raw
 
 -- the header line is spelled within its limits, and its counts do not go together
 pub record HasWrongCounts (bytes : List ℕ) : Type 0 where

@@ -5,7 +5,9 @@ ghost use Rattle.aig_base.specs.Circuit.{IsCircuit};
 ghost use Rattle.aig_base.specs.Renumbered.{IsBinaryReady};
 ghost use Rattle.aig_format.specs.Delta.{delta};
 ghost use Rattle.aig_format.specs.Spelling.{short_ascii, short_binary};
-ghost use Rattle.aig_format.specs.Spells.{Spells, SpellsAscii, SpellsBinary};
+ghost use Rattle.aig_format.specs.declared.reader.header.Format.TheVariants.{Ascii, Binary};
+ghost use Rattle.aig_format.specs.Formats.{IsInFormat};
+ghost use Rattle.aig_format.specs.Spells.{IsTextOf, Spells};
 
 /// No bytes spell two different parts, in one format or in both.
 pub fn law_of_one_reading()
@@ -23,8 +25,10 @@ pub fn law_of_deltas()
         → (m ≡ n) × (more ≡ others) }
 {}
 
-/// What the writers write spells the circuit, so that it reads back as the same circuit.
+/// What the writers write spells the circuit, so that it reads back as the same circuit. A text of a circuit spells it:
+/// its numbers are small enough, and there are enough variables.
 pub fn law_of_round_trip()
-    ensures ascii { (raw : Raw) → IsCircuit raw → SpellsAscii (short_ascii raw) raw }
-    ensures binary { (raw : Raw) → IsCircuit raw → IsBinaryReady raw → SpellsBinary (short_binary raw) raw }
+    ensures ascii { (raw : Raw) → IsCircuit raw → IsInFormat Ascii (short_ascii raw) raw }
+    ensures binary { (raw : Raw) → IsCircuit raw → IsBinaryReady raw → IsInFormat Binary (short_binary raw) raw }
+    ensures text { (bytes : List ℕ) (raw : Raw) → IsCircuit raw → IsTextOf bytes raw → Spells bytes raw }
 {}
