@@ -18,7 +18,7 @@ use Rattle.aig_base.specs.Value as value
 use Rattle.aig_base.specs.Value.{Value}
 use Rattle.aig_base.specs.declared.select.PropertySection.TheVariants as sections
 use Rattle.aig_format.specs.Delta.{delta, groups}
-use Rattle.aig_format.specs.Header.{all_zero, header_line, tail}
+use Rattle.aig_format.specs.Header.{header_line, tail}
 use Rattle.aig_format.specs.Spelling.{ascii, binary, lines, names_text, property_lines}
 use Rattle.aig_format.specs.declared.reader.header.Format.TheVariants.{Ascii, Binary}
 use Rattle.aig_sat.specs.declared.proof.fault.ProofFault.TheVariants as proof_faults
@@ -125,7 +125,7 @@ named_entries = refl
 -- `aag 1 1 0 1 0/2/3/` from outputs: `aag 1 1 0 0 0 1/2/3/`
 selected_output : Selects sections.Outputs sections.Bad [] Ascii (record one_input { outputs = 3 ∷ [] }) (Ok tt)
     (codes "aag 1 1 0 0 0 1\n2\n3\n")
-unfolding all_zero ascii digits header_line lines names_text property_lines tail
+unfolding ascii digits header_line lines names_text property_lines tail
 selected_output = ((omega arith, λ k d lt. absurd (omega (arith, lt))), refl)
 
 -- `examples/two_gates.aag` to binary: `aig 4 2 0 1 2/8/`, then `02 02 02 04`
@@ -133,7 +133,7 @@ not_ready : IsBinaryReady two_gates → ⊥
 not_ready ready = let e = ready.in_order in let no : ⊥ = cc in no
 
 converted : Converts Binary two_gates (Ok tt) (codes "aig 4 2 0 1 2\n8\n" ++ 2 ∷ 2 ∷ 2 ∷ 4 ∷ [])
-unfolding all_zero binary delta digits groups header_line lines names_text property_lines renumbered_literal renumbered_variable tail
+unfolding binary delta digits groups header_line lines names_text property_lines renumbered_literal renumbered_variable tail
 converted = inr (not_ready, (3 ∷ 4 ∷ [], canonical, refl))
 
 -- a latch that negates itself, with outputs 2 and 3, for 3 frames: `aag 0 0 0 6 0/0/1/1/0/0/1/`
@@ -145,7 +145,7 @@ negating_latch = record one_input {
 }
 
 unrolled_latch : Unrolls 3 Ascii negating_latch (Ok tt) (codes "aag 0 0 0 6 0\n0\n1\n1\n0\n0\n1\n")
-unfolding all_zero ascii digits frame_literal header_line latch_literal lines names_text property_lines tail
+unfolding ascii digits frame_literal header_line latch_literal lines names_text property_lines tail
 unrolled_latch = (
   unrolled negating_latch [] 3,
   (
@@ -218,7 +218,7 @@ written_witness = (
 kept_bench : (circuit_text (edited (record { circuit = two_gates; rows = row_11 }) (append_gate 9 4))
     ≡ codes "aag 5 2 0 1 3\n2\n4\n8\n8 6 2\n6 2 4\n10 9 4\n")
     × (stimulus_rows_text (edited (record { circuit = two_gates; rows = row_11 }) (append_gate 9 4)) ≡ codes "11\n")
-unfolding all_zero ascii digits header_line lines names_text property_lines tail
+unfolding ascii digits header_line lines names_text property_lines tail
 kept_bench = (refl, refl)
 
 -- `aag 1 1 0 0 0 1/2/2/` and `1/b0//1/./`: `confirmed/`, with its trace ` 1  /confirmed/`

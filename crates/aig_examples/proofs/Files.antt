@@ -3,18 +3,20 @@ use Rattle.std.proofs.Common.{◌≡◌, ℕ, ◌+◌, ◌≤◌, ◌<◌, List,
 use Rattle.std.proofs.Common.{refl, sym, arith}
 use Rattle.std.specs.Prelude.{codes, true, Ok, length, All}
 use Rattle.std.specs.Fmt.{digits}
-use Rattle.std.proofs.lemmas.List.Elements.{All-cons, All-nil}
+use Rattle.std.proofs.lemmas.List.Elements.{All-cons, All-from_recursion, All-nil}
 use Rattle.aig_parts.specs.declared.fault.Fault.{Fault}
 use Rattle.aig_parts.specs.declared.fault.Fault.TheVariants as faults
 use Rattle.aig_parts.specs.declared.latch.Latch.{Latch}
 use Rattle.aig_parts.specs.declared.raw.Raw.{Raw}
+use Rattle.aig_parts.specs.Formed.{limit}
 use Rattle.aig_base.specs.FirstFault.{fault_order, FaultApplies, IsFirstFault}
 use Rattle.aig_format.specs.Delta.{delta, groups}
 use Rattle.aig_format.specs.Formats.{IsInFormat}
-use Rattle.aig_format.specs.Header.{all_zero, header_line, tail}
+use Rattle.aig_format.specs.Header.{header_line, tail}
 use Rattle.aig_format.specs.Spelling.{WrittenZeros, ascii, lines, names_text, no_zeros, property_lines, short_ascii}
-use Rattle.aig_format.specs.Spells.{HasSpelling, HasWrongCounts, Spells, AreSmall, greatest}
+use Rattle.aig_format.specs.Spells.{HasSpelling, HasWrongCounts, Spells, greatest}
 use Rattle.aig_format.specs.declared.reader.header.Format.TheVariants.{Ascii}
+use Rattle.aig_format.proofs.SmallNumbers.{AreSmall, in_all}
 use Rattle.aig_format.specs.state.Reading.{digit_at, digits_at, number_at, number_then}
 
 -- 300 is `ac 02`
@@ -29,31 +31,13 @@ number_at_front = refl
 
 -- `aag 1 2 0 0 0/` is wrong: two inputs want two variables
 two_inputs_of_one : HasWrongCounts (codes "aag 1 2 0 0 0\n")
-unfolding all_zero digits header_line tail
+unfolding digits header_line tail
 two_inputs_of_one = record {
   format = Ascii;
-  counts = record {
-    max_var = 1;
-    inputs = 2;
-    latches = 0;
-    outputs = 0;
-    gates = 0;
-    bad = 0;
-    constraints = 0;
-    justice = 0;
-    fairness = 0;
-  };
-  within = record {
-    max_var = omega arith;
-    inputs = omega arith;
-    latches = omega arith;
-    outputs = omega arith;
-    gates = omega arith;
-    bad = omega arith;
-    constraints = omega arith;
-    justice = omega arith;
-    fairness = omega arith;
-  };
+  counts = 1 ∷ 2 ∷ 0 ∷ 0 ∷ 0 ∷ 0 ∷ 0 ∷ 0 ∷ 0 ∷ [];
+  nine = refl;
+  within = All-from_recursion (λ n. n ≤ limit) _
+      (omega arith, (omega arith, (omega arith, (omega arith, (omega arith, (omega arith, (omega arith, (omega arith, (omega arith, tt)))))))));
   least = 0;
   rest = [];
   spelled = refl;
@@ -98,7 +82,7 @@ few_have_spelling m inputs latches outputs few_m few_i few_l few_o small_i small
     symbols = All-nil _;
     names = λ i j d lt within. absurd (omega (arith, within));
   };
-  numbers = record {
+  numbers = in_all (parts m inputs latches outputs) (record {
     inputs = small_i;
     latches = small_l;
     outputs = small_o;
@@ -107,7 +91,7 @@ few_have_spelling m inputs latches outputs few_m few_i few_l few_o small_i small
     justice = All-nil _;
     fairness = All-nil _;
     gates = All-nil _;
-  };
+  });
   room = room;
 }
 
@@ -123,11 +107,11 @@ abbrev written_zeros : WrittenZeros
 written_zeros = record { counts = 2; resets = true ∷ [] }
 
 long_spelling : ascii written_zeros one_latch ≡ codes "aag 1 0 1 0 0 0 0\n2 2 0\n"
-unfolding all_zero ascii digits header_line lines names_text property_lines tail
+unfolding ascii digits header_line lines names_text property_lines tail
 long_spelling = refl
 
 short_spelling : short_ascii one_latch ≡ codes "aag 1 0 1 0 0\n2 2\n"
-unfolding all_zero ascii digits header_line lines names_text property_lines tail
+unfolding ascii digits header_line lines names_text property_lines tail
 short_spelling = refl
 
 -- both spell the same latch
@@ -146,10 +130,10 @@ both_spell = (
 
 -- `aag 0 0 0 0 0/` is in the text format
 empty_circuit : IsInFormat Ascii (codes "aag 0 0 0 0 0\n") (parts 0 [] [] [])
-unfolding all_zero ascii digits header_line lines names_text property_lines tail
+unfolding ascii digits header_line lines names_text property_lines tail
 empty_circuit = (
   few_have_spelling 0 [] [] [] (omega arith) (omega arith) (omega arith) (omega arith) (All-nil _) (All-nil _)
-  (All-nil _) (omega arith),
+      (All-nil _) (omega arith),
   (no_zeros, refl),
 )
 
@@ -158,10 +142,10 @@ abbrev output_of_four : Raw
 output_of_four = parts 1 (2 ∷ []) [] (4 ∷ [])
 
 four_is_spelled : Spells (codes "aag 1 1 0 1 0\n2\n4\n") output_of_four
-unfolding all_zero ascii digits header_line lines names_text property_lines tail
+unfolding ascii digits header_line lines names_text property_lines tail
 four_is_spelled = (
   few_have_spelling 1 (2 ∷ []) [] (4 ∷ []) (omega arith) (omega arith) (omega arith) (omega arith)
-  (small_alone 2 (omega arith)) (All-nil _) (small_alone 4 (omega arith)) (omega arith),
+      (small_alone 2 (omega arith)) (All-nil _) (small_alone 4 (omega arith)) (omega arith),
   (Ascii, (no_zeros, refl)),
 )
 

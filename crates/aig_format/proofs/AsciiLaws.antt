@@ -7,9 +7,9 @@ use Rattle.aig_parts.specs.declared.raw.Raw.{Raw}
 use Rattle.aig_parts.specs.declared.gate.Gate.{Gate}
 use Rattle.aig_parts.specs.Formed as formed
 use Rattle.aig_format.specs.declared.reader.header.Counts.{Counts}
-use Rattle.aig_format.specs.Header.{counts_of}
+use Rattle.aig_format.specs.state.HeaderCounts.{counted}
 use Rattle.aig_format.specs.Spelling.{literal_line, latch_line, gate_line, lines, properties_of, names_text}
-use Rattle.aig_format.specs.Spells.{HasSmallNumbers, HasSpelling}
+use Rattle.aig_format.specs.Spells.{HasSpelling}
 use Rattle.aig_format.specs.state.ReadingSections.{latch_at, gate_at, lines_at}
 use Rattle.aig_format.specs.state.ReadingFile.{ascii_at}
 use Rattle.aig_format.proofs.Steps.{done_is}
@@ -19,6 +19,7 @@ use Rattle.aig_format.proofs.Lines.{lines_take, lines_again, plain_lines, all_fr
 use Rattle.aig_format.proofs.Lines.{IsLatch, IsGateWithin, latch_takes, latch_again, gate_takes, gate_again}
 use Rattle.aig_format.proofs.Names.{IsSymbolEntry}
 use Rattle.aig_format.proofs.SectionLaws.{literals_take, literals_again, properties_take, properties_again, text_of}
+use Rattle.aig_format.proofs.SmallNumbers.{HasSmallNumbers, by_section}
 use Rattle.aig_format.proofs.SymbolLaws.{AreOnce, names_take, names_again}
 use Rattle.aig_format.proofs.Parts.{properties_in, names_in, within_from, small_counts, entries_from, fits_properties}
 use Rattle.aig_format.proofs.Parts.{counted_properties}
@@ -50,7 +51,7 @@ ascii_after front resets raw =
 pub record AsciiRead (c : Counts) (bytes : List ℕ) (raw : Raw) : Type 0 where
   pub resets : List Bool
   pub spelled : (all front : List ℕ) → all ≡ front ++ bytes → all ≡ ascii_after front resets raw
-  pub counted : counts_of raw ≡ c
+  pub counted : counted raw ≡ c
   pub numbers : HasSmallNumbers raw
   pub sum : sum_by length raw.justice ≤ formed.limit
   pub entries : All (IsSymbolEntry c) raw.symbols
@@ -88,7 +89,7 @@ ascii_take c bytes raw rest h =
     let lp : List ℕ = text_of p.0 in
     let lg : List ℕ = flat_map gate_line g.0 in
     let ln : List ℕ = names_text n.0.symbols n.0.comment in
-    let same : counts_of made ≡ c = λ j. record {
+    let same : counted made ≡ c = λ j. record {
       max_var = c.max_var;
       inputs = ti.1 j;
       latches = tl.count j;
@@ -131,19 +132,20 @@ ascii_rest resets raw =
     (properties_of raw ++ (flat_map gate_line raw.gates ++ names_text raw.symbols raw.comment)))
 
 pub ascii_again : (resets : List Bool) (raw : Raw) → HasSpelling raw
-    → ascii_at (counts_of raw) (ascii_rest resets raw) ≡ Ok (raw, [])
+    → ascii_at (counted raw) (ascii_rest resets raw) ≡ Ok (raw, [])
 unfolding ascii_at
 ascii_again resets raw s =
-    let c : Counts = counts_of raw in
+    let c : Counts = counted raw in
+    let small = by_section raw s.numbers in
     let n : List ℕ = names_text raw.symbols raw.comment in
     let g : List ℕ = flat_map gate_line raw.gates ++ n in
     let p : List ℕ = properties_of raw ++ g in
     let l : List ℕ = lines latch_line resets raw.latches ++ p in
     rw (
-      literals_again raw.inputs l s.numbers.inputs,
+      literals_again raw.inputs l small.inputs,
       lines_again (λ v. latch_at) latch_line (λ v. IsLatch) latch_again 0 resets raw.latches p
-          (fits_from_all IsLatch 0 raw.latches s.numbers.latches),
+          (fits_from_all IsLatch 0 raw.latches small.latches),
       properties_again c (properties_in raw) g (counted_properties raw) (fits_properties raw s),
-      gates_again raw.gates n s.numbers.gates,
+      gates_again raw.gates n small.gates,
       names_again c (names_in raw) (small_counts c (within_from raw s.formed)) (entries_from raw s.formed) s.formed.names,
     ) refl

@@ -12,9 +12,9 @@ use Rattle.aig_parts.specs.Formed as formed
 use Rattle.aig_base.specs.Renumbered.{evens, IsBinaryReady}
 use Rattle.aig_base.specs.Sections.{definitions}
 use Rattle.aig_format.specs.declared.reader.header.Counts.{Counts}
-use Rattle.aig_format.specs.Header.{AreWithin, counts_of}
+use Rattle.aig_format.specs.state.HeaderCounts.{AreWithin, counted}
 use Rattle.aig_format.specs.Spelling.{implicit_latch_line, gate_deltas, lines, properties_of, names_text}
-use Rattle.aig_format.specs.Spells.{greatest, AreSmall, HasSmallNumbers, HasSpelling}
+use Rattle.aig_format.specs.Spells.{greatest, HasSpelling}
 use Rattle.aig_format.specs.state.Fits.{FitsFrom, IsImplicitGate}
 use Rattle.aig_format.specs.state.ReadingSections.{implicit_latch_at, implicit_gate_at, lines_at}
 use Rattle.aig_format.specs.state.ReadingFile.{binary_at}
@@ -26,6 +26,7 @@ use Rattle.aig_format.proofs.Lines.{IsImplicitLatch, IsWrittenGate, implicit_lat
 use Rattle.aig_format.proofs.Lines.{implicit_latch_again, implicit_gate_takes, implicit_gate_again}
 use Rattle.aig_format.proofs.Names.{IsSymbolEntry}
 use Rattle.aig_format.proofs.SectionLaws.{FitsProperties, properties_take, properties_again, text_of}
+use Rattle.aig_format.proofs.SmallNumbers.{AreSmall, HasSmallNumbers, by_section}
 use Rattle.aig_format.proofs.SymbolLaws.{AreOnce, names_take, names_again}
 use Rattle.aig_format.proofs.Parts.{properties_in, names_in, within_from, small_counts, entries_from, fits_properties}
 use Rattle.aig_format.proofs.Parts.{counted_properties}
@@ -143,7 +144,7 @@ binary_after front resets raw =
 pub record BinaryRead (c : Counts) (bytes : List ℕ) (raw : Raw) : Type 0 where
   pub resets : List Bool
   pub spelled : (all front : List ℕ) → all ≡ front ++ bytes → all ≡ binary_after front resets raw
-  pub counted : counts_of raw ≡ c
+  pub counted : counted raw ≡ c
   pub inputs : raw.inputs ≡ evens c.inputs
   pub latches : FitsFrom IsImplicitLatch (c.inputs + 1) raw.latches
   pub gates : FitsFrom IsImplicitGate (c.inputs + c.latches + 1) raw.gates
@@ -182,7 +183,7 @@ binary_take c bytes raw rest h =
     let lg : List ℕ = flat_map gate_deltas g.0 in
     let ln : List ℕ = names_text n.0.symbols n.0.comment in
     let ti : length (evens c.inputs) ≡ c.inputs = length_evens 1 c.inputs in
-    let same : counts_of made ≡ c = λ j. record {
+    let same : counted made ≡ c = λ j. record {
       max_var = c.max_var;
       inputs = ti j;
       latches = tl.count j;
@@ -237,7 +238,7 @@ ready_from raw inputs latches gates exact =
     }
 
 -- where the counts go together, the parts are in order and their numbers are small
-pub binary_numbers : (bytes : List ℕ) (raw : Raw) → BinaryRead (counts_of raw) bytes raw → AreWithin (counts_of raw)
+pub binary_numbers : (bytes : List ℕ) (raw : Raw) → BinaryRead (counted raw) bytes raw → AreWithin (counted raw)
     → raw.max_var ≡ length raw.inputs + length raw.latches + length raw.gates → HasSmallNumbers raw × IsBinaryReady raw
 binary_numbers bytes raw r w exact =
     let i : ℕ = length raw.inputs in
@@ -279,10 +280,10 @@ pub exact_from : (raw : Raw) → IsBinaryReady raw
 exact_from raw ready = (in_order_from raw ready.in_order).exact
 
 pub binary_again : (resets : List Bool) (raw : Raw) → HasSpelling raw → IsBinaryReady raw
-    → binary_at (counts_of raw) (binary_rest resets raw) ≡ Ok (raw, [])
+    → binary_at (counted raw) (binary_rest resets raw) ≡ Ok (raw, [])
 unfolding binary_at
 binary_again resets raw s ready =
-    let c : Counts = counts_of raw in
+    let c : Counts = counted raw in
     let i : ℕ = length raw.inputs in
     let l : ℕ = length raw.latches in
     let o = in_order_from raw ready.in_order in
@@ -293,7 +294,7 @@ binary_again resets raw s ready =
     let latches : FitsFrom IsImplicitLatch (i + 1) raw.latches =
     fits_map (λ v x. HasEven latch_lit v x × IsLatch x) IsImplicitLatch (λ v x f. (f.0, f.1.1, f.1.2))
     (i + 1) raw.latches
-    (fits_and (HasEven latch_lit) IsLatch (i + 1) raw.latches o.latches s.numbers.latches) in
+    (fits_and (HasEven latch_lit) IsLatch (i + 1) raw.latches o.latches (by_section raw s.numbers).latches) in
     let below =
     fits_below (HasEven gate_lhs) formed.limit (i + l + 1) raw.gates (omega (arith, w.max_var, o.exact)) o.gates in
     let gates : FitsFrom IsWrittenGate (i + l + 1) raw.gates =

@@ -6,7 +6,8 @@ use Rattle.aig_parts.specs.declared.raw.Raw.{Raw}
 use Rattle.aig_format.specs.declared.reader.header.Format.{Format}
 use Rattle.aig_format.specs.declared.reader.header.Format.TheVariants.{Ascii, Binary}
 use Rattle.aig_format.specs.declared.reader.header.Counts.{Counts}
-use Rattle.aig_format.specs.Header.{are_wrong, counts_of, header_line}
+use Rattle.aig_format.specs.Header.{are_wrong, header_line}
+use Rattle.aig_format.specs.state.HeaderCounts.{counted, in_line}
 use Rattle.aig_format.specs.Spelling.{WrittenZeros, ascii, binary, literal_line, latch_line, implicit_latch_line}
 use Rattle.aig_format.specs.Spelling.{gate_line}
 use Rattle.aig_format.specs.Spelling.{gate_deltas, lines, properties_of, names_text}
@@ -17,7 +18,8 @@ use Rattle.aig_format.specs.state.ReadingSections.{header_at}
 use Rattle.aig_format.specs.state.ReadingFile.{body_at, FileRefusal, token, counts, and_then, file_at}
 use Rattle.aig_format.proofs.Steps.{done}
 use Rattle.aig_format.proofs.Joins.{apart5, apart6}
-use Rattle.aig_format.proofs.HeaderLaws.{HeaderRead, header_takes, header_again}
+use Rattle.aig_format.proofs.HeaderLaws.{HeaderRead, header_takes, header_again, all_within, nine_counts}
+use Rattle.aig_format.proofs.SmallNumbers.{in_all}
 use Rattle.aig_format.proofs.Parts.{within_from, formed_from}
 use Rattle.aig_format.proofs.AsciiLaws.{AsciiRead, ascii_take, ascii_rest, ascii_again}
 use Rattle.aig_format.proofs.BinaryLaws.{BinaryRead, binary_take, binary_numbers, binary_rest, binary_again, exact_from}
@@ -52,47 +54,45 @@ ok_is p q e = cc
 
 -- the counts of the parts in place of those of the header
 ascii_spells : (bytes : List ℕ) (c : Counts) (left : List ℕ) (raw : Raw) → HeaderRead bytes Ascii c left
-    → are_wrong Ascii c ≡ false → AsciiRead c left raw → IsInFormat Ascii bytes raw
+    → are_wrong Ascii (in_line c) ≡ false → AsciiRead c left raw → IsInFormat Ascii bytes raw
 unfolding ascii
 ascii_spells bytes c left raw h fine r =
-    let is : c ≡ counts_of raw = sym r.counted in
-    let h2 : HeaderRead bytes Ascii (counts_of raw) left = subst (λ (k : Counts). HeaderRead bytes Ascii k left) is h in
-    let fine2 : are_wrong Ascii (counts_of raw) ≡ false = subst (λ (k : Counts). are_wrong Ascii k ≡ false) is fine in
-    let r2 : AsciiRead (counts_of raw) left raw = subst (λ (k : Counts). AsciiRead k left raw) is r in
-    (
+    let is : c ≡ counted raw = sym r.counted in
+    let h2 : HeaderRead bytes Ascii (counted raw) left = subst (λ (k : Counts). HeaderRead bytes Ascii k left) is h in
+    let fine2 : are_wrong Ascii (in_line (counted raw)) ≡ false = subst (λ (k : Counts). are_wrong Ascii (in_line k) ≡ false) is fine in
+    let r2 : AsciiRead (counted raw) left raw = subst (λ (k : Counts). AsciiRead k left raw) is r in (
       record {
         formed = formed_from raw h2.within r2.sum r2.entries r2.once;
-        numbers = r2.numbers;
+        numbers = in_all raw r2.numbers;
         room = ltb-false _ _ fine2;
       },
       (
         record { counts = h2.least; resets = r2.resets },
-        r2.spelled bytes (header_line Ascii h2.least (counts_of raw)) h2.spelled,
+        r2.spelled bytes (header_line Ascii h2.least (in_line (counted raw))) h2.spelled,
       ),
     )
 
 binary_spells : (bytes : List ℕ) (c : Counts) (left : List ℕ) (raw : Raw) → HeaderRead bytes Binary c left
-    → are_wrong Binary c ≡ false → BinaryRead c left raw → IsInFormat Binary bytes raw
+    → are_wrong Binary (in_line c) ≡ false → BinaryRead c left raw → IsInFormat Binary bytes raw
 unfolding binary
 binary_spells bytes c left raw h fine r =
-    let is : c ≡ counts_of raw = sym r.counted in
-    let h2 : HeaderRead bytes Binary (counts_of raw) left =
+    let is : c ≡ counted raw = sym r.counted in
+    let h2 : HeaderRead bytes Binary (counted raw) left =
     subst (λ (k : Counts). HeaderRead bytes Binary k left) is h in
-    let fine2 : are_wrong Binary (counts_of raw) ≡ false = subst (λ (k : Counts). are_wrong Binary k ≡ false) is fine in
-    let r2 : BinaryRead (counts_of raw) left raw = subst (λ (k : Counts). BinaryRead k left raw) is r in
+    let fine2 : are_wrong Binary (in_line (counted raw)) ≡ false = subst (λ (k : Counts). are_wrong Binary (in_line k) ≡ false) is fine in
+    let r2 : BinaryRead (counted raw) left raw = subst (λ (k : Counts). BinaryRead k left raw) is r in
     let exact : raw.max_var ≡ length raw.inputs + length raw.latches + length raw.gates =
     eqb-true _ _ (not-false _ fine2) in
-    let both = binary_numbers left raw r2 h2.within exact in
-    (
+    let both = binary_numbers left raw r2 h2.within exact in (
       record {
         formed = formed_from raw h2.within r2.fits.within r2.entries r2.once;
-        numbers = both.0;
+        numbers = in_all raw both.0;
         room = omega (arith, exact);
       },
       (
         record { counts = h2.least; resets = r2.resets },
         both.1,
-        r2.spelled bytes (header_line Binary h2.least (counts_of raw)) h2.spelled,
+        r2.spelled bytes (header_line Binary h2.least (in_line (counted raw))) h2.spelled,
       ),
     )
 
@@ -100,18 +100,18 @@ pub file_takes : (bytes : List ℕ) (raw : Raw) → file_at bytes ≡ Ok raw →
 unfolding file_at
 file_takes bytes raw e =
     let h = and_then_ok (header_at bytes)
-    (λ h. cond (are_wrong h.0.0 h.0.1) (Err counts) (and_then (body_at h.0.0 h.0.1 h.1) (λ raw. Ok raw.0))) raw e in
-    by_wrong h.0.0.0 h.0.0.1 h.0.1 h.1 (are_wrong h.0.0.0 h.0.0.1) refl h.2
+    (λ h. cond (are_wrong h.0.0 (in_line h.0.1)) (Err counts) (and_then (body_at h.0.0 h.0.1 h.1) (λ raw. Ok raw.0))) raw e in
+    by_wrong h.0.0.0 h.0.0.1 h.0.1 h.1 (are_wrong h.0.0.0 (in_line h.0.0.1)) refl h.2
   where
     by_body : (f : Format) (c : Counts) (left : List ℕ) (rest : List ℕ) → HeaderRead bytes f c left
-        → are_wrong f c ≡ false → body_at f c left ≡ Ok (raw, rest) → Spells bytes raw
+        → are_wrong f (in_line c) ≡ false → body_at f c left ≡ Ok (raw, rest) → Spells bytes raw
     by_body Ascii c left rest h fine b =
         let s = ascii_spells bytes c left raw h fine (ascii_take c left raw rest b) in (s.0, (Ascii, s.1))
     by_body Binary c left rest h fine b =
         let s = binary_spells bytes c left raw h fine (binary_take c left raw rest b) in (s.0, (Binary, s.1))
 
     by_wrong : (f : Format) (c : Counts) (left : List ℕ) → header_at bytes ≡ Ok ((f, c), left) → (b : Bool)
-        → are_wrong f c ≡ b
+        → are_wrong f (in_line c) ≡ b
         → cond b (Err counts) (and_then (body_at f c left) (λ raw. Ok raw.0)) ≡ Ok raw → Spells bytes raw
     by_wrong f c left e true w g = absurd cc
     by_wrong f c left e false w g =
@@ -122,26 +122,26 @@ file_takes bytes raw e =
 -- ---- what is spelled
 
 ascii_pieces : (zeros : WrittenZeros) (raw : Raw)
-    → ascii zeros raw ≡ header_line Ascii zeros.counts (counts_of raw) ++ ascii_rest zeros.resets raw
+    → ascii zeros raw ≡ header_line Ascii zeros.counts (in_line (counted raw)) ++ ascii_rest zeros.resets raw
 unfolding ascii
 ascii_pieces zeros raw =
     sym (append-nil (ascii zeros raw))
-    ∙ apart6 (header_line Ascii zeros.counts (counts_of raw)) (flat_map literal_line raw.inputs)
+    ∙ apart6 (header_line Ascii zeros.counts (in_line (counted raw))) (flat_map literal_line raw.inputs)
     (lines latch_line zeros.resets raw.latches) (properties_of raw) (flat_map gate_line raw.gates)
     (names_text raw.symbols raw.comment) []
-    ∙ ap (λ (t : List ℕ). header_line Ascii zeros.counts (counts_of raw) ++
+    ∙ ap (λ (t : List ℕ). header_line Ascii zeros.counts (in_line (counted raw)) ++
     (flat_map literal_line raw.inputs ++
     (lines latch_line zeros.resets raw.latches ++ (properties_of raw ++ (flat_map gate_line raw.gates ++ t)))))
     (append-nil (names_text raw.symbols raw.comment))
 
 binary_pieces : (zeros : WrittenZeros) (raw : Raw)
-    → binary zeros raw ≡ header_line Binary zeros.counts (counts_of raw) ++ binary_rest zeros.resets raw
+    → binary zeros raw ≡ header_line Binary zeros.counts (in_line (counted raw)) ++ binary_rest zeros.resets raw
 unfolding binary
 binary_pieces zeros raw =
     sym (append-nil (binary zeros raw))
-    ∙ apart5 (header_line Binary zeros.counts (counts_of raw)) (lines implicit_latch_line zeros.resets raw.latches)
+    ∙ apart5 (header_line Binary zeros.counts (in_line (counted raw))) (lines implicit_latch_line zeros.resets raw.latches)
     (properties_of raw) (flat_map gate_deltas raw.gates) (names_text raw.symbols raw.comment) []
-    ∙ ap (λ (t : List ℕ). header_line Binary zeros.counts (counts_of raw) ++
+    ∙ ap (λ (t : List ℕ). header_line Binary zeros.counts (in_line (counted raw)) ++
     (lines implicit_latch_line zeros.resets raw.latches ++
     (properties_of raw ++ (flat_map gate_deltas raw.gates ++ t)))) (append-nil (names_text raw.symbols raw.comment))
 
@@ -150,10 +150,10 @@ unfolding file_at
 ascii_is_read bytes raw s =
     let parts = s.0 in
     let z = s.1.0 in
-    let fine : are_wrong Ascii (counts_of raw) ≡ false = le-ltb _ _ parts.room in
+    let fine : are_wrong Ascii (in_line (counted raw)) ≡ false = le-ltb _ _ parts.room in
     ap file_at (s.1.1 ∙ ascii_pieces z raw)
     ∙ rw (
-      header_again Ascii z.counts (counts_of raw) (ascii_rest z.resets raw) (within_from raw parts.formed),
+      header_again Ascii z.counts (counted raw) (ascii_rest z.resets raw) (within_from raw parts.formed),
       fine,
       ascii_again z.resets raw parts,
     ) refl
@@ -166,10 +166,10 @@ binary_is_read bytes raw s =
     let ready = s.1.1 in
     let same : eqb raw.max_var (length raw.inputs + length raw.latches + length raw.gates) ≡ true =
     eq-eqb _ _ (exact_from raw ready) in
-    let fine : are_wrong Binary (counts_of raw) ≡ false = ap not same in
+    let fine : are_wrong Binary (in_line (counted raw)) ≡ false = ap not same in
     ap file_at (s.1.2 ∙ binary_pieces z raw)
     ∙ rw (
-      header_again Binary z.counts (counts_of raw) (binary_rest z.resets raw) (within_from raw parts.formed),
+      header_again Binary z.counts (counted raw) (binary_rest z.resets raw) (within_from raw parts.formed),
       fine,
       binary_again z.resets raw parts ready,
     ) refl
@@ -187,21 +187,22 @@ pub wrong_takes : (bytes : List ℕ) → file_at bytes ≡ Err counts → HasWro
 unfolding file_at
 wrong_takes bytes e =
     let h = and_then_counts (header_at bytes)
-    (λ h. cond (are_wrong h.0.0 h.0.1) (Err counts) (and_then (body_at h.0.0 h.0.1 h.1) (λ raw. Ok raw.0))) e in
-    by_wrong h.0.0.0 h.0.0.1 h.0.1 h.1 (are_wrong h.0.0.0 h.0.0.1) refl h.2
+    (λ h. cond (are_wrong h.0.0 (in_line h.0.1)) (Err counts) (and_then (body_at h.0.0 h.0.1 h.1) (λ raw. Ok raw.0))) e in
+    by_wrong h.0.0.0 h.0.0.1 h.0.1 h.1 (are_wrong h.0.0.0 (in_line h.0.0.1)) refl h.2
   where
     no_counts : (raw : Raw) → is_read raw ≡ Err counts → ⊥
     no_counts raw e = cc
 
     by_wrong : (f : Format) (c : Counts) (left : List ℕ) → header_at bytes ≡ Ok ((f, c), left) → (b : Bool)
-        → are_wrong f c ≡ b
+        → are_wrong f (in_line c) ≡ b
         → cond b (Err counts) (and_then (body_at f c left) (λ raw. is_read raw.0)) ≡ Err counts → HasWrongCounts bytes
     by_wrong f c left e true w g =
         let h = header_takes bytes (f, c) left e in
         record {
           format = f;
-          counts = c;
-          within = h.within;
+          counts = in_line c;
+          nine = refl;
+          within = all_within c h.within;
           least = h.least;
           rest = left;
           spelled = h.spelled;
@@ -215,7 +216,10 @@ wrong_takes bytes e =
 pub wrong_again : (bytes : List ℕ) → HasWrongCounts bytes → file_at bytes ≡ Err counts
 unfolding file_at
 wrong_again bytes w =
-    ap file_at w.spelled ∙ rw (header_again w.format w.least w.counts w.rest w.within, w.wrong) refl
+    let n = nine_counts w.counts w.nine w.within in
+    let wrong : are_wrong w.format (in_line n.counts) ≡ true = ap (are_wrong w.format) (sym n.same) ∙ w.wrong in
+    ap file_at (w.spelled ∙ ap (λ (ns : List ℕ). header_line w.format w.least ns ++ w.rest) n.same)
+    ∙ rw (header_again w.format w.least n.counts w.rest n.within, wrong) refl
 
 -- ---- one reading
 

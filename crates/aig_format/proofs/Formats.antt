@@ -8,6 +8,7 @@ use Rattle.aig_format.specs.Formats.{IsInFormat}
 use Rattle.aig_format.specs.Header.{header_line}
 use Rattle.aig_format.specs.Spelling.{ascii, binary}
 use Rattle.aig_format.specs.Spells.{IsTextIn, Spells}
+use Rattle.aig_format.specs.state.HeaderCounts.{in_line}
 use Rattle.aig_format.specs.state.ReadingSections.{header_at}
 use Rattle.aig_format.proofs.HeaderLaws.{header_takes}
 
@@ -28,7 +29,7 @@ unfolding ascii binary header_line second
 second_of_text Ascii bytes raw text = ap (λ (xs : List ℕ). get_or xs 1 0) text.1
 second_of_text Binary bytes raw text = ap (λ (xs : List ℕ). get_or xs 1 0) text.2
 
-second_of_line : (f : Format) (least : ℕ) (c : Counts) (rest : List ℕ) → get_or (header_line f least c ++ rest) 1 0 ≡ second f
+second_of_line : (f : Format) (least : ℕ) (c : Counts) (rest : List ℕ) → get_or (header_line f least (in_line c) ++ rest) 1 0 ≡ second f
 unfolding header_line second
 second_of_line Ascii least c rest = refl
 second_of_line Binary least c rest = refl

@@ -3,15 +3,17 @@ use Rattle.std.proofs.Common.{◌≡◌, ℕ, zero, suc, ◌-◌, ◌^◌, ◌<�
 use Rattle.std.proofs.Common.{subst, List, [], ◌∷◌, ◌++◌, length, get_or, Ok, refl, sym, ap, ◌∙◌}
 use Rattle.std.proofs.Common.{append_assoc, arith}
 use Rattle.std.specs.Prelude.{All}
+use Rattle.std.specs.List.{list_all}
 use Rattle.std.specs.Fmt.{decimal}
 use Rattle.std.proofs.lemmas.Bool.{eqb-true, and_parts}
 use Rattle.std.proofs.lemmas.Bool.Decides.{nat_tests}
-use Rattle.std.proofs.lemmas.List.Elements.{All-nil, All-cons, All-head, All-tail}
+use Rattle.std.proofs.lemmas.List.Elements.{All-nil, All-cons, All-head, All-tail, All-from_recursion}
 use Rattle.aig_parts.specs.Formed as formed
 use Rattle.aig_format.specs.declared.reader.header.Format.{Format}
 use Rattle.aig_format.specs.declared.reader.header.Format.TheVariants.{Ascii, Binary}
 use Rattle.aig_format.specs.declared.reader.header.Counts.{Counts}
-use Rattle.aig_format.specs.Header.{space, line_end, field, word, all_zero, tail, trailing, header_line, AreWithin}
+use Rattle.aig_format.specs.Header.{space, line_end, field, word, tail, header_line}
+use Rattle.aig_format.specs.state.HeaderCounts.{AreWithin, in_line}
 use Rattle.aig_format.specs.state.Reading.{◌>>=◌, is_next_at, byte_at, number_at, more_at}
 use Rattle.aig_format.specs.state.ReadingSections.{format_at, format_word_at, count_at, line_end_at, tail_at, header_at}
 use Rattle.aig_format.proofs.Steps.{done, done_is}
@@ -81,6 +83,9 @@ word_again f rest =
 
 -- ---- the last counts
 
+abbrev all_zero : List ℕ → Bool
+all_zero ns = list_all (λ n. n == 0) ns
+
 abbrev pub AreCounts : List ℕ → Type 0
 AreCounts ns = All (λ n. n ≤ formed.limit) ns
 
@@ -92,7 +97,7 @@ record Over (m : ℕ) (bytes ns rest : List ℕ) : Type 0 where
   small : AreCounts ns
 
 over_takes : (m : ℕ) (bytes ns rest : List ℕ) → tail_at m true bytes ≡ Ok (ns, rest) → Over m bytes ns rest
-unfolding tail_at count_at line_end_at all_zero
+unfolding tail_at count_at line_end_at
 over_takes zero bytes ns rest h =
     let p = done_is [] ns bytes rest h in
     subst (λ (k : List ℕ). Over 0 bytes k rest) p.0
@@ -110,7 +115,7 @@ over_takes (suc m) bytes ns rest h = bind_then _ _ _ h (λ o eo h1.
     }))
 
 over_again : (ns rest : List ℕ) → all_zero ns ≡ true → tail_at (length ns) true rest ≡ Ok (ns, rest)
-unfolding tail_at count_at line_end_at all_zero
+unfolding tail_at count_at line_end_at
 over_again [] rest zeros = refl
 over_again (n ∷ ns) rest zeros =
     let p = and_parts (n == 0) (all_zero ns) zeros in
@@ -136,7 +141,6 @@ tail_more k n ns =
     rw (some, less) refl
 
 all_zero_cons : (ns : List ℕ) → all_zero ns ≡ true → all_zero (0 ∷ ns) ≡ true
-unfolding all_zero
 all_zero_cons ns h = h
 
 pub tail_takes : (m : ℕ) (bytes ns rest : List ℕ) → tail_at m false bytes ≡ Ok (ns, rest) → TailRead m bytes ns rest
@@ -254,7 +258,7 @@ four (a ∷ b ∷ c ∷ d ∷ x ∷ xs) e = absurd (omega (arith, e))
 -- the line that was read
 pub record HeaderRead (bytes : List ℕ) (f : Format) (c : Counts) (rest : List ℕ) : Type 0 where
   pub least : ℕ
-  pub spelled : bytes ≡ header_line f least c ++ rest
+  pub spelled : bytes ≡ header_line f least (in_line c) ++ rest
   pub within : AreWithin c
 
 abbrev counts_from : ℕ → ℕ → ℕ → ℕ → ℕ → List ℕ → Counts
@@ -337,6 +341,10 @@ header_takes bytes h rest e =
     subst (λ (k : Format × Counts). P k rest) p.0
     (subst (λ (r : List ℕ). P (w.0, counts_from m.0 i.0 l.0 o.0 g.0 t.0) r) p.1 made))))))))
 
+-- the last four
+abbrev trailing : Counts → List ℕ
+trailing c = c.bad ∷ c.constraints ∷ c.justice ∷ c.fairness ∷ []
+
 within_counts : (c : Counts) → AreWithin c → AreCounts (trailing c)
 within_counts c w =
     let P : ℕ → Type 0 = λ n. n ≤ formed.limit in
@@ -345,7 +353,7 @@ within_counts c w =
     (All-cons P c.justice (c.fairness ∷ []) w.justice (All-cons P c.fairness [] w.fairness (All-nil P))))
 
 pub header_again : (f : Format) (least : ℕ) (c : Counts) (rest : List ℕ) → AreWithin c
-    → header_at (header_line f least c ++ rest) ≡ Ok ((f, c), rest)
+    → header_at (header_line f least (in_line c) ++ rest) ≡ Ok ((f, c), rest)
 unfolding header_at header_line
 header_again f least c rest fits =
     let t : List ℕ = tail least (trailing c) ++ rest in
@@ -366,3 +374,42 @@ header_again f least c rest fits =
       number_again formed.limit c.gates t fits.gates wide (stops_tail least (trailing c) rest),
       tail_again least (trailing c) rest (within_counts c fits),
     ) refl
+
+-- ---- the counts as a list
+
+pub all_within : (c : Counts) → AreWithin c → AreCounts (in_line c)
+all_within c w =
+    All-from_recursion (λ (n : ℕ). n ≤ formed.limit) (in_line c)
+    (w.max_var, (w.inputs, (w.latches, (w.outputs, (w.gates, (w.bad, (w.constraints, (w.justice, (w.fairness, tt)))))))))
+
+each_within : (c : Counts) → AreCounts (in_line c) → AreWithin c
+each_within c h = record {
+  max_var = h 0 0 (omega arith);
+  inputs = h 1 0 (omega arith);
+  latches = h 2 0 (omega arith);
+  outputs = h 3 0 (omega arith);
+  gates = h 4 0 (omega arith);
+  bad = h 5 0 (omega arith);
+  constraints = h 6 0 (omega arith);
+  justice = h 7 0 (omega arith);
+  fairness = h 8 0 (omega arith);
+}
+
+nine_of : (ns : List ℕ) → length ns ≡ 9 → (c : Counts) × (ns ≡ in_line c)
+nine_of [] e = absurd (omega (arith, e))
+nine_of (m ∷ []) e = absurd (omega (arith, e))
+nine_of (m ∷ i ∷ []) e = absurd (omega (arith, e))
+nine_of (m ∷ i ∷ l ∷ []) e = absurd (omega (arith, e))
+nine_of (m ∷ i ∷ l ∷ o ∷ []) e = absurd (omega (arith, e))
+nine_of (m ∷ i ∷ l ∷ o ∷ a ∷ last) e = (counts_from m i l o a last, ap (λ (ns : List ℕ). m ∷ i ∷ l ∷ o ∷ a ∷ ns) (sym (four last (omega (arith, e)))))
+
+-- nine counts within the limit
+pub record NineCounts (ns : List ℕ) : Type 0 where
+  pub counts : Counts
+  pub same : ns ≡ in_line counts
+  pub within : AreWithin counts
+
+pub nine_counts : (ns : List ℕ) → length ns ≡ 9 → AreCounts ns → NineCounts ns
+nine_counts ns e small =
+    let n = nine_of ns e in
+    record { counts = n.0; same = n.1; within = each_within n.0 (subst AreCounts n.1 small) }

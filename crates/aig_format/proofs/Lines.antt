@@ -12,7 +12,7 @@ use Rattle.aig_parts.specs.declared.gate.Gate.{Gate}
 use Rattle.aig_format.specs.Header.{space, line_end, field}
 use Rattle.aig_format.specs.Delta.{delta}
 use Rattle.aig_format.specs.Spelling.{literal_line, reset_text, latch_line, implicit_latch_line, gate_line}
-use Rattle.aig_format.specs.Spelling.{gate_deltas, of_first, of_others, lines}
+use Rattle.aig_format.specs.Spelling.{gate_deltas, lines}
 use Rattle.aig_format.specs.Spells.{greatest}
 use Rattle.aig_format.specs.state.Fits.{FitsFrom, IsImplicitGate}
 use Rattle.aig_format.specs.state.Reading.{Read}
@@ -66,11 +66,17 @@ module _ {X : Type 0} (at : ℕ → List ℕ → Read X) (line : Bool → X → 
       → lines_at at (length xs) v (lines line ws xs ++ rest) ≡ Ok (xs, rest)
   unfolding lines_at lines FitsFrom
   lines_again again v ws [] rest fits = refl
-  lines_again again v ws (x ∷ xs) rest fits =
-      ap (lines_at at (suc (length xs)) v) (append_assoc (line (of_first ws) x) (lines line (of_others ws) xs) rest)
+  lines_again again v [] (x ∷ xs) rest fits =
+      ap (lines_at at (suc (length xs)) v) (append_assoc (line false x) (lines line [] xs) rest)
       ∙ rw (
-        again v (of_first ws) x (lines line (of_others ws) xs ++ rest) fits.0,
-        lines_again again (suc v) (of_others ws) xs rest fits.1,
+        again v false x (lines line [] xs ++ rest) fits.0,
+        lines_again again (suc v) [] xs rest fits.1,
+      ) refl
+  lines_again again v (w ∷ ws) (x ∷ xs) rest fits =
+      ap (lines_at at (suc (length xs)) v) (append_assoc (line w x) (lines line ws xs) rest)
+      ∙ rw (
+        again v w x (lines line ws xs ++ rest) fits.0,
+        lines_again again (suc v) ws xs rest fits.1,
       ) refl
 
 -- where each kind of line has one spelling
@@ -78,8 +84,9 @@ pub plain_lines : {X : Type 0} (line : X → List ℕ) (ws : List Bool) (xs : Li
     → lines (λ w. line) ws xs ≡ flat_map line xs
 unfolding lines
 plain_lines line ws [] = refl
-plain_lines line ws (x ∷ xs) = ap (λ (t : List ℕ). line x ++ t) (plain_lines line (of_others ws) xs)
-    ∙ sym (flat_map-cons line x xs)
+plain_lines line [] (x ∷ xs) = ap (λ (t : List ℕ). line x ++ t) (plain_lines line [] xs) ∙ sym (flat_map-cons line x xs)
+plain_lines line (w ∷ ws) (x ∷ xs) =
+    ap (λ (t : List ℕ). line x ++ t) (plain_lines line ws xs) ∙ sym (flat_map-cons line x xs)
 
 pub fits_none : {X : Type 0} (Fits : ℕ → X → Type 0) (v : ℕ) → FitsFrom Fits v []
 unfolding FitsFrom

@@ -10,10 +10,11 @@ use Rattle.aig_parts.specs.Formed.{section_length, IsSymbolOf, AreNamedOnce, Cou
 use Rattle.aig_format.specs.declared.reader.header.Counts.{Counts}
 use Rattle.aig_format.specs.declared.reader.section.Properties.{Properties}
 use Rattle.aig_format.specs.declared.reader.symbol.Names.{Names}
-use Rattle.aig_format.specs.Header.{AreWithin, counts_of}
+use Rattle.aig_format.specs.state.HeaderCounts.{AreWithin, counted}
 use Rattle.aig_format.specs.Spells.{greatest, HasSpelling}
 use Rattle.aig_format.specs.state.ReadingNames.{count_of}
 use Rattle.aig_format.proofs.Names.{IsSymbolEntry}
+use Rattle.aig_format.proofs.SmallNumbers.{by_section}
 use Rattle.aig_format.proofs.SectionLaws.{FitsProperties, Counted}
 
 abbrev pub properties_in : Raw → Properties
@@ -30,7 +31,7 @@ properties_in raw =
 abbrev pub names_in : Raw → Names
 names_in raw = record { symbols = raw.symbols; comment = raw.comment }
 
-count_is : (raw : Raw) (kind : Kind) → count_of (counts_of raw) kind ≡ section_length raw kind
+count_is : (raw : Raw) (kind : Kind) → count_of (counted raw) kind ≡ section_length raw kind
 count_is raw Input = refl
 count_is raw Latch = refl
 count_is raw Output = refl
@@ -39,7 +40,7 @@ count_is raw Constraint = refl
 count_is raw Justice = refl
 count_is raw Fairness = refl
 
-pub within_from : (raw : Raw) → IsFormed raw → AreWithin (counts_of raw)
+pub within_from : (raw : Raw) → IsFormed raw → AreWithin (counted raw)
 within_from raw f = record {
   max_var = f.counts.max_var;
   inputs = f.counts.inputs;
@@ -61,14 +62,14 @@ small_counts c w Constraint = omega (arith, w.constraints)
 small_counts c w Justice = omega (arith, w.justice)
 small_counts c w Fairness = omega (arith, w.fairness)
 
-pub entries_from : (raw : Raw) → IsFormed raw → All (IsSymbolEntry (counts_of raw)) raw.symbols
+pub entries_from : (raw : Raw) → IsFormed raw → All (IsSymbolEntry (counted raw)) raw.symbols
 entries_from raw f =
-    All-weaker (IsSymbolOf raw) (IsSymbolEntry (counts_of raw))
+    All-weaker (IsSymbolOf raw) (IsSymbolEntry (counted raw))
     (λ e s. record { there = (let is = count_is raw e.0.0 in omega (arith, s.0, is)); named = s.1 }) raw.symbols
     f.symbols
 
-pub formed_from : (raw : Raw) → AreWithin (counts_of raw) → sum_by length raw.justice ≤ formed.limit
-    → All (IsSymbolEntry (counts_of raw)) raw.symbols → AreNamedOnce raw → IsFormed raw
+pub formed_from : (raw : Raw) → AreWithin (counted raw) → sum_by length raw.justice ≤ formed.limit
+    → All (IsSymbolEntry (counted raw)) raw.symbols → AreNamedOnce raw → IsFormed raw
 formed_from raw w sum entries once = record {
   counts = record {
     max_var = w.max_var;
@@ -83,20 +84,22 @@ formed_from raw w sum entries once = record {
     justice_literals = sum;
   };
   symbols =
-      All-weaker (IsSymbolEntry (counts_of raw)) (IsSymbolOf raw)
+      All-weaker (IsSymbolEntry (counted raw)) (IsSymbolOf raw)
       (λ e s. ((let is = count_is raw e.0.0 in omega (arith, s.there, is)), s.named)) raw.symbols entries;
   names = once;
 }
 
 pub fits_properties : (raw : Raw) → HasSpelling raw → FitsProperties (properties_in raw)
-fits_properties raw s = record {
-  outputs = s.numbers.outputs;
-  bad = s.numbers.bad;
-  constraints = s.numbers.constraints;
-  justice = s.numbers.justice;
-  fairness = s.numbers.fairness;
-  within = s.formed.counts.justice_literals;
-}
+fits_properties raw s =
+    let small = by_section raw s.numbers in
+    record {
+      outputs = small.outputs;
+      bad = small.bad;
+      constraints = small.constraints;
+      justice = small.justice;
+      fairness = small.fairness;
+      within = s.formed.counts.justice_literals;
+    }
 
-pub counted_properties : (raw : Raw) → Counted (counts_of raw) (properties_in raw)
+pub counted_properties : (raw : Raw) → Counted (counted raw) (properties_in raw)
 counted_properties raw = record { outputs = refl; bad = refl; constraints = refl; justice = refl; fairness = refl }

@@ -3,12 +3,10 @@ use Rattle.std.proofs.Common.{◌≡◌, ◌≢◌, inl, inr, ℕ, suc, ◌+◌,
 use Rattle.std.proofs.Common.{List, [], ◌∷◌, ◌++◌, length, get_or, map, Some, subst, refl, sym, ap, ◌∙◌, arith}
 use Rattle.std.proofs.Common.{length-append}
 use Rattle.std.specs.Prelude.{All, AllPairs, slice_get}
-use Rattle.std.specs.List.{flat_map}
 use Rattle.std.proofs.lemmas.Bool.{eqb-true}
 use Rattle.std.proofs.lemmas.Bool.Decides.{Decides-eqb}
 use Rattle.std.proofs.lemmas.List.{length-map, get_or-map}
-use Rattle.std.proofs.lemmas.List.Concat.{flat_map-cons}
-use Rattle.std.proofs.lemmas.List.Elements.{All-nil, All-cons, All-weaker, All-map, All-contains}
+use Rattle.std.proofs.lemmas.List.Elements.{All-append, All-weaker, All-map, All-contains}
 use Rattle.std.proofs.lemmas.Option.{slice_get-get_or}
 use Rattle.std.proofs.lemmas.Map.Views.{Contains-from_any}
 use Rattle.std.proofs.lemmas.Map.Made.{IsDistinct-from_AllPairs}
@@ -21,9 +19,10 @@ use Rattle.aig_parts.specs.Literal.{variable}
 use Rattle.aig_base.specs.Renumbered.{IsBinaryReady}
 use Rattle.aig_base.specs.Sections.{definitions, uses}
 use Rattle.aig_base.specs.Sound.{IsInRange, IsDefinition, IsReset, StandsTwice}
-use Rattle.aig_base.proofs.lists.Joined.{All-left, All-right, All-unmap, All-unflat}
+use Rattle.aig_base.proofs.lists.Joined.{All-left, All-right, All-unmap}
 use Rattle.aig_format.specs.Spelling.{no_zeros, short_ascii, short_binary}
-use Rattle.aig_format.specs.Spells.{greatest, AreSmall, HasSmallNumbers, HasSpelling, IsTextOf, Spells}
+use Rattle.aig_format.specs.Spells.{greatest, body_numbers, HasSpelling, IsTextOf, Spells}
+use Rattle.aig_format.proofs.SmallNumbers.{is_small, AreSmall}
 use Rattle.aig_format.specs.Formats.{IsInFormat}
 use Rattle.aig_format.specs.declared.reader.header.Format.TheVariants.{Ascii, Binary}
 
@@ -34,50 +33,21 @@ small_reset x (inl e) le = omega (arith, e)
 small_reset x (inr (inl e)) le = omega (arith, e)
 small_reset x (inr (inr e)) le = omega (arith, e, le)
 
-abbrev is_small : ℕ → Type 0
-is_small l = l ≤ greatest
-
-pub small_numbers : (raw : Raw) → IsCircuit raw → HasSmallNumbers raw
+small_numbers : (raw : Raw) → IsCircuit raw → AreSmall (body_numbers raw)
 small_numbers raw c =
+    let lits : List ℕ = map (λ x. x.lit) raw.latches in
+    let lhss : List ℕ = map (λ g. g.lhs) raw.gates in
+    let resets : List ℕ = map (λ x. x.reset) raw.latches in
     let all : AreSmall (definitions raw ++ uses raw) =
     All-weaker (IsInRange raw) is_small (λ l h. (let m = c.formed.counts.max_var in omega (arith, h, m)))
     (definitions raw ++ uses raw) c.sound.in_range in
-    let lits : List ℕ = map (λ x. x.lit) raw.latches in
-    let lhss : List ℕ = map (λ g. g.lhs) raw.gates in
-    let nexts : List ℕ = map (λ x. x.next) raw.latches in
-    let js : List ℕ = flat_map (λ p. p) raw.justice in
-    let sides : List ℕ = flat_map (λ g. g.rhs0 ∷ g.rhs1 ∷ []) raw.gates in
     let defs = All-left is_small (definitions raw) (uses raw) all in
-    let used = All-right is_small (definitions raw) (uses raw) all in
-    let d1 = All-left is_small (raw.inputs ++ lits) lhss defs in
-    let u1 = All-left is_small (nexts ++ raw.outputs ++ raw.bad ++ raw.constraints ++ js ++ raw.fairness) sides used in
-    let u2 = All-left is_small (nexts ++ raw.outputs ++ raw.bad ++ raw.constraints ++ js) raw.fairness u1 in
-    let u3 = All-left is_small (nexts ++ raw.outputs ++ raw.bad ++ raw.constraints) js u2 in
-    let u4 = All-left is_small (nexts ++ raw.outputs ++ raw.bad) raw.constraints u3 in
-    let u5 = All-left is_small (nexts ++ raw.outputs) raw.bad u4 in
     let lit : All (λ x. x.lit ≤ greatest) raw.latches =
-    All-unmap is_small (λ x. x.lit) raw.latches (All-right is_small raw.inputs lits d1) in
-    let next : All (λ x. x.next ≤ greatest) raw.latches =
-    All-unmap is_small (λ x. x.next) raw.latches (All-left is_small nexts raw.outputs u5) in
-    let lhs : All (λ g. g.lhs ≤ greatest) raw.gates =
-    All-unmap is_small (λ g. g.lhs) raw.gates (All-right is_small (raw.inputs ++ lits) lhss defs) in
-    let rhs : All (λ g. AreSmall (g.rhs0 ∷ g.rhs1 ∷ [])) raw.gates =
-    All-unflat is_small (λ g. g.rhs0 ∷ g.rhs1 ∷ []) raw.gates
-    (All-right is_small (nexts ++ raw.outputs ++ raw.bad ++ raw.constraints ++ js ++ raw.fairness) sides used) in
-    record {
-      inputs = All-left is_small raw.inputs lits d1;
-      latches =
-          λ k d lt.
-          (lit k d lt, next k d lt, small_reset (get_or raw.latches k d) (c.sound.resets k d lt) (lit k d lt));
-      outputs = All-right is_small nexts raw.outputs u5;
-      bad = All-right is_small (nexts ++ raw.outputs) raw.bad u4;
-      constraints = All-right is_small (nexts ++ raw.outputs ++ raw.bad) raw.constraints u3;
-      justice =
-          All-unflat is_small (λ p. p) raw.justice
-          (All-right is_small (nexts ++ raw.outputs ++ raw.bad ++ raw.constraints) js u2);
-      fairness = All-right is_small (nexts ++ raw.outputs ++ raw.bad ++ raw.constraints ++ js) raw.fairness u1;
-      gates = λ k d lt. (lhs k d lt, rhs k d lt 0 0 (omega arith), rhs k d lt 1 0 (omega arith));
-    }
+    All-unmap is_small (λ x. x.lit) raw.latches
+    (All-right is_small raw.inputs lits (All-left is_small (raw.inputs ++ lits) lhss defs)) in
+    All-append is_small (definitions raw ++ uses raw) resets all
+    (All-map is_small (λ (x : Latch). x.reset) raw.latches
+    (λ k d lt. small_reset (get_or raw.latches k d) (c.sound.resets k d lt) (lit k d lt)))
 
 -- ---- room
 

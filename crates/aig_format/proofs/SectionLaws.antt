@@ -15,12 +15,13 @@ use Rattle.aig_format.specs.declared.reader.header.Counts.{Counts}
 use Rattle.aig_format.specs.declared.reader.section.Properties.{Properties}
 use Rattle.aig_format.specs.Header.{line_end}
 use Rattle.aig_format.specs.Spelling.{literal_line, size_line, property_lines}
-use Rattle.aig_format.specs.Spells.{greatest, AreSmall}
+use Rattle.aig_format.specs.Spells.{greatest}
 use Rattle.aig_format.specs.state.Reading.{limit, ◌>>=◌, byte_at, number_at}
 use Rattle.aig_format.specs.state.ReadingSections.{literal_at, literals_at, sizes_at, groups_of_literals_at, justice_at}
 use Rattle.aig_format.specs.state.ReadingSections.{properties_at}
 use Rattle.aig_format.proofs.Steps.{done, done_is}
 use Rattle.aig_format.proofs.Joins.{join2, join_end, apart6}
+use Rattle.aig_format.proofs.SmallNumbers.{AreSmall}
 use Rattle.aig_format.proofs.Numbers.{bind_then, byte_takes, byte_again, number_takes, number_again, stops_line}
 use Rattle.aig_format.proofs.Lines.{lines_take, lines_again, plain_lines, all_from_fits, fits_from_all, IsLiteral}
 use Rattle.aig_format.proofs.Lines.{literal_takes, literal_again}

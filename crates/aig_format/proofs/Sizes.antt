@@ -14,7 +14,7 @@ use Rattle.aig_format.specs.state.ReadingNames.{count_of}
 use Rattle.aig_format.specs.state.Fits.{IsCountedSymbol, AreSymbols}
 use Rattle.aig_parts.specs.declared.raw.Raw.{Raw}
 use Rattle.aig_parts.specs.Formed.{IsFormed}
-use Rattle.aig_format.specs.Header.{AreWithin, counts_of}
+use Rattle.aig_format.specs.state.HeaderCounts.{AreWithin, counted}
 use Rattle.aig_format.specs.state.Fits.{HasCounts}
 use Rattle.aig_format.proofs.Names.{IsSymbolEntry}
 use Rattle.aig_format.proofs.Parts.{properties_in, formed_from}
@@ -50,7 +50,7 @@ pub parts_formed : (c : Counts) (raw : Raw) → AreWithin c → raw.max_var ≡ 
     → length raw.latches ≡ c.latches → HasCounts c (properties_in raw) → length raw.gates ≡ c.gates
     → AreSymbols c raw.symbols → IsFormed raw
 parts_formed c raw w max_var inputs latches p gates symbols =
-    let counted : counts_of raw ≡ c = λ i. record {
+    let counted : counted raw ≡ c = λ i. record {
       max_var = max_var i;
       inputs = inputs i;
       latches = latches i;

@@ -15,7 +15,8 @@ use Rattle.aig_parts.specs.Formed.{IsFormed}
 use Rattle.aig_base.specs.Sections.{definitions, uses}
 use Rattle.aig_base.specs.Sound.{IsInRange}
 use Rattle.aig_base.proofs.lists.Joined.{All-left, All-right, All-unmap}
-use Rattle.aig_format.specs.Header.{space, line_end, field, tail, all_zero, counts_of}
+use Rattle.aig_format.specs.Header.{space, line_end, field, tail}
+use Rattle.aig_format.specs.state.HeaderCounts.{counted}
 use Rattle.aig_format.specs.Spelling.{reset_text, lines}
 
 pub reset_written : (r : ℕ) → (r ≡ 0 → ⊥) → reset_text false r ≡ space ∷ field r line_end
@@ -27,16 +28,10 @@ unfolding lines
 plain_lines line [] = refl
 plain_lines line (x ∷ xs) = ap (λ (ys : List ℕ). line false x ++ ys) (plain_lines line xs)
 
--- the test that all counts are 0, as a program makes it
-all_zero_is : (counts : List ℕ) → all_zero counts ≡ list_all (λ n. n == 0) counts
-unfolding all_zero
-all_zero_is [] = refl
-all_zero_is (n ∷ counts) = ap (λ (b : Bool). n == 0 && b) (all_zero_is counts)
-
 pub tail_end : (counts : List ℕ) → list_all (λ n. n == 0) counts ≡ true → tail 0 counts ≡ line_end ∷ []
 unfolding tail
 tail_end [] e = refl
-tail_end (n ∷ counts) e = ap (λ (b : Bool). cond b (line_end ∷ []) (space ∷ (decimal n ++ tail 0 counts))) (all_zero_is (n ∷ counts) ∙ e)
+tail_end (n ∷ counts) e = ap (λ (b : Bool). cond b (line_end ∷ []) (space ∷ (decimal n ++ tail 0 counts))) e
 
 -- counts that are not all 0 begin with one that is written
 pub tail_step : (counts : List ℕ) → list_all (λ n. n == 0) counts ≡ false
@@ -44,13 +39,13 @@ pub tail_step : (counts : List ℕ) → list_all (λ n. n == 0) counts ≡ false
 unfolding tail
 tail_step [] e = cc
 tail_step (n ∷ counts) e =
-    ap (λ (b : Bool). cond b (line_end ∷ []) (space ∷ (decimal n ++ tail 0 counts))) (all_zero_is (n ∷ counts) ∙ e)
+    ap (λ (b : Bool). cond b (line_end ∷ []) (space ∷ (decimal n ++ tail 0 counts))) e
     ∙ ap (λ (ms : List ℕ). space ∷ (decimal n ++ tail 0 ms)) (sym (take_rest (n ∷ counts) 1))
 
 -- other latches, as many, are counted as they were
 pub same_counts : (raw : Raw) (latches : List Latch) → length latches ≡ length raw.latches
-    → counts_of raw ≡ counts_of (record raw { latches = latches })
-same_counts raw latches e = ap (λ (n : ℕ). record (counts_of raw) { latches = n }) (sym e)
+    → counted raw ≡ counted (record raw { latches = latches })
+same_counts raw latches e = ap (λ (n : ℕ). record (counted raw) { latches = n }) (sym e)
 
 pub small_sizes : (raw : Raw) → IsFormed raw → All (λ p. length p < 2 ^ 32) raw.justice
 small_sizes raw formed k d lt = omega (arith, get_or-le-sum_by length raw.justice k d lt, formed.counts.justice_literals)

@@ -40,19 +40,11 @@ gate_deltas g = delta (g.lhs - g.rhs0) ++ delta (g.rhs0 - g.rhs1)
 abbrev pub size_line : List ℕ → List ℕ
 size_line p = literal_line (length p)
 
--- what is written for the first, and for the others; where nothing is said, nothing is
-abbrev pub of_first : List Bool → Bool
-of_first [] = false
-of_first (w ∷ ws) = w
-
-abbrev pub of_others : List Bool → List Bool
-of_others [] = []
-of_others (w ∷ ws) = ws
-
--- a line for each
+-- a line for each, with what may be left out where that is said to be written
 unfoldable pub lines : {X : Type 0} → (Bool → X → List ℕ) → List Bool → List X → List ℕ
 lines line written [] = []
-lines line written (x ∷ xs) = line (of_first written) x ++ lines line (of_others written) xs
+lines line [] (x ∷ xs) = line false x ++ lines line [] xs
+lines line (w ∷ written) (x ∷ xs) = line w x ++ lines line written xs
 
 -- ---- symbols and comment
 

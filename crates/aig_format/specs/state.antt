@@ -1,5 +1,6 @@
 -- What proofs alone need: the functions' tables, walks and steps. No contract of an exported function reaches them.
 pub mod Fits
+pub mod HeaderCounts
 pub mod Held
 pub mod ReaderAnswers
 pub mod Reading

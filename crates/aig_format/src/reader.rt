@@ -6,7 +6,8 @@ ghost use Rattle.aig_base.specs.Renumbered.{IsBinaryReady};
 ghost use Rattle.aig_parts.specs.Formed.{IsFormed};
 ghost use Rattle.aig_parts.specs.declared.raw.Raw.{Raw};
 ghost use Rattle.aig_format.specs.declared.reader.header.Format.TheVariants.{Binary};
-ghost use Rattle.aig_format.specs.Header.{AreWithin, are_wrong};
+ghost use Rattle.aig_format.specs.Header.{are_wrong};
+ghost use Rattle.aig_format.specs.state.HeaderCounts.{AreWithin, in_line};
 ghost use Rattle.aig_format.specs.state.ReaderAnswers.{AnswersRead};
 ghost use Rattle.aig_format.specs.state.Reads.{ReadsAs};
 ghost use Rattle.aig_format.specs.FileReading.{IsReading, Raises};
@@ -40,7 +41,7 @@ use std::alloc::Global;
 /// All that follows the header line.
 fn body<S: Source>(alloc: Global, s: &mut S, format: Format, counts: &Counts) -> Result<Raw, Fault>
     requires within { AreWithin counts.now }
-    requires right { are_wrong format counts.now ≡ false }
+    requires right { are_wrong format (in_line counts.now) ≡ false }
     ensures reads { ReadsAs S.Source s.old s.new (λ x. x) result (body_at format counts.now) }
     ensures formed { IfOk result IsFormed }
     ensures ready { format ≡ Binary → IfOk result IsBinaryReady }

@@ -6,6 +6,7 @@ use Rattle.aig_format.specs.declared.reader.header.Format.{Format}
 use Rattle.aig_format.specs.declared.reader.header.Format.TheVariants.{Ascii, Binary}
 use Rattle.aig_format.specs.declared.reader.header.Counts.{Counts}
 use Rattle.aig_format.specs.Header.{are_wrong}
+use Rattle.aig_format.specs.state.HeaderCounts.{in_line}
 use Rattle.aig_format.specs.state.Reading.{Refusal, Read, ◌>>=◌}
 use Rattle.aig_format.specs.state.ReadingSections.{literals_at, latch_at, gate_at, implicit_latch_at, implicit_gate_at}
 use Rattle.aig_format.specs.state.ReadingSections.{lines_at, properties_at, header_at}
@@ -75,4 +76,4 @@ and_then (Err e) f = Err (token e)
 unfoldable pub file_at : List ℕ → Result Raw FileRefusal
 file_at bytes =
     and_then (header_at bytes) (λ h.
-    if are_wrong h.0.0 h.0.1 then Err counts else and_then (body_at h.0.0 h.0.1 h.1) (λ raw. Ok raw.0))
+    if are_wrong h.0.0 (in_line h.0.1) then Err counts else and_then (body_at h.0.0 h.0.1 h.1) (λ raw. Ok raw.0))

@@ -1,7 +1,7 @@
 //! The body of an ASCII file.
 ghost use Rattle.std.specs.Prelude.{◌≡◌, IfOk};
 ghost use Rattle.aig_parts.specs.Formed.{IsFormed};
-ghost use Rattle.aig_format.specs.Header.{AreWithin};
+ghost use Rattle.aig_format.specs.state.HeaderCounts.{AreWithin};
 ghost use Rattle.aig_format.specs.state.Reads.{ReadsAs};
 ghost use Rattle.aig_format.specs.state.ReadingFile.{ascii_at};
 

@@ -2,7 +2,7 @@
 ghost use Rattle.std.specs.Prelude.{◌≡◌, ◌+◌, ◌<◌, ◌^◌, IfOk, IfErr};
 ghost use Rattle.aig_parts.specs.Formed.{IsFormed};
 ghost use Rattle.aig_base.specs.Renumbered.{evens, IsBinaryReady};
-ghost use Rattle.aig_format.specs.Header.{AreWithin};
+ghost use Rattle.aig_format.specs.state.HeaderCounts.{AreWithin};
 ghost use Rattle.aig_format.specs.state.Reads.{ReadsAs};
 ghost use Rattle.aig_format.specs.state.ReadingFile.{binary_at};
 

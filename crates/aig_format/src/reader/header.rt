@@ -1,7 +1,8 @@
 //! The header line.
 ghost use Rattle.std.specs.Prelude.{◌≡◌, ℕ, ◌≤◌, ◌∷◌, [], IfOk, false};
 ghost use Rattle.aig_parts.specs.Formed.{limit};
-ghost use Rattle.aig_format.specs.Header.{AreWithin, are_wrong};
+ghost use Rattle.aig_format.specs.Header.{are_wrong};
+ghost use Rattle.aig_format.specs.state.HeaderCounts.{AreWithin, in_line};
 ghost use Rattle.aig_format.specs.state.ReaderAnswers.{of_token};
 ghost use Rattle.aig_format.specs.state.Reads.{ReadsAs, ReadsToken};
 ghost use Rattle.aig_format.specs.state.Reading.{byte_at};
@@ -63,7 +64,7 @@ impl Counts {
     /// Whether the counts do not go together.
     pub(crate) fn are_wrong(&self, format: Format) -> bool
         requires within { AreWithin self.now }
-        ensures { result ≡ are_wrong format self.now }
+        ensures { result ≡ are_wrong format (in_line self.now) }
     {
         let defined = self.inputs + self.latches + self.gates;
         match format {

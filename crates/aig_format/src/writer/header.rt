@@ -3,7 +3,8 @@ ghost use Rattle.std.specs.Prelude.{◌≡◌, ◌==◌};
 ghost use Rattle.std.specs.List.{list_all};
 ghost use Rattle.aig_base.specs.Circuit.{IsCircuit};
 ghost use Rattle.aig_bytes.specs.Gathered.{Gathers};
-ghost use Rattle.aig_format.specs.Header.{word, tail, header_line, counts_of as header_counts};
+ghost use Rattle.aig_format.specs.Header.{word, tail, header_line};
+ghost use Rattle.aig_format.specs.state.HeaderCounts.{counted, in_line};
 
 use crate::reader::header::{Counts, Format};
 use crate::writer::block::put_number;
@@ -11,7 +12,7 @@ use aig_base::{Block, Circuit, Io, Write};
 
 /// The counts of a circuit.
 pub(crate) fn counts_of(circuit: &Circuit) -> Counts
-    ensures counts { result ≡ header_counts circuit.now }
+    ensures counts { result ≡ counted circuit.now }
     ensures circuit { IsCircuit circuit.now }
 {
     Counts {
@@ -63,7 +64,7 @@ pub(crate) fn put_header<W: Write>(
     counts: &Counts,
 ) -> Result<(), Io>
     ensures { Gathers W.written W.failures out.old out.new block.old block.new
-        (header_line format 0 counts.now) result }
+        (header_line format 0 (in_line counts.now)) result }
 {
     put_word(out, block, format)?;
     block.put_field(out, counts.max_var, b' ')?;
