@@ -9,7 +9,7 @@ use Rattle.aig_cnf.specs.Query.{depth, subject}
 use Rattle.aig_cnf.specs.declared.query.Query.{Query}
 use Rattle.aig_cnf.proofs.GoalLemmas.{length-goals}
 use Rattle.aig_unroll.specs.Unrolled.{unrolled}
-use Rattle.aig_sat.specs.model.ModelText.{HasStatus, IsModelOf, IsUnknown, IsUnsatisfiable}
+use Rattle.aig_sat.specs.model.ModelText.{HasStatus, IsModelOf, SaysUnknown, SaysUnsatisfiable}
 use Rattle.aig_sat.specs.declared.model.fault.ModelFault.{ModelFault}
 use Rattle.aig_sat.specs.declared.model.fault.ModelFault.TheVariants as models
 use Rattle.aig_command.specs.declared.run_fault.RunFault.{RunFault}
@@ -18,8 +18,8 @@ use Rattle.aig_commands.specs.ModelWitness.{RefusesModel, WritesModel, names}
 
 pub model_refused : {T : Type 0} (variables : ℕ) (model : List ℕ) (r : Result T ModelFault)
     → ((at : ℕ) → r ≡ Err (models.Text at) → (values : List Tern) → IsModelOf variables model values → ⊥)
-    → (r ≡ Err models.Unsatisfiable → HasStatus IsUnsatisfiable variables model)
-    → (r ≡ Err models.Unknown → HasStatus IsUnknown variables model) → IfErr r (RefusesModel variables model)
+    → (r ≡ Err models.Unsatisfiable → HasStatus SaysUnsatisfiable variables model)
+    → (r ≡ Err models.Unknown → HasStatus SaysUnknown variables model) → IfErr r (RefusesModel variables model)
 model_refused variables model (Ok x) text none unknown = tt
 model_refused variables model (Err (models.Text at)) text none unknown = text at refl
 model_refused variables model (Err models.Unsatisfiable) text none unknown = none refl

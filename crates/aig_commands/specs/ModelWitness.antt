@@ -7,7 +7,7 @@ use Rattle.aig_cnf.specs.Answers.{HasFormula, RefusesFormula}
 use Rattle.aig_cnf.specs.Query.{depth, subject}
 use Rattle.aig_cnf.specs.declared.fault.CnfFault.{CnfFault}
 use Rattle.aig_cnf.specs.declared.query.Query.{Query}
-use Rattle.aig_sat.specs.model.ModelText.{HasStatus, IsModelOf, IsUnknown, IsUnsatisfiable}
+use Rattle.aig_sat.specs.model.ModelText.{HasStatus, IsModelOf, SaysUnknown, SaysUnsatisfiable}
 use Rattle.aig_sat.specs.declared.model.fault.ModelFault.{ModelFault}
 use Rattle.aig_sat.specs.declared.model.fault.ModelFault.TheVariants as models
 use Rattle.aig_refute.specs.PartialModels.{named_rows, named_start}
@@ -26,8 +26,8 @@ variable_count raw k = input_count raw k + k * frame_size raw + 1
 -- know; or memory ran out
 abbrev pub RefusesModel : ℕ → List ℕ → ModelFault → Type 0
 RefusesModel variables model (models.Text at) = (values : List Tern) → IsModelOf variables model values → ⊥
-RefusesModel variables model models.Unsatisfiable = HasStatus IsUnsatisfiable variables model
-RefusesModel variables model models.Unknown = HasStatus IsUnknown variables model
+RefusesModel variables model models.Unsatisfiable = HasStatus SaysUnsatisfiable variables model
+RefusesModel variables model models.Unknown = HasStatus SaysUnknown variables model
 RefusesModel variables model models.Memory = Unit {0}
 
 -- What it writes for the values of the formula's variables: the witness of the first frame at which their run reaches

@@ -10,7 +10,7 @@ use Rattle.aig_parts.specs.declared.ternary.Tern.TheVariants.{Zero, One}
 use Rattle.aig_base.specs.declared.select.PropertySection.TheVariants as sections
 use Rattle.aig_names.specs.Header.{closings, moves, shared}
 use Rattle.aig_names.specs.HeaderRead.{found}
-use Rattle.aig_names.specs.Names.{code_digits, cut_at, identifier_code, names_of, shown_after, symbol_of, words}
+use Rattle.aig_names.specs.Names.{code_digits, cut_at, identifier_code, names_of, as_name_after, symbol_of, words}
 use Rattle.aig_names.specs.Paths.{leaf_of, path_of, scopes_of}
 use Rattle.aig_names.specs.Signals.{columns, entries, section_names}
 use Rattle.aig_names.specs.Vectors.{bit_of, next_name, turned, turned_after}
@@ -44,12 +44,12 @@ code_of_94 = refl
 
 -- `u1.q[0] x[0]` gives two names
 two_names : names_of (((Latch, 0), codes "u1.q[0] x[0]") ∷ []) Latch 0 ≡ codes "u1.q[0]" ∷ codes "x[0]" ∷ []
-unfolding shown_after symbol_of words
+unfolding as_name_after symbol_of words
 two_names = refl
 
 -- a latch 3 without a symbol is `l3`
 latch_without_symbol : names_of [] Latch 3 ≡ codes "l3" ∷ []
-unfolding digits shown_after symbol_of words
+unfolding digits as_name_after symbol_of words
 latch_without_symbol = refl
 
 -- `u1.q[0]` is `q[0]` in the scope `u1`
@@ -65,7 +65,7 @@ path_without_scope = (refl, refl)
 -- symbols `a b` and `c`: `a c b`
 order_of_names : section_names (((Input, 0), codes "a b") ∷ ((Input, 1), codes "c") ∷ []) Input 0 2
     ≡ (0, codes "a") ∷ (1, codes "c") ∷ (0, codes "b") ∷ []
-unfolding columns entries next_name section_names shown_after symbol_of turned_after words
+unfolding columns entries next_name section_names as_name_after symbol_of turned_after words
 order_of_names = refl
 
 -- `a[0] a[1] b` becomes `a[1] a[0] b`

@@ -6,7 +6,7 @@ use Rattle.std.proofs.lemmas.List.Elements.{All-cons, All-nil}
 use Rattle.aig_parts.specs.declared.ternary.Tern.{Tern}
 use Rattle.aig_parts.specs.declared.ternary.Tern.TheVariants.{Zero, One, X}
 use Rattle.aig_prompt.specs.Folded.{text_words, Folds}
-use Rattle.aig_prompt.specs.Shown.{shown_byte}
+use Rattle.aig_prompt.specs.Shown.{escaped_byte}
 use Rattle.aig_prompt.specs.Table.{block_text, blocks_text, line_text, IsTable}
 use Rattle.aig_prompt.specs.Value as value
 use Rattle.aig_prompt.specs.Value.{number_bits, IsDigit, Reads}
@@ -17,7 +17,7 @@ two_lines : Folds (codes "a b") [] (codes "a\nb\n") × (text_words (codes "a\nb"
 two_lines = ((codes "a\nb", refl, refl), refl)
 
 -- ESC is `\x1b`
-escape : shown_byte 27 ≡ 92 ∷ codes "x1b"
+escape : escaped_byte 27 ≡ 92 ∷ codes "x1b"
 escape = refl
 
 -- after `frame  0  1`, `rst    1  0`

@@ -12,12 +12,12 @@ abbrev pub ArePrintable : List ℕ → Type 0
 ArePrintable bytes = All (λ b. IsTrue (is_printable b)) bytes
 
 -- 0 to 9 and a to f
-abbrev pub hexadecimal : ℕ → ℕ
-hexadecimal digit = if nat_lt digit 10 then 48 + digit else 87 + digit
+abbrev pub hexadecimal_digit : ℕ → ℕ
+hexadecimal_digit digit = if nat_lt digit 10 then 48 + digit else 87 + digit
 
 -- a backslash, `x` and two hexadecimal digits
 abbrev pub escape : ℕ → List ℕ
-escape b = 92 ∷ 120 ∷ hexadecimal (b / 16) ∷ hexadecimal (b % 16) ∷ []
+escape b = 92 ∷ 120 ∷ hexadecimal_digit (b / 16) ∷ hexadecimal_digit (b % 16) ∷ []
 
 -- a byte in a message: as it is, or escaped
 abbrev pub escaped_byte : ℕ → List ℕ

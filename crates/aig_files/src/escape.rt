@@ -1,7 +1,7 @@
 //! Bytes of files and arguments in messages.
 ghost use Rattle.std.specs.Prelude.{◌≡◌, List, ◌++◌, ◌∷◌, ◌<◌, ◌/◌, ◌%◌, [], IsTrue, IfOk, OnOk};
 ghost use Rattle.std.specs.String.{string_bytes};
-ghost use Rattle.aig_files.specs.Shown.{is_printable, ArePrintable, hexadecimal, escape, escaped_byte, escaped};
+ghost use Rattle.aig_files.specs.Shown.{is_printable, ArePrintable, hexadecimal_digit, escape, escaped_byte, escaped};
 
 use aig_bytes::Memory;
 use std::alloc::Global;
@@ -16,7 +16,7 @@ pub(crate) fn is_printable(byte: u8) -> bool
 /// The hexadecimal digit of a number below 16.
 fn hexadecimal(digit: u8) -> u8
     requires { digit < 16 }
-    ensures value { result ≡ hexadecimal digit }
+    ensures value { result ≡ hexadecimal_digit digit }
     ensures printable { IsTrue (is_printable result) }
 {
     if digit < 10 { 48 + digit } else { 87 + digit }

@@ -17,7 +17,7 @@ use Rattle.aig_parts.specs.declared.symbols.Kind.TheVariants.{Input, Latch, Outp
 use Rattle.aig_parts.specs.SymbolPlaces.{Key}
 use Rattle.aig_names.proofs.Codes.{IsVisible}
 use Rattle.aig_parts.specs.Letters.{letter}
-use Rattle.aig_names.specs.Names.{symbol_of, cut_at, words, shown_byte, shown_after, shown, names_by, names_of}
+use Rattle.aig_names.specs.Names.{symbol_of, cut_at, words, name_byte, as_name_after, as_name, names_by, names_of}
 use Rattle.aig_names.specs.Paths.{path_of, scopes_of, leaf_of}
 
 abbrev pub NoDollar : List ℕ → Type 0
@@ -40,7 +40,7 @@ digit_letter Constraint = (omega arith, omega arith)
 digit_letter Justice = (omega arith, omega arith)
 digit_letter Fairness = (omega arith, omega arith)
 
--- ---- shown bytes
+-- ---- bytes of names
 -- the test by which a byte becomes `_`
 abbrev is_hidden : ℕ → ℕ → Bool
 is_hidden before b = nat_lt b 33 || (nat_lt 126 b || (b == 58 || (before == 46 && b == 36)))
@@ -67,26 +67,26 @@ shown_cases before b false e =
     no : (before == 46 && b == 36) ≡ false → before ≡ 46 → b ≡ 36 → ⊥
     no f p q = false≢true (sym f ∙ and_from (before == 46) (b == 36) (eq-eqb before 46 p) (eq-eqb b 36 q))
 
-shown_byte_is : (before b : ℕ) → AsShown before b (shown_byte before b)
-shown_byte_is before b = shown_cases before b (is_hidden before b) refl
+name_byte_is : (before b : ℕ) → AsShown before b (name_byte before b)
+name_byte_is before b = shown_cases before b (is_hidden before b) refl
 
 visible_as : (before b s : ℕ) → AsShown before b s → IsVisible s
 visible_as before b s (inl e) = (omega arith, omega arith)
 visible_as before b s (inr h) = (omega arith, omega arith)
 
-visible_after : (before : ℕ) (bytes : List ℕ) → All IsVisible (shown_after before bytes)
-unfolding shown_after
+visible_after : (before : ℕ) (bytes : List ℕ) → All IsVisible (as_name_after before bytes)
+unfolding as_name_after
 visible_after before [] = All-nil IsVisible
 visible_after before (b ∷ bytes) =
-    All-cons IsVisible (shown_byte before b) (shown_after b bytes)
-    (visible_as before b (shown_byte before b) (shown_byte_is before b)) (visible_after b bytes)
+    All-cons IsVisible (name_byte before b) (as_name_after b bytes)
+    (visible_as before b (name_byte before b) (name_byte_is before b)) (visible_after b bytes)
 
-length_after : (before : ℕ) (bytes : List ℕ) → length (shown_after before bytes) ≡ length bytes
-unfolding shown_after
+length_after : (before : ℕ) (bytes : List ℕ) → length (as_name_after before bytes) ≡ length bytes
+unfolding as_name_after
 length_after before [] = refl
 length_after before (b ∷ bytes) = ap suc (length_after b bytes)
 
--- ---- pieces of what is shown
+-- ---- pieces of names
 abbrev GoodPieces : ℕ → List (List ℕ) → Type 0
 GoodPieces before [] = Unit {0}
 GoodPieces before (piece ∷ more) = (before ≡ 46 → NoDollar piece) × All NoDollar more
@@ -119,19 +119,19 @@ good_step before b s pieces false e (inl h) good =
 good_step before b s pieces false e (inr h) good =
     good_tail before pieces s (λ p q. h.3 p (sym h.0 ∙ q)) b good
 
-good_pieces : (before : ℕ) (bytes : List ℕ) → GoodPieces before (cut_at 46 (shown_after before bytes))
-unfolding shown_after
+good_pieces : (before : ℕ) (bytes : List ℕ) → GoodPieces before (cut_at 46 (as_name_after before bytes))
+unfolding as_name_after
 good_pieces before [] = (λ p. no_dollar_nil, All-nil NoDollar)
 good_pieces before (b ∷ bytes) =
-    good_step before b (shown_byte before b) (cut_at 46 (shown_after b bytes)) (shown_byte before b == 46) refl
-    (shown_byte_is before b) (good_pieces b bytes)
+    good_step before b (name_byte before b) (cut_at 46 (as_name_after b bytes)) (name_byte before b == 46) refl
+    (name_byte_is before b) (good_pieces b bytes)
 
-good_front : (word : List ℕ) → NoDollar (shown word)
-unfolding shown_after
+good_front : (word : List ℕ) → NoDollar (as_name word)
+unfolding as_name_after
 good_front [] = no_dollar_nil
-good_front (b ∷ bytes) = no_dollar_cons (shown_byte 46 b) (shown_after b bytes) (front (shown_byte_is 46 b))
+good_front (b ∷ bytes) = no_dollar_cons (name_byte 46 b) (as_name_after b bytes) (front (name_byte_is 46 b))
   where
-    front : AsShown 46 b (shown_byte 46 b) → shown_byte 46 b ≢ 36
+    front : AsShown 46 b (name_byte 46 b) → name_byte 46 b ≢ 36
     front (inl h) q = omega (arith, h, q)
     front (inr h) q = h.3 refl (sym h.0 ∙ q)
 
@@ -222,20 +222,20 @@ name_by_letter kind p =
           (All-weaker (All IsDigit) NoDollar digits_no_dollar (cut_at 46 name) (cut_all IsDigit 46 name digits));
     }
 
-name_by_word : (word : List ℕ) → nat_lt 0 (length word) ≡ true → IsSignalName (shown word)
+name_by_word : (word : List ℕ) → nat_lt 0 (length word) ≡ true → IsSignalName (as_name word)
 name_by_word word h = record {
   visible = visible_after 46 word;
   some = omega (arith, length_after 46 word, ltb-true 0 (length word) h);
-  no_keyword = path_all NoDollar (shown word) (good_front word)
-      (all_good (cut_at 46 (shown word)) (good_pieces 46 word));
+  no_keyword = path_all NoDollar (as_name word) (good_front word)
+      (all_good (cut_at 46 (as_name word)) (good_pieces 46 word));
 }
 
 names_by_all : (kind : Kind) (p : ℕ) (ws : List (List ℕ)) → All (λ word. nat_lt 0 (length word) ≡ true) ws
     → All IsSignalName (names_by kind p ws)
 names_by_all kind p [] h = All-cons IsSignalName (letter kind ∷ decimal p) [] (name_by_letter kind p) (All-nil IsSignalName)
 names_by_all kind p (word ∷ more) h =
-    All-map IsSignalName shown (word ∷ more)
-    (All-weaker (λ word. nat_lt 0 (length word) ≡ true) (λ word. IsSignalName (shown word)) name_by_word (word ∷ more) h)
+    All-map IsSignalName as_name (word ∷ more)
+    (All-weaker (λ word. nat_lt 0 (length word) ≡ true) (λ word. IsSignalName (as_name word)) name_by_word (word ∷ more) h)
 
 words_some : (symbol : List ℕ) → All (λ word. nat_lt 0 (length word) ≡ true) (words symbol)
 unfolding words

@@ -9,7 +9,7 @@ use Rattle.std.proofs.lemmas.Bool.{ne_eqb, lt-ltb, cases_lt}
 use Rattle.std.proofs.lemmas.List.Splits.{slice_split_at, slice_split_none}
 use Rattle.aig_parts.specs.declared.symbols.Kind.{Kind}
 use Rattle.aig_parts.specs.Letters.{letter}
-use Rattle.aig_names.specs.Names.{words, cut_at, shown, shown_byte, shown_after, names_by}
+use Rattle.aig_names.specs.Names.{words, cut_at, as_name, name_byte, as_name_after, names_by}
 
 pub words_none : words [] ≡ []
 unfolding words
@@ -101,7 +101,7 @@ no_bytes text word n m is zero_is first end = elim (cases_lt 0 (length word)) [
     get_or_at xs k = get_or xs k 0
 
 pub names_some : (kind : Kind) (p : ℕ) (ws : List (List ℕ)) (w : List ℕ) (rest : List (List ℕ)) → ws ≡ w ∷ rest
-    → map shown ws ≡ names_by kind p ws
+    → map as_name ws ≡ names_by kind p ws
 names_some kind p ws w rest e = rw e refl
 
 pub names_none : (kind : Kind) (p : ℕ) (ws : List (List ℕ)) → ws ≡ [] → (letter kind ∷ decimal p) ∷ [] ≡ names_by kind p ws
@@ -109,14 +109,14 @@ names_none kind p ws e = rw e refl
 
 -- one more byte of a word, and none
 pub shown_more : (text word : List ℕ) (before i : ℕ) → i < length word
-    → (text ++ (shown_byte before (get_or word i 0) ∷ [])) ++ shown_after (get_or word i 0) (drop (i + 1) word)
-    ≡ text ++ shown_after before (drop i word)
-unfolding shown_after
+    → (text ++ (name_byte before (get_or word i 0) ∷ [])) ++ as_name_after (get_or word i 0) (drop (i + 1) word)
+    ≡ text ++ as_name_after before (drop i word)
+unfolding as_name_after
 shown_more text word before i lt =
-    append_assoc text (shown_byte before (get_or word i 0) ∷ []) (shown_after (get_or word i 0) (drop (i + 1) word))
-    ∙ ap (λ (xs : List ℕ). text ++ shown_after before xs) (sym (drop_more word i 0 lt))
+    append_assoc text (name_byte before (get_or word i 0) ∷ []) (as_name_after (get_or word i 0) (drop (i + 1) word))
+    ∙ ap (λ (xs : List ℕ). text ++ as_name_after before xs) (sym (drop_more word i 0 lt))
 
-pub shown_all : (text word : List ℕ) (before i : ℕ) → length word ≤ i → text ++ shown_after before (drop i word) ≡ text
-unfolding shown_after
+pub shown_all : (text word : List ℕ) (before i : ℕ) → length word ≤ i → text ++ as_name_after before (drop i word) ≡ text
+unfolding as_name_after
 shown_all text word before i le =
-    ap (λ (xs : List ℕ). text ++ shown_after before xs) (drop_all i word le) ∙ append-nil text
+    ap (λ (xs : List ℕ). text ++ as_name_after before xs) (drop_all i word le) ∙ append-nil text

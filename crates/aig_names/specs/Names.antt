@@ -33,22 +33,22 @@ words symbol = filter (λ word. nat_lt 0 (length word)) (cut_at 32 symbol)
 
 -- white space, control bytes and all that is no ASCII become `_`, and so do a `:`, which viewers take for a range of
 -- bits, and a `$` after a dot: no name is a keyword
-abbrev pub shown_byte : ℕ → ℕ → ℕ
-shown_byte before b = if nat_lt b 33 || (nat_lt 126 b || (b == 58 || (before == 46 && b == 36))) then 95 else b
+abbrev pub name_byte : ℕ → ℕ → ℕ
+name_byte before b = if nat_lt b 33 || (nat_lt 126 b || (b == 58 || (before == 46 && b == 36))) then 95 else b
 
 -- the bytes after this one as a name has them
-unfoldable pub shown_after : ℕ → List ℕ → List ℕ
-shown_after before [] = []
-shown_after before (b ∷ bytes) = shown_byte before b ∷ shown_after b bytes
+unfoldable pub as_name_after : ℕ → List ℕ → List ℕ
+as_name_after before [] = []
+as_name_after before (b ∷ bytes) = name_byte before b ∷ as_name_after b bytes
 
 -- a word as a name; its front counts as the front of a piece, as what is after a dot does
-abbrev pub shown : List ℕ → List ℕ
-shown word = shown_after 46 word
+abbrev pub as_name : List ℕ → List ℕ
+as_name word = as_name_after 46 word
 
 -- the names by the words of a symbol; without any, the letter of the section and the position
 abbrev pub names_by : Kind → ℕ → List (List ℕ) → List (List ℕ)
 names_by kind p [] = (letter kind ∷ decimal p) ∷ []
-names_by kind p (word ∷ more) = map shown (word ∷ more)
+names_by kind p (word ∷ more) = map as_name (word ∷ more)
 
 -- the names of the entry at position p of a section
 abbrev pub names_of : List (Key × List ℕ) → Kind → ℕ → List (List ℕ)

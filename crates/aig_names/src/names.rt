@@ -3,7 +3,7 @@ ghost use Rattle.std.specs.Prelude.{◌≡◌, ◌≢◌, ℕ, ◌++◌, ◌<◌
 ghost use Rattle.std.specs.Prelude.{AllPairs, decimal};
 ghost use Rattle.std.specs.Map.{keys_of};
 ghost use Rattle.aig_parts.specs.Letters.{letter};
-ghost use Rattle.aig_names.specs.Names.{words, shown, shown_byte, names_of, symbol_of};
+ghost use Rattle.aig_names.specs.Names.{words, as_name, name_byte, names_of, symbol_of};
 ghost use Rattle.aig_names.specs.state.Naming.{name_text, names_left, names_size};
 
 use aig_bytes::Memory;
@@ -133,7 +133,7 @@ pub fn first_name(names: Names<'_>) -> Option<FirstName<'_>>
 
 // A byte of a word as a name has it.
 fn shown_as(before: u8, byte: u8) -> u8
-    ensures { result ≡ shown_byte before byte }
+    ensures { result ≡ name_byte before byte }
 {
     if byte < 33 || byte > 126 || byte == b':' || (before == b'.' && byte == b'$') {
         b'_'
@@ -144,7 +144,7 @@ fn shown_as(before: u8, byte: u8) -> u8
 
 // Adds a word as a name.
 fn push_word(text: &mut Vec<u8>, word: &[u8]) -> Result<(), Memory>
-    ensures { OnOk result (text.new.items ≡ text.old.items ++ shown word.now) }
+    ensures { OnOk result (text.new.items ≡ text.old.items ++ as_name word.now) }
 {
     let mut before = b'.';
     for byte in word {

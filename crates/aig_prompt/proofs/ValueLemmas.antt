@@ -17,13 +17,13 @@ use Rattle.std.proofs.Math.Nat.{mod-add-div, mod-lt, mul_assoc, pow-succ'}
 use Rattle.aig_parts.specs.declared.ternary.Tern.{Tern}
 use Rattle.aig_parts.specs.declared.ternary.Tern.TheVariants.{Zero, One, X}
 use Rattle.aig_prompt.specs.Value.{bit_value, digit_bits, digit_number, digit_of, digits_bits, letter_value}
-use Rattle.aig_prompt.specs.Value.{number_bits, numeral, IsDigit, IsFitted, IsHexadecimal, IsNumeral, Reads, ReadsBase}
+use Rattle.aig_prompt.specs.Value.{number_bits, numeral, IsDigit, IsFitted, AreHexadecimalDigits, IsNumeral, Reads, ReadsBase}
 use Rattle.aig_prompt.specs.Value.{ReadsSized}
 use Rattle.aig_prompt.specs.declared.value.Bits.{Bits}
 use Rattle.aig_prompt.specs.declared.value.ValueFault.{ValueFault}
 use Rattle.aig_prompt.specs.declared.value.ValueFault.TheVariants as faults
 use Rattle.aig_prompt.specs.state.Gathered.{Gathers}
-use Rattle.aig_prompt.specs.Value.{AreLetters, IsDecimal, IsUnknown, RefusesBits, RefusesValue, has_unknown, is_unknown}
+use Rattle.aig_prompt.specs.Value.{AreLetters, AreDecimalDigits, IsUnknown, RefusesBits, RefusesValue, has_unknown, is_unknown}
 use Rattle.aig_prompt.specs.Value.{reads_unknown, reads_letters, reads_digits, reads_sized, in_base_2, in_base_10}
 use Rattle.aig_prompt.specs.Value.{in_base_16}
 
@@ -100,7 +100,7 @@ all_down P digits k n e le here rest =
 
 pub hexadecimal_ends : {V E : Type 0} (items : V → List Tern) (digits : List ℕ) (place : ℕ) (r : Result V E) → place ≡ 0
     → (length digits == 0) ≡ false → All (IsDigit 16) (drop place digits)
-    → IfOk r (λ v. IsFitted (digits_bits (drop place digits)) (items v)) → IfOk r (λ v. IsHexadecimal digits (items v))
+    → IfOk r (λ v. IsFitted (digits_bits (drop place digits)) (items v)) → IfOk r (λ v. AreHexadecimalDigits digits (items v))
 hexadecimal_ends items digits place (Ok v) is some all fitted =
     let digits_are : All (IsDigit 16) digits = subst (λ (p : ℕ). All (IsDigit 16) (drop p digits)) is all in
     ((some_digit digits some, digits_are), subst (λ (p : ℕ). IsFitted (digits_bits (drop p digits)) (items v)) is fitted)
@@ -200,14 +200,14 @@ same_first a b xs ys rest e f = ap (λ zs. get_or zs 0 0) (sym e ∙ f)
 same_rest : (a b : ℕ) (xs ys rest : List ℕ) → rest ≡ a ∷ xs → rest ≡ b ∷ ys → xs ≡ ys
 same_rest a b xs ys rest e f = ap (drop 1) (sym e ∙ f)
 
-pub only_16 : (rest tail : List ℕ) (bits : List Tern) → rest ≡ 104 ∷ tail → ReadsBase rest bits → IsHexadecimal tail bits
-only_16 rest tail bits is (in_base_16 d e h) = subst (λ ds. IsHexadecimal ds bits) (same_rest 104 104 d tail rest e is) h
+pub only_16 : (rest tail : List ℕ) (bits : List Tern) → rest ≡ 104 ∷ tail → ReadsBase rest bits → AreHexadecimalDigits tail bits
+only_16 rest tail bits is (in_base_16 d e h) = subst (λ ds. AreHexadecimalDigits ds bits) (same_rest 104 104 d tail rest e is) h
 only_16 rest tail bits is (in_base_10 d e h) = absurd (omega (arith, same_first 100 104 d tail rest e is))
 only_16 rest tail bits is (in_base_2 d e h) = absurd (omega (arith, same_first 98 104 d tail rest e is))
 
-pub only_10 : (rest tail : List ℕ) (bits : List Tern) → rest ≡ 100 ∷ tail → ReadsBase rest bits → IsDecimal tail bits
+pub only_10 : (rest tail : List ℕ) (bits : List Tern) → rest ≡ 100 ∷ tail → ReadsBase rest bits → AreDecimalDigits tail bits
 only_10 rest tail bits is (in_base_16 d e h) = absurd (omega (arith, same_first 104 100 d tail rest e is))
-only_10 rest tail bits is (in_base_10 d e h) = subst (λ ds. IsDecimal ds bits) (same_rest 100 100 d tail rest e is) h
+only_10 rest tail bits is (in_base_10 d e h) = subst (λ ds. AreDecimalDigits ds bits) (same_rest 100 100 d tail rest e is) h
 only_10 rest tail bits is (in_base_2 d e h) = absurd (omega (arith, same_first 98 100 d tail rest e is))
 
 pub sized_refused : {V : Type 0} (size rest : List ℕ) (width : ℕ) (r : Result V ValueFault) (P : List Tern → Type 0)
@@ -253,7 +253,7 @@ plain_refused_letters text width (Err e) quote alone some h = λ other bits is. 
     go other bits is (reads_sized size rest e u) = no_quote size rest text e quote
 
 pub plain_refused_digits : {V : Type 0} (text : List ℕ) (width : ℕ) (r : Result V ValueFault) → All (λ b. b ≢ 39) text
-    → (IsUnknown text → ⊥) → has_unknown text ≡ false → IfErr r (RefusesBits (IsHexadecimal text) width)
+    → (IsUnknown text → ⊥) → has_unknown text ≡ false → IfErr r (RefusesBits (AreHexadecimalDigits text) width)
     → IfErr r (RefusesValue text width)
 plain_refused_digits text width (Ok v) quote alone none h = h
 plain_refused_digits text width (Err e) quote alone none h = λ other bits is. go other bits is
@@ -290,14 +290,14 @@ numeral_refused digits i n lt is step numeral_is small =
 
 pub decimal_ends : {V E : Type 0} (items : V → List Tern) (digits : List ℕ) (n : ℕ) (all : List Tern) (r : Result V E)
     → (n ≡ numeral 10 digits) × IsNumeral 10 digits → n < 2 ^ 64 → all ≡ number_bits 64 (numeral 10 digits)
-    → IfOk r (λ v. IsFitted all (items v)) → IfOk r (λ v. IsDecimal digits (items v))
+    → IfOk r (λ v. IsFitted all (items v)) → IfOk r (λ v. AreDecimalDigits digits (items v))
 decimal_ends items digits n all (Ok v) is small whole fitted =
     (is.1, subst (λ k. k < 2 ^ 64) is.0 small, subst (λ xs. IsFitted xs (items v)) whole fitted)
 decimal_ends items digits n all (Err e) is small whole fitted = fitted
 
 pub decimal_refused : {V : Type 0} (digits : List ℕ) (width : ℕ) (all : List Tern) (r : Result V ValueFault)
     → all ≡ number_bits 64 (numeral 10 digits)
-    → IfErr r (λ f. f ≢ faults.Memory → All (λ w. w ≡ Zero) (drop width all) → ⊥) → IfErr r (RefusesBits (IsDecimal digits) width)
+    → IfErr r (λ f. f ≢ faults.Memory → All (λ w. w ≡ Zero) (drop width all) → ⊥) → IfErr r (RefusesBits (AreDecimalDigits digits) width)
 decimal_refused digits width all (Ok v) whole h = h
 decimal_refused digits width all (Err e) whole h = λ other bits is reads.
     h other (subst (λ k. All (λ w. w ≡ Zero) (drop k all)) is

@@ -67,8 +67,8 @@ pub record IsFitted (all bits : List Tern) : Type 0 where
   pub others : All (λ w. w ≡ Zero) (drop (length bits) all)
 
 -- the value of digits of base 16
-abbrev pub IsHexadecimal : List ℕ → List Tern → Type 0
-IsHexadecimal digits bits = IsNumeral 16 digits × IsFitted (digits_bits digits) bits
+abbrev pub AreHexadecimalDigits : List ℕ → List Tern → Type 0
+AreHexadecimalDigits digits bits = IsNumeral 16 digits × IsFitted (digits_bits digits) bits
 
 -- the first bits of a number, from bit 0 up
 unfoldable pub number_bits : ℕ → ℕ → List Tern
@@ -76,8 +76,8 @@ number_bits zero n = []
 number_bits (suc count) n = bit_value (n % 2 == 1) ∷ number_bits count (n / 2)
 
 -- the value of decimal digits, whose number has 64 bits at most
-abbrev pub IsDecimal : List ℕ → List Tern → Type 0
-IsDecimal digits bits =
+abbrev pub AreDecimalDigits : List ℕ → List Tern → Type 0
+AreDecimalDigits digits bits =
     IsNumeral 10 digits × (numeral 10 digits < 2 ^ 64) × IsFitted (number_bits 64 (numeral 10 digits)) bits
 
 -- one letter for each bit, the last bit first
@@ -90,8 +90,8 @@ IsUnknown text = (b : ℕ) × (text ≡ b ∷ []) × (is_unknown b ≡ true)
 
 -- after a quote a base, and digits or letters
 pub data ReadsBase (rest : List ℕ) (bits : List Tern) : Type 0 where
-  in_base_16 : (digits : List ℕ) → rest ≡ 104 ∷ digits → IsHexadecimal digits bits → ReadsBase rest bits
-  in_base_10 : (digits : List ℕ) → rest ≡ 100 ∷ digits → IsDecimal digits bits → ReadsBase rest bits
+  in_base_16 : (digits : List ℕ) → rest ≡ 104 ∷ digits → AreHexadecimalDigits digits bits → ReadsBase rest bits
+  in_base_10 : (digits : List ℕ) → rest ≡ 100 ∷ digits → AreDecimalDigits digits bits → ReadsBase rest bits
   in_base_2 : (letters : List ℕ) → rest ≡ 98 ∷ letters → AreLetters letters bits → ReadsBase rest bits
 
 -- before a quote the width
@@ -103,7 +103,7 @@ ReadsSized size rest bits = (size ≡ decimal (length bits)) × ReadsBase rest b
 pub data Reads (text : List ℕ) (bits : List Tern) : Type 0 where
   reads_unknown : IsUnknown text → bits ≡ replicate (length bits) X → Reads text bits
   reads_letters : has_unknown text ≡ true → AreLetters text bits → Reads text bits
-  reads_digits : IsHexadecimal text bits → Reads text bits
+  reads_digits : AreHexadecimalDigits text bits → Reads text bits
   reads_sized : (size rest : List ℕ) → text ≡ size ++ 39 ∷ rest → ReadsSized size rest bits → Reads text bits
 
 -- no value of so many bits, or no memory for it

@@ -4,8 +4,8 @@ ghost use Rattle.std.specs.Prelude.{drop, All, Some, IfErr, IfNone, IfOk, IfSome
 ghost use Rattle.std.specs.Prelude.{slice_index};
 ghost use Rattle.aig_parts.specs.declared.ternary.Tern.{Tern};
 ghost use Rattle.aig_prompt.specs.Value as spec;
-ghost use Rattle.aig_prompt.specs.Value.{AreLetters, IsDecimal, IsFitted, IsHexadecimal, Reads, ReadsSized};
-ghost use Rattle.aig_prompt.specs.Value.{RefusesBits, RefusesValue};
+ghost use Rattle.aig_prompt.specs.Value.{AreLetters, AreDecimalDigits, IsFitted, AreHexadecimalDigits, Reads};
+ghost use Rattle.aig_prompt.specs.Value.{ReadsSized, RefusesBits, RefusesValue};
 ghost use Rattle.aig_prompt.specs.state.Gathered.{Gathers};
 
 use aig_bytes::Memory;
@@ -161,8 +161,8 @@ impl Bits {
 /// The value of digits of base 16.
 fn hexadecimal_value(alloc: Global, digits: &[u8], width: usize) -> Result<Vec<Tern>, ValueFault>
     ensures size { IfOk result (λ bits. length bits.items ≡ width) }
-    ensures value { IfOk result (λ bits. IsHexadecimal digits.now bits.items) }
-    ensures refused { IfErr result (RefusesBits (IsHexadecimal digits.now) width) }
+    ensures value { IfOk result (λ bits. AreHexadecimalDigits digits.now bits.items) }
+    ensures refused { IfErr result (RefusesBits (AreHexadecimalDigits digits.now) width) }
 {
     if digits.is_empty() {
         return Err(ValueFault::Malformed);
@@ -214,8 +214,8 @@ fn number_of(digits: &[u8]) -> Result<u64, ValueFault>
 /// The value of decimal digits.
 fn decimal_value(alloc: Global, digits: &[u8], width: usize) -> Result<Vec<Tern>, ValueFault>
     ensures size { IfOk result (λ bits. length bits.items ≡ width) }
-    ensures value { IfOk result (λ bits. IsDecimal digits.now bits.items) }
-    ensures refused { IfErr result (RefusesBits (IsDecimal digits.now) width) }
+    ensures value { IfOk result (λ bits. AreDecimalDigits digits.now bits.items) }
+    ensures refused { IfErr result (RefusesBits (AreDecimalDigits digits.now) width) }
 {
     let mut number = number_of(digits)?;
     let mut bits = Bits::new(alloc, width);

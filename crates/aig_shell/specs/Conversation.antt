@@ -191,15 +191,15 @@ RefusesRows raw rows run_faults.Memory = Unit {0}
 RefusesRows raw rows _ = ⊥
 
 -- the run that is given is refused with this fault
-abbrev pub RefusesRun : Raw → Given (List ℕ) → RunFault → Type 0
-RefusesRun raw given fault =
+abbrev pub RefusesGivenRun : Raw → Given (List ℕ) → RunFault → Type 0
+RefusesGivenRun raw given fault =
     RefusesGiven raw given fault ⊎ ((run : ReadRun) × IsGiven raw given run × RefusesRows raw run.rows fault)
 
 -- the circuit is refused with this fault, or its run
 abbrev pub RefusesFiles : List ℕ → Given (List ℕ) → RunFault → Type 0
 RefusesFiles file given fault =
     ((why : Fault) × (fault ≡ run_faults.Circuit why) × RefusesCircuit file why)
-    ⊎ ((raw : Raw) × IsFileOf file raw × RefusesRun raw given fault)
+    ⊎ ((raw : Raw) × IsFileOf file raw × RefusesGivenRun raw given fault)
 
 -- a write or a flush fails, and nothing passes
 pub record OnlyFails {Y X Z : Type 0} (passes : Passes Y X Z) : Type 0 where

@@ -8,17 +8,17 @@ use Rattle.aig_names.specs.declared.names.Names.TheVariants as names
 use Rattle.aig_names.specs.declared.signals.Signal.{Signal}
 use Rattle.aig_names.specs.declared.signals.Entry.{Entry}
 use Rattle.aig_parts.specs.Letters.{letter}
-use Rattle.aig_names.specs.Names.{words, shown}
+use Rattle.aig_names.specs.Names.{words, as_name}
 use Rattle.aig_names.specs.Vectors.{next_name}
 
 -- a name's bytes
 abbrev pub name_text : Name → List ℕ
-name_text (name.Word word) = shown word.now
+name_text (name.Word word) = as_name word.now
 name_text (name.Position kind p) = letter kind ∷ decimal p
 
 -- names that are not declared yet
 abbrev pub names_left : Names → List (List ℕ)
-names_left (names.Words text) = map shown (words text.now)
+names_left (names.Words text) = map as_name (words text.now)
 names_left (names.Position kind p) = (letter kind ∷ decimal p) ∷ []
 
 -- how many bytes the text has; a position stands for one

@@ -9,7 +9,7 @@ use Rattle.std.proofs.lemmas.Option.{get_or_from_slice_get, slice_get-get_or}
 use Rattle.std.proofs.Math.Seq.{take-add}
 use Rattle.aig_parts.specs.Literal.{variable}
 use Rattle.aig_parts.specs.declared.ternary.Tern.{Tern}
-use Rattle.aig_sat.specs.model.ModelText.{BeginsLine, HasStatus, IsSatisfiable, IsSpace, Names, SpellsModel}
+use Rattle.aig_sat.specs.model.ModelText.{BeginsLine, HasStatus, SaysSatisfiable, IsSpace, Names, SpellsModel}
 use Rattle.aig_sat.specs.model.ModelText.{number_text}
 use Rattle.aig_sat.specs.model.Named.{AreNamed}
 use Rattle.aig_sat.specs.declared.model.fault.ModelFault.{ModelFault}
@@ -111,7 +111,7 @@ comment_read reader text at end after bound first last inside begins (bound', (l
 
 -- the line that says that there is a model
 pub status_read : (old new : Reader) (line : List ℕ) → old.phase ≡ Before → new.phase ≡ Within → new.values ≡ old.values
-    → IsSatisfiable line → GoesOnLine old new line 10
+    → SaysSatisfiable line → GoesOnLine old new line 10
 status_read old new line before within same is text literals begins h =
     let none : literals ≡ [] = before_none h.names before in (
       [],

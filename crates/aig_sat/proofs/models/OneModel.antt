@@ -3,7 +3,7 @@ use Rattle.std.proofs.Common.{◌≡◌, ◌≢◌, ◌⊎◌, inl, inr, ℕ, �
 use Rattle.std.proofs.Common.{refl, sym, ap, ◌∙◌, subst, arith, append_assoc}
 use Rattle.std.proofs.lemmas.List.{append-nil, append_cancel_left, length-append}
 use Rattle.aig_bytes.proofs.Cuts.{split_at}
-use Rattle.aig_sat.specs.model.ModelText.{HasStatus, IsSatisfiable, IsUnknown, IsUnsatisfiable, Names, SpellsModel}
+use Rattle.aig_sat.specs.model.ModelText.{HasStatus, SaysSatisfiable, SaysUnknown, SaysUnsatisfiable, Names, SpellsModel}
 use Rattle.aig_sat.specs.model.ModelText.{number_text}
 use Rattle.aig_sat.specs.declared.model.reader.Phase.{Phase}
 use Rattle.aig_sat.specs.declared.model.reader.Phase.TheVariants.{Before, After}
@@ -129,7 +129,7 @@ next_piece (Goes.step {rest = rest} p stands g) some =
 -- a line by which a solver may answer is the one that says that there is a model
 pub only_answer : (variables : ℕ) (all front literals line rest : List ℕ) (phase : Phase) → variables ≤ 2147483648
     → All (λ b. b ≢ 10) line → ((x : ℕ) (xs : List ℕ) → line ++ 10 ∷ rest ≡ x ∷ xs → IsAnswerByte x)
-    → Next variables all front literals (line ++ 10 ∷ rest) phase → IsSatisfiable line
+    → Next variables all front literals (line ++ 10 ∷ rest) phase → SaysSatisfiable line
 only_answer variables all front literals line rest phase small inside answers n =
     let k = begins variables front phase n.piece n.rest small n.stands in
     by n.piece n.rest n.text_is n.stands k.first k.is (answers k.first k.rest (n.text_is ∙ k.text_is))
@@ -141,7 +141,7 @@ only_answer variables all front literals line rest phase small inside answers n 
     other x (inr (inr (inr e))) = (omega (arith, e), (omega (arith, e), λ f. omega (arith, e, f)))
 
     by : (p : Piece) (more : List ℕ) → line ++ 10 ∷ rest ≡ piece_text p ++ more → MayStand variables front phase p
-        → (x : ℕ) → FirstByte p x → IsAnswerByte x → IsSatisfiable line
+        → (x : ℕ) → FirstByte p x → IsAnswerByte x → SaysSatisfiable line
     by (Piece.space c) more e s x f a = absurd (omega (arith, (other x a).0, f))
     by (Piece.comment line') more e s x f a = absurd ((other x a).1.1 f)
     by (Piece.word w c) more e s x f a =
@@ -150,7 +150,7 @@ only_answer variables all front literals line rest phase small inside answers n 
     by (Piece.status line') more e s x f a =
         let r = split_at (λ z. z ≡ 10) line' line more rest 10 10 (no_end_in_status line' s.0) inside refl refl
         (sym (append_assoc line' (10 ∷ []) more) ∙ sym e) in
-        subst IsSatisfiable r.0 s.0
+        subst SaysSatisfiable r.0 s.0
 
 -- ---- the law of one reading
 
@@ -162,7 +162,7 @@ one_reading {variables} {text} {literals} {literals'} small h k =
 -- no model has a line that says otherwise
 AnswersOtherwise : (List ℕ → Type 0) → Type 0
 AnswersOtherwise IsLine = (line : List ℕ) → IsLine line
-    → All (λ b. b ≢ 10) line × ((IsSatisfiable line → ⊥)
+    → All (λ b. b ≢ 10) line × ((SaysSatisfiable line → ⊥)
     × ((rest : List ℕ) (x : ℕ) (xs : List ℕ) → line ++ 10 ∷ rest ≡ x ∷ xs → IsAnswerByte x))
 
 no_answer : (IsLine : List ℕ → Type 0) → AnswersOtherwise IsLine → (variables : ℕ) (text literals : List ℕ)
@@ -181,18 +181,18 @@ no_answer IsLine is variables text literals small spells h =
 abbrev byte_sum : List ℕ → ℕ
 byte_sum line = get_or line 0 0 + get_or line 2 0
 
-satisfiable_sum : (line : List ℕ) → IsSatisfiable line → (byte_sum line ≡ 198) ⊎ (byte_sum line ≡ 167)
+satisfiable_sum : (line : List ℕ) → SaysSatisfiable line → (byte_sum line ≡ 198) ⊎ (byte_sum line ≡ 167)
 satisfiable_sum line (inl e) = inl (ap byte_sum e)
 satisfiable_sum line (inr (inl e)) = inr (ap byte_sum e)
 satisfiable_sum line (inr (inr e)) = inr (ap byte_sum e)
 
-other_sum : (line : List ℕ) (n : ℕ) → byte_sum line ≡ n → n ≢ 198 → n ≢ 167 → IsSatisfiable line → ⊥
+other_sum : (line : List ℕ) (n : ℕ) → byte_sum line ≡ n → n ≢ 198 → n ≢ 167 → SaysSatisfiable line → ⊥
 other_sum line n e ne ne' h = elim (satisfiable_sum line h) [ inl f ↦ ne (sym e ∙ f) | inr f ↦ ne' (sym e ∙ f) ]
 
 first_of : (line rest xs : List ℕ) (x y : ℕ) → line ++ 10 ∷ rest ≡ x ∷ xs → get_or (line ++ 10 ∷ rest) 0 0 ≡ y → x ≡ y
 first_of line rest xs x y is e = sym (ap (λ (ys : List ℕ). get_or ys 0 0) is) ∙ e
 
-otherwise_unsatisfiable : AnswersOtherwise IsUnsatisfiable
+otherwise_unsatisfiable : AnswersOtherwise SaysUnsatisfiable
 unfolding AnswersOtherwise
 otherwise_unsatisfiable line (inl e) = (
   no_end line (ap has_end e),
@@ -218,7 +218,7 @@ otherwise_unsatisfiable line (inr (inr e)) = (
   ),
 )
 
-otherwise_unknown : AnswersOtherwise IsUnknown
+otherwise_unknown : AnswersOtherwise SaysUnknown
 unfolding AnswersOtherwise
 otherwise_unknown line (inl e) = (
   no_end line (ap has_end e),
@@ -237,11 +237,11 @@ otherwise_unknown line (inr e) = (
 )
 
 pub not_unsatisfiable : (variables : ℕ) (text literals : List ℕ) → variables ≤ 2147483648
-    → SpellsModel variables text literals → HasStatus IsUnsatisfiable variables text → ⊥
+    → SpellsModel variables text literals → HasStatus SaysUnsatisfiable variables text → ⊥
 not_unsatisfiable variables text literals small spells h =
-    no_answer IsUnsatisfiable otherwise_unsatisfiable variables text literals small spells h
+    no_answer SaysUnsatisfiable otherwise_unsatisfiable variables text literals small spells h
 
 pub not_unknown : (variables : ℕ) (text literals : List ℕ) → variables ≤ 2147483648 → SpellsModel variables text literals
-    → HasStatus IsUnknown variables text → ⊥
+    → HasStatus SaysUnknown variables text → ⊥
 not_unknown variables text literals small spells h =
-    no_answer IsUnknown otherwise_unknown variables text literals small spells h
+    no_answer SaysUnknown otherwise_unknown variables text literals small spells h

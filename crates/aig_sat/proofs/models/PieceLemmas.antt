@@ -10,7 +10,7 @@ use Rattle.std.proofs.lemmas.List.{take_all}
 use Rattle.std.proofs.lemmas.List.Elements.{All-nil, All-cons, All-weaker}
 use Rattle.aig_bytes.proofs.Cuts.{split_at}
 use Rattle.aig_parts.specs.Literal.{variable}
-use Rattle.aig_sat.specs.model.ModelText.{BeginsLine, IsSatisfiable, IsSpace, number_text}
+use Rattle.aig_sat.specs.model.ModelText.{BeginsLine, SaysSatisfiable, IsSpace, number_text}
 use Rattle.aig_sat.specs.declared.model.reader.Phase.{Phase}
 use Rattle.aig_sat.specs.declared.model.reader.Phase.TheVariants.{Before, Within, After}
 use Rattle.aig_sat.proofs.models.DigitLemmas.{decimal_head}
@@ -50,7 +50,7 @@ MayBe variables front Word.end = Unit {0}
 abbrev pub MayStand : ℕ → List ℕ → Phase → Piece → Type 0
 MayStand variables front phase (Piece.space b) = IsSpace b
 MayStand variables front phase (Piece.comment line) = All (λ b. b ≢ 10) line × BeginsLine front
-MayStand variables front phase (Piece.status line) = IsSatisfiable line × (BeginsLine front × (phase ≡ Before))
+MayStand variables front phase (Piece.status line) = SaysSatisfiable line × (BeginsLine front × (phase ≡ Before))
 MayStand variables front phase (Piece.word w b) = IsSpace b × ((phase ≢ After) × MayBe variables front w)
 
 abbrev pub phase_after : Phase → Piece → Phase
@@ -108,7 +108,7 @@ no_end (x ∷ xs) e = elim (eqb_tells x 10) [
       All-cons (λ b. b ≢ 10) x xs is.1 (no_end xs (ap (λ (t : Bool). if t then true else has_end xs) (sym is.0) ∙ e))
 ]
 
-pub no_end_in_status : (line : List ℕ) → IsSatisfiable line → All (λ b. b ≢ 10) line
+pub no_end_in_status : (line : List ℕ) → SaysSatisfiable line → All (λ b. b ≢ 10) line
 no_end_in_status line (inl e) = no_end line (ap has_end e)
 no_end_in_status line (inr (inl e)) = no_end line (ap has_end e)
 no_end_in_status line (inr (inr e)) = no_end line (ap has_end e)

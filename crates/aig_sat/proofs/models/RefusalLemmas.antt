@@ -10,7 +10,7 @@ use Rattle.std.proofs.lemmas.List.Elements.{All-nil, Contains-append_left, Conta
 use Rattle.aig_bytes.proofs.Cuts.{split_at}
 use Rattle.aig_parts.specs.Literal.{negation, variable}
 use Rattle.aig_parts.specs.declared.ternary.Tern.{Tern}
-use Rattle.aig_sat.specs.model.ModelText.{BeginsLine, IsModelOf, IsSatisfiable, IsSpace, Names, number_text}
+use Rattle.aig_sat.specs.model.ModelText.{BeginsLine, IsModelOf, SaysSatisfiable, IsSpace, Names, number_text}
 use Rattle.aig_sat.specs.model.Named.{AreNamed}
 use Rattle.aig_sat.specs.declared.model.reader.Phase.TheVariants.{Before, After}
 use Rattle.aig_sat.specs.declared.model.reader.Reader.{Reader}
@@ -75,7 +75,7 @@ module _ (variables : ℕ) (reader : Reader) (text : List ℕ) (at : ℕ) (value
     -- a line that may be an answer, and says no model
     pub line_refused : b ≡ 10 → All (λ z. z ≢ 10) (take (end - at) (drop at text))
         → ((x : ℕ) → slice_get (text ++ 10 ∷ []) at ≡ Some x → IsAnswerByte x)
-        → (IsSatisfiable (take (end - at) (drop at text)) → ⊥) → ⊥
+        → (SaysSatisfiable (take (end - at) (drop at text)) → ⊥) → ⊥
     line_refused lf inside answer not =
         not (only_answer variables model.0 (take at (text ++ 10 ∷ [])) before.1.0 (take (end - at) (drop at text))
         (drop (end + 1) (text ++ 10 ∷ [])) reader.phase small inside

@@ -22,16 +22,16 @@ abbrev pub number_text : ℕ → List ℕ
 number_text l = (if nat_eq (l % 2) 0 then [] else codes "-") ++ decimal (variable l + 1)
 
 -- the lines by which solvers say that there is a model
-abbrev pub IsSatisfiable : List ℕ → Type 0
-IsSatisfiable line = (line ≡ codes "s SATISFIABLE") ⊎ ((line ≡ codes "SATISFIABLE") ⊎ (line ≡ codes "SAT"))
+abbrev pub SaysSatisfiable : List ℕ → Type 0
+SaysSatisfiable line = (line ≡ codes "s SATISFIABLE") ⊎ ((line ≡ codes "SATISFIABLE") ⊎ (line ≡ codes "SAT"))
 
 -- that there is none
-abbrev pub IsUnsatisfiable : List ℕ → Type 0
-IsUnsatisfiable line = (line ≡ codes "s UNSATISFIABLE") ⊎ ((line ≡ codes "UNSATISFIABLE") ⊎ (line ≡ codes "UNSAT"))
+abbrev pub SaysUnsatisfiable : List ℕ → Type 0
+SaysUnsatisfiable line = (line ≡ codes "s UNSATISFIABLE") ⊎ ((line ≡ codes "UNSATISFIABLE") ⊎ (line ≡ codes "UNSAT"))
 
 -- and that they do not know
-abbrev pub IsUnknown : List ℕ → Type 0
-IsUnknown line = (line ≡ codes "s UNKNOWN") ⊎ (line ≡ codes "INDETERMINATE")
+abbrev pub SaysUnknown : List ℕ → Type 0
+SaysUnknown line = (line ≡ codes "s UNKNOWN") ⊎ (line ≡ codes "INDETERMINATE")
 
 -- The text names these literals in turn, of so many variables. It ends behind the space or the line that it was read
 -- to: before the line that says that there is a model, within the literals, or after the 0.
@@ -42,7 +42,7 @@ pub data Names (variables : ℕ) : List ℕ → Phase → List ℕ → Type 0 wh
   comment : {text : List ℕ} {phase : Phase} {literals : List ℕ} (line : List ℕ) → All (λ b. b ≢ 10) line
       → BeginsLine text → Names variables text phase literals
       → Names variables (text ++ (99 ∷ (line ++ 10 ∷ []))) phase literals
-  status : {text : List ℕ} (line : List ℕ) → IsSatisfiable line → BeginsLine text → Names variables text Before []
+  status : {text : List ℕ} (line : List ℕ) → SaysSatisfiable line → BeginsLine text → Names variables text Before []
       → Names variables (text ++ (line ++ 10 ∷ [])) Within []
   mark : {text : List ℕ} {phase : Phase} {literals : List ℕ} (b : ℕ) → IsSpace b → BeginsLine text → phase ≢ After
       → Names variables text phase literals → Names variables (text ++ (118 ∷ (b ∷ []))) phase literals

@@ -3,8 +3,8 @@ ghost use Rattle.std.specs.Prelude.{◌≡◌, ◌≢◌, ◌↔◌, ◌+◌, �
 ghost use Rattle.std.specs.Prelude.{Contains, None, Some, Err, IfErr, IfOk, IfSome, IsTrue, OnOk, false, slice_get};
 ghost use Rattle.aig_parts.specs.Literal.{negation, variable};
 ghost use Rattle.aig_parts.specs.declared.ternary.Tern.{Tern};
-ghost use Rattle.aig_sat.specs.model.ModelText.{BeginsLine, HasStatus, IsModelOf, IsSatisfiable, IsSpace, IsUnknown};
-ghost use Rattle.aig_sat.specs.model.ModelText.{IsUnsatisfiable, number_text};
+ghost use Rattle.aig_sat.specs.model.ModelText.{BeginsLine, HasStatus, IsModelOf, IsSpace, number_text};
+ghost use Rattle.aig_sat.specs.model.ModelText.{SaysSatisfiable, SaysUnknown, SaysUnsatisfiable};
 ghost use Rattle.aig_sat.specs.model.Named.{AreNamed};
 ghost use Rattle.aig_sat.specs.model.state.Reading.{BeginsLineAt, GoesOn, GoesOnLine, HasRead, IsAnswerByte, ReadUpTo};
 ghost use Rattle.aig_sat.specs.model.state.Reading.{Says};
@@ -96,7 +96,7 @@ fn word_end(text: &[u8], at: usize) -> usize
 // What a solver's line says.
 fn answer_of(line: &[u8]) -> Option<Answer>
     ensures says { IfSome result (Says line.now) }
-    ensures none { result ≡ None → IsSatisfiable line.now → ⊥ }
+    ensures none { result ≡ None → SaysSatisfiable line.now → ⊥ }
 {
     if line == b"s SATISFIABLE".as_slice()
         || line == b"SATISFIABLE".as_slice()
@@ -161,9 +161,9 @@ impl Reader {
     fn take_answer(&mut self, line: &[u8], at: u64) -> Result<(), ModelFault>
         requires { self.old.phase ≡ Phase.Before }
         ensures goes_on { OnOk result (GoesOnLine self.old self.new line.now 10) }
-        ensures unsatisfiable { result ≡ Err ModelFault.Unsatisfiable → IsUnsatisfiable line.now }
-        ensures unknown { result ≡ Err ModelFault.Unknown → IsUnknown line.now }
-        ensures refused { (a : ℕ) → result ≡ Err (ModelFault.Text a) → IsSatisfiable line.now → ⊥ }
+        ensures unsatisfiable { result ≡ Err ModelFault.Unsatisfiable → SaysUnsatisfiable line.now }
+        ensures unknown { result ≡ Err ModelFault.Unknown → SaysUnknown line.now }
+        ensures refused { (a : ℕ) → result ≡ Err (ModelFault.Text a) → SaysSatisfiable line.now → ⊥ }
         ensures count { length self.new.values ≡ length self.old.values }
     {
         match answer_of(line) {
@@ -239,9 +239,9 @@ impl Reader {
         ensures after { IfOk result (λ next. at < next) }
         ensures count { length self.new.values ≡ length self.old.values }
         ensures unsatisfiable { result ≡ Err ModelFault.Unsatisfiable → ReadUpTo self.old text.now at →
-            HasStatus IsUnsatisfiable (length self.old.values) text.now }
+            HasStatus SaysUnsatisfiable (length self.old.values) text.now }
         ensures unknown { result ≡ Err ModelFault.Unknown → ReadUpTo self.old text.now at →
-            HasStatus IsUnknown (length self.old.values) text.now }
+            HasStatus SaysUnknown (length self.old.values) text.now }
         ensures refused { (a : ℕ) → result ≡ Err (ModelFault.Text a) → ReadUpTo self.old text.now at →
             (values : List Tern) → IsModelOf (length self.old.values) text.now values → ⊥ }
     {
@@ -282,9 +282,9 @@ impl Reader {
         ensures after { IfOk result (λ next. at < next) }
         ensures count { length self.new.values ≡ length self.old.values }
         ensures unsatisfiable { result ≡ Err ModelFault.Unsatisfiable → ReadUpTo self.old text.now at →
-            HasStatus IsUnsatisfiable (length self.old.values) text.now }
+            HasStatus SaysUnsatisfiable (length self.old.values) text.now }
         ensures unknown { result ≡ Err ModelFault.Unknown → ReadUpTo self.old text.now at →
-            HasStatus IsUnknown (length self.old.values) text.now }
+            HasStatus SaysUnknown (length self.old.values) text.now }
         ensures refused { (a : ℕ) → result ≡ Err (ModelFault.Text a) → ReadUpTo self.old text.now at →
             (values : List Tern) → IsModelOf variables text.now values → ⊥ }
     {
@@ -312,8 +312,8 @@ pub fn read_model(alloc: Global, text: &[u8], variables: u32) -> Result<Assignme
     ensures named { IfOk result (IsModelOf variables text.now) }
     ensures refused { (at : ℕ) → result ≡ Err (ModelFault.Text at) → (values : List Tern) →
         IsModelOf variables text.now values → ⊥ }
-    ensures unsatisfiable { result ≡ Err ModelFault.Unsatisfiable → HasStatus IsUnsatisfiable variables text.now }
-    ensures unknown { result ≡ Err ModelFault.Unknown → HasStatus IsUnknown variables text.now }
+    ensures unsatisfiable { result ≡ Err ModelFault.Unsatisfiable → HasStatus SaysUnsatisfiable variables text.now }
+    ensures unknown { result ≡ Err ModelFault.Unknown → HasStatus SaysUnknown variables text.now }
 {
     let mut reader = Reader::new(alloc, variables)?;
     let mut at = 0;

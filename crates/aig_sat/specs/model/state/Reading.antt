@@ -1,6 +1,6 @@
 -- How far a model was read.
 use Rattle.std.specs.Prelude.{◌≡◌, ◌⊎◌, ℕ, ◌+◌, ◌≤◌, List, [], ◌∷◌, ◌++◌, length, take, Some, slice_get}
-use Rattle.aig_sat.specs.model.ModelText.{BeginsLine, IsSatisfiable, IsUnknown, IsUnsatisfiable, Names}
+use Rattle.aig_sat.specs.model.ModelText.{BeginsLine, SaysSatisfiable, SaysUnknown, SaysUnsatisfiable, Names}
 use Rattle.aig_sat.specs.model.Named.{AreNamed}
 use Rattle.aig_sat.specs.declared.model.reader.Phase.TheVariants.{Before}
 use Rattle.aig_sat.specs.declared.model.reader.Answer.{Answer}
@@ -9,9 +9,9 @@ use Rattle.aig_sat.specs.declared.model.reader.Reader.{Reader}
 
 -- a line by which a solver answers
 abbrev pub Says : List ℕ → Answer → Type 0
-Says line Satisfiable = IsSatisfiable line
-Says line Unsatisfiable = IsUnsatisfiable line
-Says line Unknown = IsUnknown line
+Says line Satisfiable = SaysSatisfiable line
+Says line Unsatisfiable = SaysUnsatisfiable line
+Says line Unknown = SaysUnknown line
 
 -- the text names these literals, and their values are kept
 pub record HasRead (reader : Reader) (text literals : List ℕ) : Type 0 where

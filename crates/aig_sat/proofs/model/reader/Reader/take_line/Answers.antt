@@ -1,12 +1,12 @@
 use Rattle.std.proofs.Common.{refl}
-use Rattle.aig_sat.specs.model.ModelText.{IsUnsatisfiable, IsUnknown}
+use Rattle.aig_sat.specs.model.ModelText.{SaysUnsatisfiable, SaysUnknown}
 use Rattle.aig_sat.proofs.models.ModelLemmas.{read_on, status_stands, passed_fault}
 use Rattle.aig_sat.proofs.models.RefusalLemmas.{line_refused}
 use Rattle.aig_sat.proofs.model.reader.Reader.take_line.Goals as goal
 
 pub returns-in_err-take_answer-clause-unsatisfiable : goal.returns-in_err-take_answer-clause-unsatisfiable
 returns-in_err-take_answer-clause-unsatisfiable c is before =
-    status_stands IsUnsatisfiable c.args.self.now _ c.args.text.now c.args.at c.line_end-end.result
+    status_stands SaysUnsatisfiable c.args.self.now _ c.args.text.now c.args.at c.line_end-end.result
     c.line_end-end.ensures.after c.line_end-end.ensures.bound c.line_end-end.ensures.ended c.requires.begins
     c.requires.before refl
     (c.take_answer.ensures.unsatisfiable
@@ -15,7 +15,7 @@ returns-in_err-take_answer-clause-unsatisfiable c is before =
 
 pub returns-in_err-take_answer-clause-unknown : goal.returns-in_err-take_answer-clause-unknown
 returns-in_err-take_answer-clause-unknown c is before =
-    status_stands IsUnknown c.args.self.now _ c.args.text.now c.args.at c.line_end-end.result
+    status_stands SaysUnknown c.args.self.now _ c.args.text.now c.args.at c.line_end-end.result
     c.line_end-end.ensures.after c.line_end-end.ensures.bound c.line_end-end.ensures.ended c.requires.begins
     c.requires.before refl
     (c.take_answer.ensures.unknown
