@@ -3,9 +3,10 @@
 
 The page differs where a clause, a signature or the first sentence of a comment was changed, and where a call has other
 lines to believe. README.md and docs/PROVED.md are compared too: the last column of each table that ends with the column
-`lines to believe` has the lines of the call, or of its clause, in the column `call, clause`; and each clause that
-docs/PROVED.md shows stands in the sources. --write writes the page and these columns. It reads text and proves nothing.
-The texts of definitions are not on the page."""
+`lines to believe` has the lines of the call, or of its clause, in the column `call, clause`, and in a row that says
+`more` only those that are not of what a circuit file is; and each clause that docs/PROVED.md shows stands in the
+sources. --write writes the page and these columns. It reads text and proves nothing. The texts of definitions are not
+on the page."""
 
 import argparse
 import difflib
@@ -20,6 +21,7 @@ PAGE = ROOT / "docs" / "CONTRACTS.md"
 README = ROOT / "README.md"
 PROVED = ROOT / "docs" / "PROVED.md"
 BELIEVED, CALL = "lines to believe", "call, clause"
+MORE, CIRCUIT_FILE = " more", ("read_circuit", "circuit")
 WIDTH = 120
 MOST_SHOWN = 60
 
@@ -125,13 +127,16 @@ def wrong_numbers(promises):
         yield "README.md says of no call how many lines one has to believe"
 
 
-def lines_of(promises, name, clause):
-    """Returns the lines to believe for each export of a name, or for one clause of it."""
-    return [promises.specs.lines(promises.believed(it, clause)) for it in promises.having(name, clause)]
+def lines_of(promises, name, clause, known=frozenset()):
+    """Returns the lines to believe for each export of a name, or for one clause of it, without definitions that are
+    known."""
+    return [promises.specs.lines(promises.believed(it, clause) - known) for it in promises.having(name, clause)]
 
 
 def counted(promises, path):
     """Returns the lines of a page, with the lines to believe of its tables as they are by the sources."""
+    name, clause = CIRCUIT_FILE
+    circuit_file = set().union(*(promises.believed(it, clause) for it in promises.having(name, clause)))
     found, column = [], None
     for line in path.read_text(encoding="utf-8").split("\n"):
         cells = [it.strip() for it in line.split("|")[1:-1]] if line.startswith("|") else []
@@ -141,8 +146,10 @@ def counted(promises, path):
             column = None
         elif column is not None and not line.startswith("|---"):
             name, *clause = re.findall(r"`([\w:]+)`", cells[column])
-            counts = lines_of(promises, name, clause[0] if clause else None)
-            line = f"{line.rstrip(' |').rpartition('|')[0]}| {', '.join(map(str, counts)) or 'no such clause'} |"
+            more = cells[-1].endswith(MORE)
+            counts = lines_of(promises, name, clause[0] if clause else None, circuit_file if more else frozenset())
+            said = ", ".join(f"{it}{MORE if more else ''}" for it in counts)
+            line = f"{line.rstrip(' |').rpartition('|')[0]}| {said or 'no such clause'} |"
         found.append(line)
     return found
 
