@@ -13,7 +13,7 @@ use Rattle.aig_sat.specs.checker.Clause.{is_true, meets}
 use Rattle.aig_sat.specs.checker.First.{IsSettled, MayStand, MeetsOther, Settles}
 use Rattle.aig_sat.specs.checker.Holding.{KeepsHolding, KeepsMeeting, KeepsSomeHolding}
 use Rattle.aig_sat.specs.checker.Knowledge.{IsKnown, MakesTrue}
-use Rattle.aig_sat.specs.checker.Words.{HasTrue, IsClauseAt, Shrinks, StandsAt, literal_at, size_at}
+use Rattle.aig_sat.specs.checker.Words.{HasTrue, IsClauseAt, Shrinks, StandsAt, literal_at}
 use Rattle.aig_sat.proofs.checking.PropagationLemmas.{agrees_narrowed}
 use Rattle.aig_sat.proofs.checking.TruthLemmas.{signs, true_even, true_odd}
 
@@ -74,14 +74,11 @@ known_still v truths l makes unknown unknown_too m known =
 settled_then : (v : ℕ → Bool) (old new : List ℕ) (p lie : ℕ) → Shrinks old new → StandsAt new p → Settles v old p lie
     → Settles v new p lie
 settled_then v old new p lie s stands (inl none) =
-    let e : get_or new p 0 ≡ get_or old p 0 = s.heads p stands in
-    inl (λ k inside is. none k (omega (arith, e, inside))
-    (sym (s.rest p (p + (4 + k)) stands (omega arith) (omega (arith, inside))) ∙ is))
+    inl (λ k inside is. let (j, within, same) = s.had p k stands inside in none j within (same ∙ is))
 settled_then v old new p lie s stands (inr (k, inside, other, holds)) =
     let e : get_or new p 0 ≡ get_or old p 0 = s.heads p stands in
-    let within : k < size_at new p = omega (arith, e, inside) in
-    let same : get_or new (p + (4 + k)) 0 ≡ get_or old (p + (4 + k)) 0 = s.rest p (p + (4 + k)) stands (omega arith) (omega (arith, within)) in
-    inr (k, within, (λ is. other (sym same ∙ is)), ap (is_true v) same ∙ holds)
+    let (j, within, same) = s.kept p k stands (omega (arith, e, inside)) in
+    inr (j, within, (λ is. other (sym same ∙ is)), ap (is_true v) same ∙ holds)
 
 -- a clause that stood at a place before stands there now
 stood : (old new : List ℕ) (p : ℕ) → Shrinks old new → StandsAt new p → StandsAt old p

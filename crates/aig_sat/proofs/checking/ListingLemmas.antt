@@ -10,12 +10,12 @@ use Rattle.aig_bytes.specs.declared.fault.Memory.{Memory}
 use Rattle.aig_sat.specs.declared.checker.places.Link.{Link}
 use Rattle.aig_sat.specs.declared.checker.propagator.Propagator.{Propagator}
 use Rattle.aig_sat.specs.checker.Agreement.{Narrows}
-use Rattle.aig_sat.specs.checker.First.{IsSettled}
+use Rattle.aig_sat.specs.checker.First.{IsSettled, Settles}
 use Rattle.aig_sat.specs.checker.Knowledge.{IsIn, IsKnown}
 use Rattle.aig_sat.specs.checker.Listing.{FindsAll, Lists, ListsAll, is_within, link_has}
 use Rattle.aig_sat.specs.checker.Words.{AreLiterals, IsLaidOut, IsLast, Shrinks, StandsAt, literal_at, size_at}
 use Rattle.aig_sat.proofs.checking.FirstLemmas.{settled_earlier, settled_later}
-use Rattle.aig_sat.proofs.checking.PropagationLemmas.{in_last, in_more}
+use Rattle.aig_sat.proofs.checking.PropagationLemmas.{agrees_narrowed, in_last, in_more}
 use Rattle.aig_sat.proofs.checking.PutLemmas.{append_shrinks}
 use Rattle.aig_sat.proofs.checking.WordLemmas.{shrinks_none}
 
@@ -256,16 +256,15 @@ pub lists_shrunk : (heads : List ℕ) (links : List Link) (old new : List ℕ) (
     → ListsAll heads links old end → ListsAll heads links new end
 lists_shrunk heads links old new end s lists p k below stands inside =
     let e : get_or new p 0 ≡ get_or old p 0 = s.heads p stands in
-    let same : get_or new (p + (4 + k)) 0 ≡ get_or old (p + (4 + k)) 0 = s.rest p (p + (4 + k)) stands (omega arith) (omega (arith, inside)) in
-    subst (λ (l : ℕ). Lists heads links l p) (sym same)
-    (lists p k below (omega (arith, e, stands)) (omega (arith, e, inside)))
+    let (j, within, same) = s.had p k stands inside in
+    subst (λ (l : ℕ). Lists heads links l p) same (lists p j below (omega (arith, e, stands)) within)
 
 pub finds_shrunk : (old new : List ℕ) (literal : ℕ) (found : List ℕ) → Shrinks old new → FindsAll old literal found
     → FindsAll new literal found
 finds_shrunk old new literal found s finds p k stands inside is =
     let e : get_or new p 0 ≡ get_or old p 0 = s.heads p stands in
-    let same : get_or new (p + (4 + k)) 0 ≡ get_or old (p + (4 + k)) 0 = s.rest p (p + (4 + k)) stands (omega arith) (omega (arith, inside)) in
-    finds p k (omega (arith, e, stands)) (omega (arith, e, inside)) (sym same ∙ is)
+    let (j, within, same) = s.had p k stands inside in
+    finds p j (omega (arith, e, stands)) within (same ∙ is)
 
 pub append_lists : (heads : List ℕ) (links : List Link) (words tail : List ℕ) (end : ℕ) → IsLaidOut words
     → AreLiterals tail → ListsAll heads links words end → ListsAll heads links (words ++ tail) end
@@ -295,8 +294,8 @@ lists_stand heads links words n size end is before lists p k below now inside =
     let head : get_or (set words n x) p 0 ≡ get_or words p 0 = get_or-set_other words n p x 0 ne in
     let stands : StandsAt words p = omega (arith, head, now) in
     let within : k < size_at words p = omega (arith, head, inside) in
-    let same : get_or (set words n x) (p + (4 + k)) 0 ≡ get_or words (p + (4 + k)) 0 =
-    get_or-set_other words n (p + (4 + k)) x 0 (λ e. omega (arith, e, is.ends p stands, within)) in
+    let same : get_or (set words n x) (p + (3 + k)) 0 ≡ get_or words (p + (3 + k)) 0 =
+    get_or-set_other words n (p + (3 + k)) x 0 (λ e. omega (arith, e, is.ends p stands, within)) in
     subst (λ (l : ℕ). Lists heads links l p) (sym same) (lists p k below stands within)
 
 -- ---- candidates
@@ -313,6 +312,23 @@ settled_next old mid new clause lie count tried before now e first second were i
           (subst (λ (x : ℕ). IsSettled mid new clause lie (get_or before x 0)) (sym at) is)
       | inr ne ↦ settled_later old mid new clause lie (get_or before j 0) (were j (omega (arith, ne, above)) below) second
     ])
+
+-- all places were tried, so a true literal of the clause at p is another one, or p is one of the places
+pub settled_there : (old new : Propagator) (clause : List ℕ) (lie count tried : ℕ) (places : List ℕ) (p : ℕ)
+    → Narrows old new → FindsAll new.clauses.words.items lie places → count ≡ length places → count ≤ tried
+    → ((j : ℕ) → count ≤ j + tried → j < count → IsSettled old new clause lie (get_or places j 0))
+    → IsSettled old new clause lie p
+settled_there old new clause lie count tried places p n finds all end settled v a untrue stands =
+    let words = new.clauses.words.items in
+    let (k, inside, holds) = (agrees_narrowed old new n v a).met p stands in
+    elim (cases_eq (literal_at words p k) lie) [
+      | inr ne ↦ inr (k, inside, ne, holds)
+      | inl e ↦
+          let (j, within, at) = finds p k stands inside e in
+          subst (λ (x : ℕ). Settles v words x lie) at
+          (settled j (omega (arith, end)) (omega (arith, all, within)) v a untrue
+          (subst (λ (x : ℕ). StandsAt words x) (sym at) stands))
+    ]
 
 -- the same of what a search returns, where it begins after the clauses were found
 pub settled_since : (r : Result Bool Memory) (old mid new : Propagator) (clause : List ℕ) (lie : ℕ) → Narrows old mid

@@ -89,11 +89,18 @@ pub unit_true : (p : Propagator) (place : ℕ) (literals : List ℕ) (other : �
 unit_true p place literals other at all values a =
     let (k, inside, holds) = a.met place at.stands in
     let within : k < length literals = omega (arith, at.size) in
-    let is : get_or literals k 0 ≡ get_or p.clauses.words.items (place + (4 + k)) 0 = at.items k within in
+    let is : get_or literals k 0 ≡ get_or p.clauses.words.items (place + (3 + k)) 0 = at.items k within in
     elim (all k within) [
       | inl e ↦ ap (is_true values) (sym e ∙ is) ∙ holds
       | inr untrue ↦ absurd (negation_false values (get_or literals k 0) (a.known _ untrue) (ap (is_true values) is ∙ holds))
     ]
+
+-- no literal of a clause can be true
+pub none_true : (p : Propagator) (place : ℕ) (literals : List ℕ) (other : ℕ)
+    → IsClauseAt p.clauses.words.items place literals → AreFalseBeside p.known.truths.items literals other
+    → IsKnown p.known.truths.items (negation other) → Contradicts p
+none_true p place literals other at all untrue values a =
+    negation_false values other (a.known _ untrue) (unit_true p place literals other at all values a)
 
 -- a literal of a clause that is not met is false
 pub literal_false : (values : ℕ → Bool) (clause : List ℕ) (k : ℕ) → k < length clause → meets values clause ≡ false
@@ -109,6 +116,14 @@ pub assumed_agrees : (clause : List ℕ) (old mid : Propagator) → Assumes clau
 assumed_agrees clause old mid first values a untrue = record {
   met = met_then _ _ first.same values a.met;
   known = first.known values a untrue;
+}
+
+pub assumed_then : (clause : List ℕ) (old mid new : Propagator) → Assumes clause old mid → Propagates mid new
+    → Assumes clause old new
+assumed_then clause old mid new first second = record {
+  same = shrinks_then _ _ _ first.same second.same;
+  known = λ v a untrue. second.known v (assumed_agrees clause old mid first v a untrue);
+  found = λ b h. second.found b (first.found b h);
 }
 
 -- one more literal is assumed to be false

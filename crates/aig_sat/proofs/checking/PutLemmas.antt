@@ -8,7 +8,7 @@ use Rattle.std.proofs.lemmas.Grind.{get_or_default_zero}
 use Rattle.std.proofs.lemmas.Bool.{cases_eq, cases_lt}
 use Rattle.aig_sat.specs.checker.Clause.{is_true, meets}
 use Rattle.aig_sat.specs.checker.Words.{AreLiterals, IsLaidOut, IsLast, IsPut, KeepsMet, MeetsAll, Shrinks, StandsAt}
-use Rattle.aig_sat.proofs.checking.WordLemmas.{met_then}
+use Rattle.aig_sat.proofs.checking.WordLemmas.{met_then, same_shrinks}
 
 -- a literal that meets a clause
 pub literal_that_meets : (values : ℕ → Bool) (literals : List ℕ) → meets values literals ≡ true
@@ -47,13 +47,10 @@ append_laid_out words tail laid small p now =
     ]
 
 pub append_shrinks : (words tail : List ℕ) → IsLaidOut words → AreLiterals tail → Shrinks words (words ++ tail)
-append_shrinks words tail laid small = record {
-  heads = λ p now. get_or_append_left words tail 0 p (inside p now);
-  rest = λ p q now from to.
-      let same : get_or (words ++ tail) p 0 ≡ get_or words p 0 = get_or_append_left words tail 0 p (inside p now) in
-      let old : StandsAt words p = omega (arith, same, now) in
-      get_or_append_left words tail 0 q (omega (arith, same, to, (laid p old).0));
-}
+append_shrinks words tail laid small = same_shrinks words (words ++ tail) (λ p now. head p now) (λ p k now k_in.
+    let same : get_or (words ++ tail) p 0 ≡ get_or words p 0 = head p now in
+    let old : StandsAt words p = omega (arith, same, now) in
+    get_or_append_left words tail 0 (p + (3 + k)) (omega (arith, same, k_in, (laid p old).0)))
   where
     inside : (p : ℕ) → StandsAt (words ++ tail) p → p < length words
     inside p now = elim (cases_lt p (length words)) [
@@ -61,8 +58,11 @@ append_shrinks words tail laid small = record {
       | inr above ↦ absurd (omega (arith, small_after words tail small p above, now))
     ]
 
-pub four_small : (a b : ℕ) → a < 0x8000_0000 → b < 0x8000_0000 → AreLiterals (0 ∷ a ∷ b ∷ 0 ∷ [])
-four_small a b ha hb k within = grind arith
+    head : (p : ℕ) → StandsAt (words ++ tail) p → get_or (words ++ tail) p 0 ≡ get_or words p 0
+    head p now = get_or_append_left words tail 0 p (inside p now)
+
+pub three_small : (a : ℕ) → a < 0x8000_0000 → AreLiterals (0 ∷ a ∷ 0 ∷ [])
+three_small a small k within = grind arith
 
 -- what was put is the last clause
 pub put_last : (old literals words : List ℕ) → IsLaidOut old → IsPut old literals words → IsLast words (length old) (length literals)
@@ -101,7 +101,7 @@ stand_laid_out words n size laid is p now =
     ]
 
 pub stand_keeps : (words literals : List ℕ) (n : ℕ) → IsLast words n (length literals)
-    → ((k : ℕ) → k < length literals → get_or words (n + (4 + k)) 0 ≡ get_or literals k 0)
+    → ((k : ℕ) → k < length literals → get_or words (n + (3 + k)) 0 ≡ get_or literals k 0)
     → (values : ℕ → Bool) → meets values literals ≡ true → MeetsAll values words
     → MeetsAll values (set words n (0x8000_0000 + length literals))
 stand_keeps words literals n is items values meets_it met p now =
@@ -111,9 +111,9 @@ stand_keeps words literals n is items values meets_it met p now =
       | inl e ↦
           let here : get_or (set words n x) p 0 ≡ x = ap (λ i. get_or (set words n x) i 0) e ∙ get_or-set_same words n x 0 inside in
           let (k, k_in, k_true) = literal_that_meets values literals meets_it in
-          let at_k : get_or (set words n x) (p + (4 + k)) 0 ≡ get_or literals k 0 =
-          get_or-set_other words n (p + (4 + k)) x 0 (omega (arith, e))
-          ∙ ap (λ i. get_or words (i + (4 + k)) 0) e ∙ items k k_in in
+          let at_k : get_or (set words n x) (p + (3 + k)) 0 ≡ get_or literals k 0 =
+          get_or-set_other words n (p + (3 + k)) x 0 (omega (arith, e))
+          ∙ ap (λ i. get_or words (i + (3 + k)) 0) e ∙ items k k_in in
           (k, omega (arith, here, k_in), ap (is_true values) at_k ∙ k_true)
       | inr ne ↦
           let same : get_or (set words n x) p 0 ≡ get_or words p 0 = get_or-set_other words n p x 0 ne in
@@ -121,6 +121,6 @@ stand_keeps words literals n is items values meets_it met p now =
           let (k, k_in, k_true) = met p stands in (
             k,
             omega (arith, same, k_in),
-            ap (is_true values) (get_or-set_other words n (p + (4 + k)) x 0 (omega (arith, is.ends p stands, k_in))) ∙ k_true,
+            ap (is_true values) (get_or-set_other words n (p + (3 + k)) x 0 (omega (arith, is.ends p stands, k_in))) ∙ k_true,
           )
     ]

@@ -16,12 +16,11 @@ pub begins_then : (starts : List ℕ) (named : ℕ) (old new : List ℕ) → Shr
 begins_then starts named old new s len b = record {
   before = λ p k stands inside.
       let e : get_or new p 0 ≡ get_or old p 0 = s.heads p stands in
-      let within : k < size_at old p = omega (arith, e, inside) in
-      let same : get_or new (p + (4 + k)) 0 ≡ get_or old (p + (4 + k)) 0 = s.rest p (p + (4 + k)) stands (omega arith) (omega (arith, inside)) in
-      let was = b.before p k (omega (arith, e, stands)) within in
-      let at : get_or starts (variable (literal_at new p k)) 0 ≡ get_or starts (variable (literal_at old p k)) 0 =
+      let (j, within, same) = s.had p k stands inside in
+      let was = b.before p j (omega (arith, e, stands)) within in
+      let at : get_or starts (variable (literal_at old p j)) 0 ≡ get_or starts (variable (literal_at new p k)) 0 =
       ap (λ m. get_or starts (variable m) 0) same in
-      let name : variable (literal_at new p k) ≡ variable (literal_at old p k) = ap variable same in
+      let name : variable (literal_at old p j) ≡ variable (literal_at new p k) = ap variable same in
       (omega (arith, name, was.0), omega (arith, at, was.1));
   within = λ x. omega (arith, b.within x, len);
 }
@@ -48,16 +47,16 @@ stand_begins starts named words n size is b begun are_named = record {
       elim (cases_eq p n) [
         | inl e ↦
             let head : get_or (set words n x) p 0 ≡ x = ap (λ i. get_or (set words n x) i 0) e ∙ get_or-set_same words n x 0 here in
-            let same : get_or (set words n x) (p + (4 + k)) 0 ≡ get_or words (n + (4 + k)) 0 =
-            get_or-set_other words n (p + (4 + k)) x 0 (omega (arith, e)) ∙ ap (λ i. get_or words (i + (4 + k)) 0) e in
+            let same : get_or (set words n x) (p + (3 + k)) 0 ≡ get_or words (n + (3 + k)) 0 =
+            get_or-set_other words n (p + (3 + k)) x 0 (omega (arith, e)) ∙ ap (λ i. get_or words (i + (3 + k)) 0) e in
             let name : variable (literal_at (set words n x) p k) ≡ variable (literal_at words n k) = ap variable same in
             (omega (arith, name, are_named k (omega (arith, head, inside))), omega (arith, e, begun (variable (literal_at (set words n x) p k))))
         | inr ne ↦
             let head : get_or (set words n x) p 0 ≡ get_or words p 0 = get_or-set_other words n p x 0 ne in
             let stands : StandsAt words p = omega (arith, head, now) in
             let within : k < size_at words p = omega (arith, head, inside) in
-            let same : get_or (set words n x) (p + (4 + k)) 0 ≡ get_or words (p + (4 + k)) 0 =
-            get_or-set_other words n (p + (4 + k)) x 0 (omega (arith, is.ends p stands, within)) in
+            let same : get_or (set words n x) (p + (3 + k)) 0 ≡ get_or words (p + (3 + k)) 0 =
+            get_or-set_other words n (p + (3 + k)) x 0 (omega (arith, is.ends p stands, within)) in
             let name : variable (literal_at (set words n x) p k) ≡ variable (literal_at words p k) = ap variable same in
             let at : get_or starts (variable (literal_at (set words n x) p k)) 0 ≡ get_or starts (variable (literal_at words p k)) 0 =
             ap (λ m. get_or starts (variable m) 0) same in

@@ -1,5 +1,5 @@
--- The clauses that stand, as words. A clause has a first word that says that it stands and how many literals it has,
--- three other words, and its literals.
+-- The clauses that stand, as words. A clause has a first word that says that it stands and how many literals it has, two
+-- other words, and its literals.
 use Rattle.std.specs.Prelude.{◌≡◌, ℕ, ◌+◌, ◌-◌, ◌<◌, ◌≤◌, Bool, true, List, length, slice_index}
 use Rattle.aig_parts.specs.Literal.{variable}
 use Rattle.aig_sat.specs.checker.Clause.{is_true}
@@ -13,14 +13,18 @@ size_at words p = slice_index words p - 0x8000_0000
 
 -- literal k of the clause at p
 abbrev pub literal_at : List ℕ → ℕ → ℕ → ℕ
-literal_at words p k = slice_index words (p + (4 + k))
+literal_at words p k = slice_index words (p + (3 + k))
+
+-- the clause at p has the literal
+abbrev pub HasLiteral : List ℕ → ℕ → ℕ → Type 0
+HasLiteral words p l = (k : ℕ) × (k < size_at words p) × (literal_at words p k ≡ l)
 
 -- all words of a clause are there, and none of them but the first is the first word of a clause
 abbrev pub IsLaidOut : List ℕ → Type 0
 IsLaidOut words =
     (p : ℕ) → StandsAt words p
-    → (p + (4 + size_at words p) ≤ length words)
-    × ((q : ℕ) → p < q → q < p + (4 + size_at words p) → slice_index words q < 0x8000_0000)
+    → (p + (3 + size_at words p) ≤ length words)
+    × ((q : ℕ) → p < q → q < p + (3 + size_at words p) → slice_index words q < 0x8000_0000)
 
 -- a literal of the clause at p is true under the assignment
 abbrev pub HasTrue : (ℕ → Bool) → List ℕ → ℕ → Type 0
@@ -34,11 +38,11 @@ MeetsAll values words = (p : ℕ) → StandsAt words p → HasTrue values words 
 abbrev pub KeepsMet : List ℕ → List ℕ → Type 0
 KeepsMet old new = (values : ℕ → Bool) → MeetsAll values old → MeetsAll values new
 
--- no clause stands in the second words that does not in the first ones, with the same literals
+-- no clause stands in the second words that does not in the first ones, with the same literals in any order
 pub record Shrinks (old new : List ℕ) : Type 0 where
   pub heads : (p : ℕ) → StandsAt new p → slice_index new p ≡ slice_index old p
-  pub rest : (p q : ℕ) → StandsAt new p → p + 4 ≤ q → q < p + (4 + size_at new p) → slice_index new q
-      ≡ slice_index old q
+  pub kept : (p k : ℕ) → StandsAt new p → k < size_at new p → HasLiteral new p (literal_at old p k)
+  pub had : (p k : ℕ) → StandsAt new p → k < size_at new p → HasLiteral old p (literal_at new p k)
 
 -- A clause that stands has only variables that begin at its place or before, and that are below the number `named`. No
 -- variable begins past the words.
@@ -63,13 +67,13 @@ AreNamed literals named = (k : ℕ) → k < length literals → variable (slice_
 
 -- the words of a clause that does not stand yet come after the others
 pub record IsPut (old literals new : List ℕ) : Type 0 where
-  pub len : length new ≡ length old + (4 + length literals)
+  pub len : length new ≡ length old + (3 + length literals)
   pub before : (q : ℕ) → q < length old → slice_index new q ≡ slice_index old q
   pub small : (q : ℕ) → length old ≤ q → slice_index new q < 0x8000_0000
-  pub items : (k : ℕ) → k < length literals → slice_index new (length old + (4 + k)) ≡ slice_index literals k
+  pub items : (k : ℕ) → k < length literals → slice_index new (length old + (3 + k)) ≡ slice_index literals k
 
 -- the words from a place on are a clause of so many literals that does not stand yet
 pub record IsLast (words : List ℕ) (place size : ℕ) : Type 0 where
-  pub len : length words ≡ place + (4 + size)
+  pub len : length words ≡ place + (3 + size)
   pub small : (q : ℕ) → place ≤ q → slice_index words q < 0x8000_0000
-  pub ends : (p : ℕ) → StandsAt words p → p + (4 + size_at words p) ≤ place
+  pub ends : (p : ℕ) → StandsAt words p → p + (3 + size_at words p) ≤ place

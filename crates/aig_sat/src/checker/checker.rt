@@ -6,6 +6,7 @@ ghost use Rattle.aig_sat.specs.checker.Holding.{Holds, KeepsHolding, KeepsMeetin
 
 use crate::checker::finder::Finder;
 use crate::checker::hints::id_of;
+use crate::checker::known::Free;
 use crate::checker::marks::Marks;
 use crate::checker::propagator::Propagator;
 use aig_bytes::Memory;
@@ -67,15 +68,12 @@ impl Checker {
         Ok(())
     }
 
-    // Stores the clause of the marks, with its watched literals.
+    // Stores the clause of the marks.
     #[tactic(none)]
-    fn store(&mut self, watched: u32) -> Result<u32, Memory>
+    fn store(&mut self) -> Result<u32, Memory>
         ensures { KeepsMeeting self.old.marks.literals.items self.old self.new }
     {
-        let place = self
-            .propagator
-            .clauses
-            .add(0, watched, &self.marks.literals)?;
+        let place = self.propagator.clauses.add(0, &self.marks.literals)?;
         self.finder.add(&mut self.propagator.clauses, place)?;
         Ok(place)
     }
@@ -87,7 +85,7 @@ impl Checker {
             → is_true values literal ≡ true }
         ensures { KeepsMeeting self.old.marks.literals.items self.old self.new }
     {
-        self.store(0)?;
+        self.store()?;
         let conflict = self.propagator.take_unit(literal)?;
         self.refuted = conflict;
         Ok(())
@@ -95,10 +93,10 @@ impl Checker {
 
     // Stores the clause of the marks, which watches two of its literals.
     #[tactic(none)]
-    fn store_watched(&mut self, first: u32, second: u32) -> Result<(), Memory>
+    fn store_watched(&mut self, first: Free, second: Free) -> Result<(), Memory>
         ensures { KeepsMeeting self.old.marks.literals.items self.old self.new }
     {
-        let place = self.store(first ^ second)?;
+        let place = self.store()?;
         self.propagator.watch(place, first, second)
     }
 
@@ -112,7 +110,7 @@ impl Checker {
             return Ok(());
         };
         let id = self.next;
-        let place = self.propagator.clauses.add(id, 0, &self.marks.literals)?;
+        let place = self.propagator.clauses.add(id, &self.marks.literals)?;
         self.next = id.saturating_add(1);
         self.propagator.ids.add(id, place)
     }
@@ -126,7 +124,7 @@ impl Checker {
             return self.store_named();
         }
         if self.marks.is_tautology() {
-            self.store(0)?;
+            self.store()?;
             return Ok(());
         }
         let Some(first) = self.propagator.known.free(&self.marks.literals) else {
@@ -136,10 +134,10 @@ impl Checker {
         match self
             .propagator
             .known
-            .free_beside(&self.marks.literals, first, 0)
+            .free_beside(&self.marks.literals, first.literal)
         {
-            None => self.store_unit(first),
-            Some(second) => self.store_watched(first, second.literal),
+            None => self.store_unit(first.literal),
+            Some(second) => self.store_watched(first, second),
         }
     }
 

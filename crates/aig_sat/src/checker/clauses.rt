@@ -16,9 +16,9 @@ use std::alloc::Global;
 /// below it.
 pub(crate) const HEAD: u32 = 0x8000_0000;
 
-/// How many words a clause has before its literals: the head, the next clause of its chain, its watched literals as
-/// their exclusive or, and where among its literals the last search for a free one ended.
-pub(crate) const BEFORE: usize = 4;
+/// How many words a clause has before its literals: the head, the next clause of its chain, and where among its literals
+/// after the first two the last search for a free one ended.
+pub(crate) const BEFORE: usize = 3;
 
 /// The clauses that stand, by the place of their first word. A clause that is deleted loses its head, and its words are
 /// never used again.
@@ -40,13 +40,11 @@ pub(crate) struct Clauses {
     ghost within: { listed ≤ length words.items },
 }
 
-/// A clause that stands.
+/// A clause that stands. If it is watched, then at its first two literals.
 #[derive(Clone, Copy)]
 pub(crate) struct Clause<'a> {
     pub(crate) literals: &'a [u32],
-    /// The watched literals, as their exclusive or.
-    pub(crate) watched: u32,
-    /// Where among the literals the last search for a free one ended.
+    /// Where among the literals after the first two the last search for a free one ended.
     pub(crate) searched: usize,
 }
 
@@ -164,8 +162,7 @@ impl Clauses {
         let start = place + BEFORE;
         Some(Clause {
             literals: &self.words[start..start + (head - HEAD) as usize],
-            watched: self.words[place + 2],
-            searched: self.words[place + 3] as usize,
+            searched: self.words[place + 2] as usize,
         })
     }
 
@@ -191,36 +188,32 @@ impl Clauses {
         self.word(place.saturating_add(1))
     }
 
-    // Writes a word of a clause that is neither its head nor one of its literals.
-    #[inline]
-    fn set_word(&mut self, place: u32, offset: usize, value: u32)
-        requires first { 0 < offset }
-        requires last { offset < 4 }
-        ensures { Shrinks self.old.words.items self.new.words.items }
-    {
-        if self.word(place as usize) >= HEAD {
-            self.words[place as usize + offset] = value % HEAD;
-        }
-    }
-
     /// Puts a clause before another one in a chain.
     pub(crate) fn set_next(&mut self, place: u32, next: u32)
         ensures { KeepsMet self.old.words.items self.new.words.items }
     {
-        self.set_word(place, 1, next);
+        if self.word(place as usize) >= HEAD {
+            self.words[place as usize + 1] = next % HEAD;
+        }
     }
 
-    /// Keeps which literals of a clause are watched, and where the search among its literals ended.
+    /// Exchanges two literals of a clause, if it has them, and keeps where the search among its literals ended.
     #[inline]
-    pub(crate) fn set_watched(&mut self, place: u32, watched: u32, searched: usize)
+    pub(crate) fn exchange(&mut self, place: u32, one: usize, other: usize, searched: usize)
         ensures { Shrinks self.old.words.items self.new.words.items }
     {
-        self.set_word(place, 2, watched);
-        self.set_word(place, 3, (searched % HEAD as usize) as u32);
+        let place = place as usize;
+        let size = self.word(place).saturating_sub(HEAD) as usize;
+        if one < size && other < size {
+            let literal = self.words[place + (BEFORE + one)];
+            self.words[place + (BEFORE + one)] = self.words[place + (BEFORE + other)];
+            self.words[place + (BEFORE + other)] = literal;
+            self.words[place + 2] = (searched % HEAD as usize) as u32;
+        }
     }
 
     // Adds the words of a clause, which does not stand yet.
-    fn put(&mut self, next: u32, watched: u32, literals: &[u32]) -> Result<(), Memory>
+    fn put(&mut self, next: u32, literals: &[u32]) -> Result<(), Memory>
         requires { AreLiterals literals.now }
         ensures met { KeepsMet self.old.words.items self.new.words.items }
         ensures starts { self.new.starts.items ≡ self.old.starts.items }
@@ -228,7 +221,7 @@ impl Clauses {
         ensures listed { self.new.listed ≡ self.old.listed }
         ensures ok { OnOk result (IsPut self.old.words.items literals.now self.new.words.items) }
     {
-        let before = [0, next % HEAD, watched % HEAD, 0];
+        let before = [0, next % HEAD, 0];
         self.words.extend_from_slice(&before)?;
         self.words.extend_from_slice(literals)?;
         Ok(())
@@ -236,7 +229,7 @@ impl Clauses {
 
     // Whether there is room for a clause of these literals.
     fn has_room(&self, literals: &[u32]) -> bool
-        ensures room { IsTrue result → length self.now.words.items + (4 + length literals.now) < 0x8000_0000 }
+        ensures room { IsTrue result → length self.now.words.items + (3 + length literals.now) < 0x8000_0000 }
         ensures literals { IsTrue result → AreLiterals literals.now }
     {
         self.words.len() < 0x4000_0000 && literals.len() < 0x3000_0000 && are_literals(literals)
@@ -255,7 +248,7 @@ impl Clauses {
     }
 
     /// Adds a clause and returns its place.
-    pub(crate) fn add(&mut self, next: u32, watched: u32, literals: &[u32]) -> Result<u32, Memory>
+    pub(crate) fn add(&mut self, next: u32, literals: &[u32]) -> Result<u32, Memory>
         ensures { (values : ℕ → Bool) → meets values literals.now ≡ true → MeetsAll values self.old.words.items
             → MeetsAll values self.new.words.items }
     {
@@ -264,7 +257,7 @@ impl Clauses {
         }
         let place = self.words.len();
         self.named = above(literals, self.named);
-        self.put(next, watched, literals)?;
+        self.put(next, literals)?;
         self.stand(place, literals.len() as u32);
         Ok(place as u32)
     }

@@ -94,15 +94,54 @@ impl Known {
 
     /// The first of the literals that is not known to be false.
     #[inline]
-    pub(crate) fn free(&self, literals: &[u32]) -> Option<u32>
-        ensures { IfNone result (AreFalse self.now.truths.items literals.now) }
+    pub(crate) fn free(&self, literals: &[u32]) -> Option<Free>
+        ensures none { IfNone result (AreFalse self.now.truths.items literals.now) }
+        ensures inside { IfSome result (λ free. free.place < length literals.now) }
     {
-        for literal in literals {
+        for (place, literal) in literals.iter().enumerate() {
             if !self.is_false(*literal) {
-                return Some(*literal);
+                return Some(Free {
+                    literal: *literal,
+                    place,
+                });
             }
         }
         None
+    }
+
+    /// The first of the literals, except this one, that is not known to be false.
+    #[inline]
+    pub(crate) fn free_beside(&self, literals: &[u32], other: u32) -> Option<Free>
+        ensures { IfNone result (AreFalseBeside self.now.truths.items literals.now other) }
+    {
+        for (place, literal) in literals.iter().enumerate() {
+            if *literal != other && !self.is_false(*literal) {
+                return Some(Free {
+                    literal: *literal,
+                    place,
+                });
+            }
+        }
+        None
+    }
+
+    /// A literal that is not known to be false. The search begins at a place of the literals and goes on from their first
+    /// one. Where each search begins at the place that the last one found, the searches of a propagation together look at
+    /// each literal of a clause at most three times.
+    #[inline]
+    pub(crate) fn free_from(&self, literals: &[u32], from: usize) -> Option<Free>
+        ensures none { IfNone result (AreFalse self.now.truths.items literals.now) }
+        ensures inside { IfSome result (λ free. free.place < length literals.now) }
+    {
+        let from = from.min(literals.len());
+        let (before, after) = literals.split_at(from);
+        if let Some(free) = self.free(after) {
+            return Some(Free {
+                literal: free.literal,
+                place: from + free.place,
+            });
+        }
+        self.free(before)
     }
 
     /// What the literals leave that is not known to be false.
@@ -121,41 +160,6 @@ impl Known {
             }
         }
         left
-    }
-
-    // The first of the literals, except this one, that is not known to be false, and its place among them.
-    #[inline]
-    fn search(&self, literals: &[u32], other: u32) -> Option<Free>
-        ensures none { IfNone result (AreFalseBeside self.now.truths.items literals.now other) }
-        ensures inside { IfSome result (λ free. free.place < length literals.now) }
-    {
-        for (place, literal) in literals.iter().enumerate() {
-            if *literal != other && !self.is_false(*literal) {
-                return Some(Free {
-                    literal: *literal,
-                    place,
-                });
-            }
-        }
-        None
-    }
-
-    /// A literal, except this one, that is not known to be false. The search begins at a place of the literals and goes
-    /// on from their first one. Where each search begins at the place that the last one found, the searches of a
-    /// propagation together look at each literal of a clause at most three times.
-    #[inline]
-    pub(crate) fn free_beside(&self, literals: &[u32], other: u32, from: usize) -> Option<Free>
-        ensures { IfNone result (AreFalseBeside self.now.truths.items literals.now other) }
-    {
-        let from = from.min(literals.len());
-        let (before, after) = literals.split_at(from);
-        if let Some(free) = self.search(after, other) {
-            return Some(Free {
-                literal: free.literal,
-                place: from + free.place,
-            });
-        }
-        self.search(before, other)
     }
 
     /// The literal at a place of the trail.

@@ -1,13 +1,14 @@
 //! Unit propagation.
-ghost use Rattle.std.specs.Prelude.{◌≡◌, ℕ, Bool, true, IsTrue, IfOk};
+ghost use Rattle.std.specs.Prelude.{◌≡◌, ℕ, ◌<◌, Bool, true, IsTrue, IfOk, length};
 ghost use Rattle.aig_sat.specs.checker.Agreement.{Agrees, Assumes, Contradicts, Implies, Narrows, Propagates};
 ghost use Rattle.aig_sat.specs.checker.Clause.{is_true};
 ghost use Rattle.aig_sat.specs.checker.Visits.{OnConflict};
+ghost use Rattle.aig_sat.specs.checker.Words.{Shrinks};
 
 use crate::checker::clauses::Clauses;
 use crate::checker::hints::{Way, id_of};
 use crate::checker::ids::Ids;
-use crate::checker::known::{Known, Left, negated};
+use crate::checker::known::{Free, Known, Left, negated};
 use crate::checker::watches::{Watch, Watches, close_gap};
 use aig_bytes::Memory;
 use aig_parts::Lit;
@@ -38,6 +39,15 @@ enum Visit {
     Conflict,
 }
 
+// The place of a watched literal among those of its clause: it is one of the first two.
+#[inline]
+fn place_of(literals: &[u32], literal: u32) -> usize
+    requires { 0 < length literals.now }
+    ensures { result < 2 }
+{
+    if literals[0] == literal { 0 } else { 1 }
+}
+
 impl Propagator {
     /// No clauses over so many variables.
     pub(crate) fn new(alloc: Global, variables: u32) -> Result<Propagator, Memory>
@@ -62,23 +72,25 @@ impl Propagator {
         self.known.add_variable()
     }
 
-    /// Lets a clause watch two of its literals.
-    pub(crate) fn watch(&mut self, clause: u32, first: u32, second: u32) -> Result<(), Memory>
-        ensures clauses { self.new.clauses ≡ self.old.clauses }
+    /// Lets a clause watch two of its literals, which become its first two.
+    pub(crate) fn watch(&mut self, clause: u32, first: Free, second: Free) -> Result<(), Memory>
+        ensures clauses { Shrinks self.old.clauses.words.items self.new.clauses.words.items }
         ensures known { self.new.known ≡ self.old.known }
     {
+        self.clauses.exchange(clause, 0, first.place, 0);
+        self.clauses.exchange(clause, 1, second.place, 0);
         self.watches.add(
-            first,
+            first.literal,
             Watch {
                 clause,
-                blocker: second,
+                blocker: second.literal,
             },
         )?;
         self.watches.add(
-            second,
+            second.literal,
             Watch {
                 clause,
-                blocker: first,
+                blocker: first.literal,
             },
         )
     }
@@ -95,7 +107,11 @@ impl Propagator {
         let Some(clause) = self.clauses.clause(watch.clause as usize) else {
             return Ok(Visit::Leaves);
         };
-        let other = clause.watched ^ lie;
+        if clause.literals.len() < 2 {
+            return Ok(Visit::Leaves);
+        }
+        let lost = place_of(clause.literals, lie);
+        let other = clause.literals[1 - lost];
         let moved = Watch {
             clause: watch.clause,
             blocker: other,
@@ -103,13 +119,14 @@ impl Propagator {
         if self.known.is_true(other) {
             return Ok(Visit::Stays(moved));
         }
-        if let Some(free) = self
-            .known
-            .free_beside(clause.literals, other, clause.searched)
-        {
-            self.watches.add(free.literal, moved)?;
+        let (_, rest) = clause.literals.split_at(2);
+        if let Some(free) = self.known.free_from(rest, clause.searched) {
             self.clauses
-                .set_watched(watch.clause, other ^ free.literal, free.place);
+                .exchange(watch.clause, lost, 2 + free.place, free.place);
+            self.watches.add(free.literal, moved)?;
+            return Ok(Visit::Leaves);
+        }
+        if !self.known.is_false(clause.literals[lost]) {
             return Ok(Visit::Leaves);
         }
         if self.known.is_false(other) {

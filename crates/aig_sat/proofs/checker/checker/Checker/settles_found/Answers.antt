@@ -2,7 +2,7 @@ use Rattle.std.proofs.Common.{◌≡◌, ℕ, ◌-◌, ◌<◌, List, length, ge
 use Rattle.std.proofs.lemmas.List.{get_or_read}
 use Rattle.aig_sat.specs.checker.First.{IsSettled}
 use Rattle.aig_sat.specs.checker.Listing.{FindsAll}
-use Rattle.aig_sat.proofs.checking.ListingLemmas.{finds_shrunk, settled_next}
+use Rattle.aig_sat.proofs.checking.ListingLemmas.{finds_shrunk, settled_next, settled_there}
 use Rattle.aig_sat.proofs.checking.PropagationLemmas.{narrows_then}
 use Rattle.aig_sat.proofs.checker.checker.Checker.settles_found.Goals as goal
 
@@ -26,3 +26,16 @@ loop-tried-preserved c =
           (subst (λ (p : ℕ). IsSettled c.loop-tried.self.propagator c.settles.new.self.propagator c.args.clause.now c.args.lie p)
           is (now.settled c.if-not-branch.false));
     }
+
+pub returns-in_err-settles-clause-narrows : goal.returns-in_err-settles-clause-narrows
+returns-in_err-settles-clause-narrows c = narrows_then _ _ _ c.loop-tried.invariant.narrows c.settles.ensures.narrows
+
+pub returns-then-not-branch-clause-narrows : goal.returns-then-not-branch-clause-narrows
+returns-then-not-branch-clause-narrows c = narrows_then _ _ _ c.loop-tried.invariant.narrows c.settles.ensures.narrows
+
+pub returns-clause-settled : goal.returns-clause-settled
+returns-clause-settled c = λ _ p.
+    let all = c.loop-tried.invariant in
+    settled_there c.args.self.now.propagator c.loop-tried.self.propagator c.args.clause.now c.args.lie c.len-count.result
+    c.loop-tried.tried c.loop-tried.self.candidates.items p all.narrows all.finds all.count (omega (arith, c.loop-tried-test.false))
+    all.settled

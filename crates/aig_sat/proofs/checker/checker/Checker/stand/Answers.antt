@@ -14,7 +14,7 @@ invariant_of-self c = (c.args.self.now.marks.listed, tt)
 
 pub returns-in_default : goal.returns-in_default
 returns-in_default c = λ v h m.
-    absurd (all_false v c.args.self.now.propagator.known.truths.items c.deref.result.now h.agrees.known c.in_default.ensures
+    absurd (all_false v c.args.self.now.propagator.known.truths.items c.deref.result.now h.agrees.known c.in_default.ensures.none
     (subst (λ (xs : List ℕ). meets v xs ≡ true) (sym c.deref.ensures.value) m))
 
 pub invariant_of-self-2 : goal.invariant_of-self-2
@@ -22,7 +22,7 @@ invariant_of-self-2 c = (c.args.self.now.marks.listed, tt)
 
 pub store_unit-requires : goal.store_unit-requires
 store_unit-requires c = λ v h m.
-    only_true v c.args.self.now.propagator.known.truths.items c.deref-2.result.now c.in-Some.first h.agrees.known
+    only_true v c.args.self.now.propagator.known.truths.items c.deref-2.result.now c.in-Some.first.literal h.agrees.known
     c.in-None.ensures (subst (λ (xs : List ℕ). meets v xs ≡ true) (sym c.deref-2.ensures.value) m)
 
 pub returns-in-None : goal.returns-in-None

@@ -17,9 +17,9 @@ stand-requires c =
           omega (arith, same, c.args.self.now.begins.within x, place_is);
       unlisted = omega (arith, c.in_ok-put.ensures.listed, c.args.self.now.within, place_is);
       named = λ k inside.
-          let at : get_or c.put.new.self.words.items (c.len-place.result + (4 + k)) 0 ≡ get_or c.args.literals.now k 0 =
-          ap (λ n. get_or c.put.new.self.words.items (n + (4 + k)) 0) place_is ∙ c.in_ok-put.ensures.ok.items k inside in
-          let name : variable (get_or c.put.new.self.words.items (c.len-place.result + (4 + k)) 0)
+          let at : get_or c.put.new.self.words.items (c.len-place.result + (3 + k)) 0 ≡ get_or c.args.literals.now k 0 =
+          ap (λ n. get_or c.put.new.self.words.items (n + (3 + k)) 0) place_is ∙ c.in_ok-put.ensures.ok.items k inside in
+          let name : variable (get_or c.put.new.self.words.items (c.len-place.result + (3 + k)) 0)
           ≡ variable (get_or c.args.literals.now k 0) = ap variable at in
           omega (arith, name, c.above-self.ensures.all k inside, c.in_ok-put.ensures.named);
     }
@@ -32,7 +32,7 @@ returns c = λ values meets_it met.
     let put = c.in_ok-put.ensures.ok in
     let last : IsLast words c.len-place.result (length literals) =
     subst (λ (n : ℕ). IsLast words n (length literals)) (sym place_is) (put_last _ _ _ c.args.self.now.laid_out put) in
-    let items : (k : ℕ) → k < length literals → get_or words (c.len-place.result + (4 + k)) 0 ≡ get_or literals k 0 =
-    subst (λ (n : ℕ). (k : ℕ) → k < length literals → get_or words (n + (4 + k)) 0 ≡ get_or literals k 0) (sym place_is) put.items in
+    let items : (k : ℕ) → k < length literals → get_or words (c.len-place.result + (3 + k)) 0 ≡ get_or literals k 0 =
+    subst (λ (n : ℕ). (k : ℕ) → k < length literals → get_or words (n + (3 + k)) 0 ≡ get_or literals k 0) (sym place_is) put.items in
     subst (MeetsAll values) (sym c.stand.ensures)
     (stand_keeps words literals c.len-place.result last items values meets_it (c.in_ok-put.ensures.met values met))

@@ -3,6 +3,5 @@ use Rattle.aig_parts.specs.Literal.{negation}
 use Rattle.aig_sat.specs.checker.Knowledge.{IsKnown}
 use Rattle.aig_sat.proofs.checker.known.Known.free.Given as goal
 
-abbrev pub invariant-loop-literal : goal.invariant-loop-literal
-invariant-loop-literal l =
-    (k : ℕ) → k < l.literal-index → IsKnown l.self.truths.items (negation (get_or l.literals k 0))
+abbrev pub invariant-loop-place : goal.invariant-loop-place
+invariant-loop-place l = (k : ℕ) → k < l.place → IsKnown l.self.truths.items (negation (get_or l.literals k 0))

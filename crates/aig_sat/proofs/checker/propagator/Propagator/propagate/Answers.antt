@@ -14,3 +14,6 @@ pub returns-then-branch-clause-conflict : goal.returns-then-branch-clause-confli
 returns-then-branch-clause-conflict c = λ _.
     contradicts_then c.args.self.now c.loop-place.self c.loop-place.invariant
     (c.in_ok-visit_all.ensures.conflict c.if-branch.true)
+
+pub loop-place-preserved : goal.loop-place-preserved
+loop-place-preserved c = steps _ _ _ c.loop-place.invariant c.visit_all.ensures.propagates

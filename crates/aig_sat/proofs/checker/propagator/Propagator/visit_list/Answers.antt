@@ -13,6 +13,9 @@ returns-in-Ok-Conflict-clause-conflict c = λ _.
     contradicts_then c.args.self.now c.loop-place.self c.loop-place.invariant.propagates
     (subst (λ (x : Visit). OnConflict (Contradicts c.loop-place.self) x) c.in-Ok-Conflict.field-0-is c.in-Ok-Conflict.ensures.conflict)
 
+pub returns-in-Ok-Conflict-clause-propagates : goal.returns-in-Ok-Conflict-clause-propagates
+returns-in-Ok-Conflict-clause-propagates c = steps _ _ _ c.loop-place.invariant.propagates c.visit.ensures.propagates
+
 -- src/propagator.rt:122:21
 pub returns-in-Err-clause-propagates : goal.returns-in-Err-clause-propagates
 returns-in-Err-clause-propagates c = steps _ _ _ c.loop-place.invariant.propagates c.visit.ensures.propagates

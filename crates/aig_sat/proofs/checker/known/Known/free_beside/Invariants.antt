@@ -1,7 +1,7 @@
 use Rattle.std.proofs.Common.{◌≡◌, ◌⊎◌, ℕ, ◌<◌, get_or}
 use Rattle.aig_parts.specs.Literal.{negation}
 use Rattle.aig_sat.specs.checker.Knowledge.{IsKnown}
-use Rattle.aig_sat.proofs.checker.known.Known.search.Given as goal
+use Rattle.aig_sat.proofs.checker.known.Known.free_beside.Given as goal
 
 abbrev pub invariant-loop-place : goal.invariant-loop-place
 invariant-loop-place l =
