@@ -1,6 +1,2 @@
-pub mod Asked
-pub mod Endings
-pub mod RunFiles
 pub mod Running
 pub mod SessionEndings
-pub mod TextPositions

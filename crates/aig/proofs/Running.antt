@@ -3,7 +3,8 @@ use Rattle.std.proofs.Common.{◌≡◌, ℕ, List, Result, Ok, Err, refl, sym, 
 use Rattle.std.specs.Prelude.{Option, IfErr, IfOk}
 use Rattle.std.specs.Result.{IsErrAnd}
 use Rattle.aig_files.specs.declared.exit.Exit.{Exit}
-use Rattle.aig.specs.Program.{IsUnparsed, Runs, unparsed}
+use Rattle.aig_program.specs.Arguments.{IsUnparsed}
+use Rattle.aig.specs.Program.{Runs, unparsed}
 
 -- the exit of what failed is one of those that it may fail with
 pub exit_of : {T : Type 0} (found : Result T Exit) (exit : Exit) (P : Exit → Type 0) → Err exit ≡ found → IfErr found P → P exit

@@ -15,9 +15,9 @@ use Rattle.aig_command.specs.declared.run_fault.RunFault.TheVariants as run_faul
 use Rattle.aig_shell.specs.Conversation.{BreaksDown, EndsShell, Passes}
 use Rattle.aig_shell.specs.Files.{Call}
 use Rattle.aig_shell.specs.Session.{BeginsAt, first_state}
-use Rattle.aig.specs.Ends.{Ends, EndsFlushed, end_of, seen, unwritten}
+use Rattle.aig_program.specs.Ends.{Ends, EndsFlushed, end_of, seen, unwritten}
 use Rattle.aig.specs.Sessions.{HoldsSession, IsSomeTalk}
-use Rattle.aig.proofs.Endings.{command_ends, still_broken}
+use Rattle.aig_program.proofs.Endings.{command_ends, still_broken}
 
 module _ {Y X Z : Type 0} (passes : Passes Y X Z) (person : Bool) (file : List ℕ) (given : Given (List ℕ)) where
   -- where a read failed, the writer got a beginning of what is said; where a write failed, too

@@ -14,8 +14,8 @@ use Rattle.aig_shell.specs.Conversation.{RefusesFiles, Talk}
 use Rattle.aig_shell.specs.Files.{Call}
 use Rattle.aig_shell.specs.Session.{BeginsAt, first_state}
 use Rattle.aig_files.specs.declared.exit.Exit.{Exit}
-use Rattle.aig.specs.Ends.{Ends, Seen, end_of}
-use Rattle.aig.specs.GivenFiles.{given_left}
+use Rattle.aig_program.specs.Ends.{Ends, Seen, end_of}
+use Rattle.aig_program.specs.GivenFiles.{given_left}
 
 -- all that a session over a circuit and a run writes for some lines, with a prompt or without one
 abbrev pub IsSomeTalk : Raw → Given (List ℕ) → List ℕ → Type 0

@@ -1,35 +1,20 @@
 //! The program `aig`: converts, simulates and unrolls and-inverter graphs, checks witnesses and runs scripts.
 #![tactic(auto)]
 
-ghost use Rattle.std.specs.Prelude.{◌≡◌, ℕ, List, IfOk, Ok, map};
-ghost use Rattle.aig.specs.Ends.{seen};
-ghost use Rattle.aig.specs.Program.{Chooses, EndsAsOpened, Runs, RunsAsMeant, status_of_end};
+ghost use Rattle.std.specs.Prelude.{◌≡◌, ℕ, List, Ok, map};
+ghost use Rattle.aig_program.specs.Ends.{seen};
+ghost use Rattle.aig.specs.Program.{EndsAsOpened, Runs, RunsAsMeant, status_of_end};
 
-mod arguments;
-mod certificates;
-mod chosen;
-mod circuits;
-mod command;
-mod ended;
-mod given_file;
-mod kept;
-mod looked_at;
-mod questions;
 mod sessions;
-mod simulations;
-mod solvers;
-mod why;
-mod witnesses;
 
 use aig_base::Write;
 use aig_cli::has_general_flag;
 use aig_explain::{explain, is_asked_for};
-use aig_files::{Exit, Source, Terminal, Terminals, Tracked, output, reserve};
-use arguments::{parsed, with_fault};
-use chosen::open_chosen;
+use aig_files::{Exit, Terminal, Terminals, output, reserve};
+use aig_program::arguments::{self, parsed};
+use aig_program::{Chosen, command_for, files_of};
 use clap::ArgMatches;
-use command::Command;
-use looked_at::files_of;
+use sessions::shell;
 use std::env::Env;
 use std::fs::Files;
 use std::io::{IsTerminal, Read};
@@ -120,10 +105,10 @@ where
     run_opened(terminal, command_for(terminal, matches), &mut out)
 }
 
-/// Runs the command that was opened, if one was.
+/// Runs what was opened: a command or a session, if one was.
 fn run_opened<R: Files + AllocGlobal + Print + Eprint + Clock + Input, F: Read + Drop, W: Write>(
     terminal: &Terminal<'_, R>,
-    opened: Result<Command<'_, F>, Exit>,
+    opened: Result<Chosen<'_, F>, Exit>,
     out: &mut W,
 ) -> Result<(), Exit>
 where
@@ -131,21 +116,9 @@ where
     ensures ends { EndsAsOpened (seen W.written W.failures out.old out.new) F.remaining opened.entry result }
 {
     match opened {
-        Ok(command) => command.run(terminal, out),
+        Ok(Chosen::Command(command)) => command.run(terminal, out),
+        Ok(Chosen::Session(session)) => shell(terminal, session, out),
         Err(exit) => Err(exit),
-    }
-}
-
-/// Returns the command that the arguments choose, unless one of its numbers is not written as numbers are.
-fn command_for<'t, R: Files + AllocGlobal + Eprint + Clock>(
-    terminal: &'t Terminal<'t, R>,
-    matches: &'t ArgMatches<'_>,
-) -> Result<Command<'t, Source<'t, Tracked<'t, R, R::File>>>, Exit>
-    ensures chosen { IfOk result (Chooses matches.now) }
-{
-    match with_fault(terminal.runtime(), matches) {
-        Some(exit) => Err(exit),
-        None => open_chosen(terminal, matches),
     }
 }
 

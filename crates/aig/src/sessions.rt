@@ -1,15 +1,14 @@
 //! `shell`: a session over the terminal of its user.
 ghost use Rattle.aig_command.specs.Given.{given_text};
-ghost use Rattle.aig.specs.Ends.{Ends, end_of, seen};
+ghost use Rattle.aig_program.specs.Ends.{Ends, end_of, seen};
 ghost use Rattle.aig.specs.Sessions.{EndsSession, HoldsSession};
 
-use crate::command::Shell;
-use crate::ended::ended;
-use crate::given_file::{read_given_file, text_of_given};
-use crate::kept::{Failure, keep_texts};
 use aig_base::{Std, Write};
 use aig_command::{Given, RunFault};
 use aig_files::{Exit, Kept, Part, Terminal, Unwritten, read_whole};
+use aig_program::command::Shell;
+use aig_program::ended::ended;
+use aig_program::{Failure, keep_texts, read_given_file, text_of_given};
 use aig_shell::{FileText, Keep, Opening, Reason, Unkept, run_shell};
 use std::fs::Files;
 use std::io::{ErrorKind, Read};

@@ -2,7 +2,7 @@ use Rattle.std.proofs.Common.{◌≡◌, ◌⊎◌, [], inl, inr, sym, subst}
 use Rattle.aig_files.specs.declared.exit.Exit.{Exit}
 use Rattle.aig_files.specs.declared.exit.Exit.TheVariants as exits
 use Rattle.aig_command.specs.declared.run_fault.RunFault.TheVariants as run_faults
-use Rattle.aig.specs.Program.{IsUnparsed}
+use Rattle.aig_program.specs.Arguments.{IsUnparsed}
 use Rattle.aig.proofs.Running.{ends_unparsed, exit_of}
 use Rattle.aig.proofs.run.Goals as goal
 

@@ -1,5 +1,6 @@
 use Rattle.std.proofs.Common.{sym, subst}
-use Rattle.aig.specs.Program.{IsUnparsed, RunsAsMeant, parsed}
+use Rattle.aig_program.specs.Arguments.{IsUnparsed}
+use Rattle.aig.specs.Program.{RunsAsMeant, parsed}
 use Rattle.aig.proofs.Running.{ends_unparsed, exit_of, value_of}
 use Rattle.aig.proofs.run_words.Goals as goal
 

@@ -1,10 +1,10 @@
 use Rattle.aig_command.specs.Given.{given_text}
 use Rattle.aig_files.specs.declared.part.Part.TheVariants as parts
 use Rattle.aig_command.specs.declared.run_fault.RunFault.TheVariants as run_faults
-use Rattle.aig.specs.Ends.{Ends, end_of, seen}
-use Rattle.aig.specs.GivenFiles.{given_left, given_part}
+use Rattle.aig_program.specs.Ends.{Ends, end_of, seen}
+use Rattle.aig_program.specs.GivenFiles.{given_left, given_part}
 use Rattle.aig.specs.Sessions.{HoldsSession}
-use Rattle.aig.proofs.Endings.{ends_unread, nothing, of_any_two, of_both, slice_whole}
+use Rattle.aig_program.proofs.Endings.{ends_unread, nothing, of_any_two, of_both, slice_whole}
 use Rattle.aig.proofs.sessions.shell.Goals as goal
 
 pub returns : goal.returns
@@ -17,7 +17,7 @@ returns g c =
           of_both (g.F.Read.remaining c.args.it.circuit) (given_left g.F.Read.remaining c.args.it.given) c.as_slice-file.result.now
           (given_text c.text_of_given-run.result)
           (slice_whole (g.F.Read.remaining c.args.it.circuit) _ _ c.as_slice-file.ensures.value c.in_ok-circuit.ensures.whole)
-          (slice_whole (given_left g.F.Read.remaining c.args.it.given) _ _ c.text_of_given-run.ensures c.in_ok-given.ensures.whole)
+          (slice_whole (given_left g.F.Read.remaining c.args.it.given) _ _ c.text_of_given-run.ensures.text c.in_ok-given.ensures.whole)
           (λ file run. Ends out run_faults.Shell end_of (HoldsSession file run) c.answer.result) c.answer.ensures;
     }
 

@@ -1,0 +1,22 @@
+//! What the program does with its arguments: which command they choose, which files it opens, and how it ends.
+#![tactic(auto)]
+
+pub mod arguments;
+mod certificates;
+mod chosen;
+mod circuits;
+pub mod command;
+pub mod ended;
+mod given_file;
+mod kept;
+mod looked_at;
+mod questions;
+mod simulations;
+mod solvers;
+mod why;
+mod witnesses;
+
+pub use chosen::{Chosen, command_for};
+pub use given_file::{read_given_file, text_of_given};
+pub use kept::{Failure, keep_texts};
+pub use looked_at::files_of;
