@@ -36,8 +36,10 @@ two_inputs_of_one = record {
   format = Ascii;
   counts = 1 ∷ 2 ∷ 0 ∷ 0 ∷ 0 ∷ 0 ∷ 0 ∷ 0 ∷ 0 ∷ [];
   nine = refl;
-  within = All-from_recursion (λ n. n ≤ limit) _
-      (omega arith, (omega arith, (omega arith, (omega arith, (omega arith, (omega arith, (omega arith, (omega arith, (omega arith, tt)))))))));
+  within = All-from_recursion (λ n. n ≤ limit) (1 ∷ 2 ∷ 0 ∷ 0 ∷ 0 ∷ 0 ∷ 0 ∷ 0 ∷ 0 ∷ []) (
+    omega arith,
+    (omega arith, (omega arith, (omega arith, (omega arith, (omega arith, (omega arith, (omega arith, (omega arith, tt)))))))),
+  );
   least = 0;
   rest = [];
   spelled = refl;
