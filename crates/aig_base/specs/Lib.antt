@@ -8,6 +8,7 @@ pub mod Grounded
 pub mod Laws
 pub mod Levels
 pub mod Order
+pub mod Part
 pub mod Readers
 pub mod Renumbered
 pub mod RenumberedValues
