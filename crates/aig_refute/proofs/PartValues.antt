@@ -19,11 +19,11 @@ use Rattle.aig_base.specs.Value.{Value, Fits, reset_value, start_of}
 use Rattle.aig_base.proofs.lists.Positions.{position_of, stands_at, unmap_option}
 use Rattle.aig_refute.proofs.Picked.{length-picked, length-spread, picked_at, picked_both, picked_spread, spread_other}
 
-marked : {A : Type 0} (f : A → Bool) (xs : List A) (i : ℕ) (x : A) → slice_get xs i ≡ Some x → f x ≡ true
+pub marked : {A : Type 0} (f : A → Bool) (xs : List A) (i : ℕ) (x : A) → slice_get xs i ≡ Some x → f x ≡ true
     → slice_get (map f xs) i ≡ Some true
 marked f xs i x at e = slice_get-map f xs i ∙ ap (option_map f) at ∙ ap Some e
 
-marked_is : {A : Type 0} (f : A → Bool) (xs : List A) (i : ℕ) (x : A) (b : Bool) → slice_get xs i ≡ Some x
+pub marked_is : {A : Type 0} (f : A → Bool) (xs : List A) (i : ℕ) (x : A) (b : Bool) → slice_get xs i ≡ Some x
     → slice_get (map f xs) i ≡ Some b → f x ≡ b
 marked_is f xs i x b at m =
     let e : Some (f x) ≡ Some b = sym (slice_get-map f xs i ∙ ap (option_map f) at) ∙ m in cc
@@ -33,19 +33,19 @@ module _ (raw : Raw) (bad : ℕ) (test : ℕ → Bool) (exact : TestsRead raw ba
   small = part raw bad test
 
   -- what the gates and latches read that are read is read
-  reads_first : (q : ℕ) (g : Gate) → slice_get raw.gates q ≡ Some g → test (variable g.lhs) ≡ true → test (variable g.rhs0) ≡ true
+  pub reads_first : (q : ℕ) (g : Gate) → slice_get raw.gates q ≡ Some g → test (variable g.lhs) ≡ true → test (variable g.rhs0) ≡ true
   reads_first q g at e = (exact (variable g.rhs0)).1 (read.first q g at ((exact (variable g.lhs)).0 e))
 
-  reads_second : (q : ℕ) (g : Gate) → slice_get raw.gates q ≡ Some g → test (variable g.lhs) ≡ true → test (variable g.rhs1) ≡ true
+  pub reads_second : (q : ℕ) (g : Gate) → slice_get raw.gates q ≡ Some g → test (variable g.lhs) ≡ true → test (variable g.rhs1) ≡ true
   reads_second q g at e = (exact (variable g.rhs1)).1 (read.second q g at ((exact (variable g.lhs)).0 e))
 
-  reads_next : (p : ℕ) (x : Latch) → slice_get raw.latches p ≡ Some x → test (variable x.lit) ≡ true → test (variable x.next) ≡ true
+  pub reads_next : (p : ℕ) (x : Latch) → slice_get raw.latches p ≡ Some x → test (variable x.lit) ≡ true → test (variable x.next) ≡ true
   reads_next p x at e = (exact (variable x.next)).1 (read.next p x at ((exact (variable x.lit)).0 e))
 
-  reads_bad : test (variable bad) ≡ true
+  pub reads_bad : test (variable bad) ≡ true
   reads_bad = (exact (variable bad)).1 read.property
 
-  reads_constraint : (c : ℕ) → Contains raw.constraints c → test (variable c) ≡ true
+  pub reads_constraint : (c : ℕ) → Contains raw.constraints c → test (variable c) ≡ true
   reads_constraint c has =
       let (i, at) = position_of raw.constraints c has in (exact (variable c)).1 (read.constraint i c at)
 
