@@ -2,7 +2,7 @@
 ghost use Rattle.std.specs.Prelude.{◌≡◌, ◌+◌, ◌<◌, length, IfOk, OnOk};
 ghost use Rattle.aig_base.specs.Part.{AreReadMarks};
 ghost use Rattle.aig_base.specs.Sections.{IsDefined};
-ghost use Rattle.aig_base.specs.state.Reading.{IsOwed, IsReading};
+ghost use Rattle.aig_base.specs.state.ReadWalk.{IsReading};
 ghost use Rattle.aig_parts.specs.Literal.{variable};
 
 use crate::check::walk::Walk;
@@ -15,8 +15,8 @@ use std::alloc::Global;
 fn meet_read(walk: &mut Walk, circuit: &Circuit, read: u32) -> Result<(), Memory>
     requires { length walk.old.met.items ≡ circuit.now.max_var + 1 }
     ensures size { OnOk result (length walk.new.met.items ≡ length walk.old.met.items) }
-    ensures reading { OnOk result ((bad : ℕ) → IsOwed circuit.now bad read walk.old.pending.items walk.old.met.items
-        → IsReading circuit.now bad walk.new.pending.items walk.new.met.items) }
+    ensures reading { OnOk result ((bad : ℕ) → IsReading circuit.now bad walk.old.pending.items (read ∷ []) walk.old.met.items
+        → IsReading circuit.now bad walk.new.pending.items [] walk.new.met.items) }
 {
     circuit.facts();
     match circuit.definition(read) {

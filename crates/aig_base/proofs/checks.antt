@@ -4,4 +4,5 @@ pub mod Faults
 pub mod Marking
 pub mod NoFault
 pub mod TriedLevelLemmas
+pub mod ReadWalks
 pub mod Walks

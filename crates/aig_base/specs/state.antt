@@ -12,6 +12,7 @@ pub mod Marks
 pub mod PropertyPlaces
 pub mod Queue
 pub mod Ranged
+pub mod ReadWalk
 pub mod ReaderSlots
 pub mod Rewires
 pub mod Sorting
