@@ -1,6 +1,6 @@
 -- The part of a circuit is a circuit.
-use Rattle.std.proofs.Common.{◌≡◌, inl, inr, ℕ, ◌+◌, ◌<◌, ◌≤◌, Bool, true, List, [], ◌∷◌, ◌++◌, length, map, Contains, Some}
-use Rattle.std.proofs.Common.{slice_get, get_or, All, refl, sym, ◌∙◌, ap, subst, arith}
+use Rattle.std.proofs.Common.{◌≡◌, inl, inr, ℕ, ◌+◌, ◌≤◌, Bool, true, List, [], ◌++◌, length, map, Some}
+use Rattle.std.proofs.Common.{slice_get, get_or, All, refl, ◌∙◌, ap, subst, arith}
 use Rattle.std.proofs.lemmas.List.Elements.{All-append, All-cons, All-map, All-nil}
 use Rattle.std.proofs.lemmas.Option.{slice_get-get_or}
 use Rattle.aig_parts.specs.Formed.{IsFormed, IsSymbolOf, limit}
@@ -12,7 +12,7 @@ use Rattle.aig_base.specs.Circuit.{IsCircuit}
 use Rattle.aig_base.specs.Grounded as grounded
 use Rattle.aig_base.specs.Grounded.{Grounded, IsSource}
 use Rattle.aig_base.specs.Part.{TestsRead, gate_marks, input_marks, latch_marks, part, picked}
-use Rattle.aig_base.specs.Sections.{IsDefined, IsGate, definitions, uses}
+use Rattle.aig_base.specs.Sections.{IsDefined, definitions, uses}
 use Rattle.aig_base.specs.Sound.{IsDefinition, IsInRange, IsReset, IsSound}
 use Rattle.aig_base.proofs.circuits.Circuits.{gate_defined, input_defined, latch_defined}
 use Rattle.aig_base.proofs.circuits.Defined.{Grounded-of_defined, defined_cases}

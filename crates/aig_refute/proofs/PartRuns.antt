@@ -1,5 +1,5 @@
 -- A run of the part of a circuit is one of the circuit, with other values where nothing is read.
-use Rattle.std.proofs.Common.{◌≡◌, ◌≢◌, ◌↔◌, inl, inr, ℕ, ◌+◌, ◌<◌, Bool, true, false, List, [], ◌∷◌, length, map, replicate}
+use Rattle.std.proofs.Common.{◌≡◌, ◌≢◌, ◌↔◌, inr, ℕ, ◌+◌, Bool, true, false, List, [], ◌∷◌, length, map, replicate}
 use Rattle.std.proofs.Common.{Some, slice_get, option_map, All, refl, sym, ◌∙◌, ap, subst, arith}
 use Rattle.std.proofs.lemmas.List.{get_or-replicate, length-map, length-replicate}
 use Rattle.std.proofs.lemmas.List.Elements.{All-head, All-map, All-tail, All-weaker}
@@ -15,7 +15,7 @@ use Rattle.aig_base.specs.Value.{Fits, reset_value, start_of}
 use Rattle.aig_refute.specs.Satisfiable.{BreaksStep, HasBrokenStep, IsKnownRun, IsReachedWithin}
 use Rattle.aig_refute.specs.Models.{AreKnown}
 use Rattle.aig_refute.specs.Unreachable.{IsUnreachable}
-use Rattle.aig_refute.proofs.PartValues.{marked, marked_is, narrowed_allowed, narrowed_fits, reaches_in_part, reaches_in_whole}
+use Rattle.aig_refute.proofs.PartValues.{marked, narrowed_allowed, narrowed_fits, reaches_in_part, reaches_in_whole}
 use Rattle.aig_refute.proofs.Picked.{All-picked, All-spread, length-picked, length-spread, picked_at, picked_spread, spread_other}
 
 rows_back : (bs : List Bool) (ys : List Tern) (rows : List (List Tern)) → length ys ≡ length bs

@@ -1,23 +1,22 @@
 -- A circuit and the part of it that a property reads: what is read has the same values in both.
-use Rattle.std.proofs.Common.{◌≡◌, ◌↔◌, inl, inr, ℕ, zero, suc, ◌+◌, ◌-◌, ◌<◌, ◌≤◌, Bool, true, false, List, [], ◌∷◌, length}
-use Rattle.std.proofs.Common.{map, replicate, Contains, Some, slice_get, option_map, All, refl, sym, ◌∙◌, ap, subst, arith}
-use Rattle.std.proofs.lemmas.List.{length-map, length-replicate}
+use Rattle.std.proofs.Common.{◌≡◌, ℕ, ◌-◌, Bool, true, List, length}
+use Rattle.std.proofs.Common.{map, Contains, Some, slice_get, option_map, sym, ◌∙◌, ap, subst, arith}
+use Rattle.std.proofs.lemmas.List.{length-map}
 use Rattle.std.proofs.lemmas.List.Elements.{All-map, All-weaker}
-use Rattle.std.proofs.lemmas.Option.{slice_get-map, slice_get_within}
+use Rattle.std.proofs.lemmas.Option.{slice_get-map}
 use Rattle.aig_parts.specs.Literal.{variable}
 use Rattle.aig_parts.specs.declared.gate.Gate.{Gate}
 use Rattle.aig_parts.specs.declared.latch.Latch.{Latch}
 use Rattle.aig_parts.specs.declared.raw.Raw.{Raw}
 use Rattle.aig_parts.specs.declared.ternary.Tern.{Tern}
-use Rattle.aig_parts.specs.declared.ternary.Tern.TheVariants.{One}
 use Rattle.aig_base.specs.Part as read
-use Rattle.aig_base.specs.Part.{IsRead, TestsRead, gate_marks, input_marks, latch_marks, narrowed_rows, narrowed_start}
-use Rattle.aig_base.specs.Part.{part, picked, spread}
-use Rattle.aig_base.specs.Runs.{Allows, IsAllowed, ReachesBad}
+use Rattle.aig_base.specs.Part.{TestsRead, gate_marks, input_marks, latch_marks, narrowed_rows, narrowed_start}
+use Rattle.aig_base.specs.Part.{part, picked}
+use Rattle.aig_base.specs.Runs.{IsAllowed, ReachesBad}
 use Rattle.aig_base.specs.Value as value
-use Rattle.aig_base.specs.Value.{Value, Fits, reset_value, start_of}
-use Rattle.aig_base.proofs.lists.Positions.{position_of, stands_at, unmap_option}
-use Rattle.aig_refute.proofs.Picked.{length-picked, length-spread, picked_at, picked_both, picked_spread, spread_other}
+use Rattle.aig_base.specs.Value.{Value, Fits}
+use Rattle.aig_base.proofs.lists.Positions.{position_of, unmap_option}
+use Rattle.aig_refute.proofs.Picked.{length-picked, picked_at, picked_both}
 
 pub marked : {A : Type 0} (f : A → Bool) (xs : List A) (i : ℕ) (x : A) → slice_get xs i ≡ Some x → f x ≡ true
     → slice_get (map f xs) i ≡ Some true

@@ -1,5 +1,5 @@
 -- Lists that have some items of another one, in its order.
-use Rattle.std.proofs.Common.{◌≡◌, ℕ, zero, suc, ◌<◌, Bool, true, false, List, [], ◌∷◌, ◌++◌, map, Some, slice_get, refl, arith}
+use Rattle.std.proofs.Common.{◌≡◌, ℕ, zero, suc, ◌<◌, Bool, true, false, List, [], ◌∷◌, ◌++◌, map, Some, slice_get, arith}
 use Rattle.aig_base.specs.Part.{picked}
 use Rattle.aig_base.specs.Sound.{StandsTwice}
 

@@ -1,21 +1,17 @@
 -- The walk that finds what a property reads.
-use Rattle.std.proofs.Common.{◌≡◌, ◌⊎◌, inl, inr, ℕ, ◌+◌, ◌<◌, List, [], ◌∷◌, ◌++◌, length, set, get_or, Bool, true, false}
-use Rattle.std.proofs.Common.{Contains, Some, slice_get, replicate, refl, sym, ◌∙◌, ap, subst, arith, get_or-set_same, length-set}
+use Rattle.std.proofs.Common.{◌≡◌, inl, inr, ℕ, ◌+◌, ◌<◌, List, [], ◌∷◌, ◌++◌, length, set, get_or, Bool, true, false}
+use Rattle.std.proofs.Common.{Some, slice_get, replicate, refl, sym, ◌∙◌, ap, arith, get_or-set_same, length-set}
 use Rattle.std.proofs.lemmas.Bool.{cases_Bool, false≢true}
 use Rattle.std.proofs.lemmas.List.{get_or-replicate, length-replicate, set-get_or}
 use Rattle.std.proofs.lemmas.List.Elements.{Contains-append_left, Contains-push, Contains-push_cases}
 use Rattle.aig_parts.specs.Literal.{variable}
-use Rattle.aig_parts.specs.declared.gate.Gate.{Gate}
-use Rattle.aig_parts.specs.declared.latch.Latch.{Latch}
 use Rattle.aig_parts.specs.declared.raw.Raw.{Raw}
 use Rattle.aig_base.specs.Part as by
 use Rattle.aig_base.specs.Part.{IsRead, TestsRead}
-use Rattle.aig_base.specs.Sound.{IsSound}
 use Rattle.aig_base.specs.state.ReadWalk.{IsFollowed, IsMet, IsReading}
 use Rattle.aig_base.specs.state.Walk.{Meets}
 use Rattle.aig_base.proofs.checks.Walks.{met_within, only_element, stays_met, was_met}
-use Rattle.aig_base.proofs.circuits.Gates.{same_gate}
-use Rattle.aig_base.proofs.lists.Positions.{no_element, position_of}
+use Rattle.aig_base.proofs.lists.Positions.{no_element}
 
 module _ (raw : Raw) (bad : ℕ) where
   stays_followed : (met : List Bool) (x v : ℕ) → x < length met → IsFollowed raw met v → IsFollowed raw (set met x true) v
