@@ -1,7 +1,8 @@
 -- The part of a circuit that a property reads, together with the constraints: through gates in its frame, and through
 -- latches in the frames before (our own choice).
 -- Example: of the inputs 2 and 4, the latch `6 4` and the gate `8 6 2`, the property 6 reads 6 and 4.
-use Rattle.std.specs.Prelude.{◌≡◌, ◌↔◌, ℕ, Bool, true, if◌then◌else◌, List, [], ◌∷◌, map, None, Some, slice_get}
+use Rattle.std.specs.Prelude.{◌≡◌, ◌↔◌, ℕ, ◌+◌, Bool, true, false, if◌then◌else◌, List, [], ◌∷◌, length, map, None, Some}
+use Rattle.std.specs.Prelude.{slice_get, slice_index_or}
 use Rattle.aig_parts.specs.declared.gate.Gate.{Gate}
 use Rattle.aig_parts.specs.declared.latch.Latch.{Latch}
 use Rattle.aig_parts.specs.declared.raw.Raw.{Raw}
@@ -22,6 +23,11 @@ pub data IsRead (raw : Raw) (bad : ℕ) : ℕ → Type 0 where
 -- the variables that pass the test are those
 abbrev pub TestsRead : Raw → ℕ → (ℕ → Bool) → Type 0
 TestsRead raw bad test = (v : ℕ) → (test v ≡ true) ↔ IsRead raw bad v
+
+-- marks for the variables up to the greatest one
+pub record AreReadMarks (raw : Raw) (bad : ℕ) (marks : List Bool) : Type 0 where
+  pub size : length marks ≡ raw.max_var + 1
+  pub exact : TestsRead raw bad (λ v. slice_index_or marks v false)
 
 -- the items whose mark is true
 unfoldable pub picked : {A : Type 0} → List Bool → List A → List A

@@ -1,5 +1,6 @@
 -- A walk over the variables that a property reads.
-use Rattle.std.specs.Prelude.{◌≡◌, ◌⊎◌, ℕ, ◌+◌, Bool, true, false, List, length, Contains, Some, slice_get, slice_index_or}
+use Rattle.std.specs.Prelude.{◌≡◌, ◌⊎◌, ℕ, ◌+◌, Bool, true, false, List, [], length, All, Contains, Some, slice_get}
+use Rattle.std.specs.Prelude.{slice_index_or}
 use Rattle.aig_parts.specs.Literal.{variable}
 use Rattle.aig_parts.specs.declared.gate.Gate.{Gate}
 use Rattle.aig_parts.specs.declared.latch.Latch.{Latch}
@@ -22,3 +23,9 @@ pub record IsReading (raw : Raw) (bad : ℕ) (pending owed : List ℕ) (met : Li
   pub pending_met : (v : ℕ) → Contains pending v → IsMet met v
   pub owed_met : (v : ℕ) → Contains owed v → IsMet met v
   pub each : (v : ℕ) → IsMet met v → Contains pending v ⊎ (Contains owed v ⊎ IsFollowed raw met v)
+
+-- and the property and these constraints were met
+pub record HasMet (raw : Raw) (bad : ℕ) (constraints pending : List ℕ) (met : List Bool) : Type 0 where
+  pub reading : IsReading raw bad pending [] met
+  pub property : IsMet met (variable bad)
+  pub each : All (λ l. IsMet met (variable l)) constraints

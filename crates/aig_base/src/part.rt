@@ -1,12 +1,13 @@
 //! What a property reads of a circuit, together with the constraints.
-ghost use Rattle.std.specs.Prelude.{◌≡◌, ◌+◌, ◌<◌, length, IfOk, OnOk};
+ghost use Rattle.std.specs.Prelude.{◌≡◌, ℕ, ◌+◌, [], ◌∷◌, not, count_by, length, IfOk, OnOk};
+ghost use Rattle.aig_parts.specs.Literal.{variable};
 ghost use Rattle.aig_base.specs.Part.{AreReadMarks};
 ghost use Rattle.aig_base.specs.Sections.{IsDefined};
-ghost use Rattle.aig_base.specs.state.ReadWalk.{IsReading};
-ghost use Rattle.aig_parts.specs.Literal.{variable};
+ghost use Rattle.aig_base.specs.state.ReadWalk.{IsMet, IsReading};
 
 use crate::check::walk::Walk;
-use crate::circuit::{Circuit, Definition};
+use crate::circuit::Circuit;
+use crate::circuit::definition::Definition;
 use aig_bytes::Memory;
 use aig_parts::Lit;
 use std::alloc::Global;
@@ -15,7 +16,11 @@ use std::alloc::Global;
 fn meet_read(walk: &mut Walk, circuit: &Circuit, read: u32) -> Result<(), Memory>
     requires { length walk.old.met.items ≡ circuit.now.max_var + 1 }
     ensures size { OnOk result (length walk.new.met.items ≡ length walk.old.met.items) }
-    ensures reading { OnOk result ((bad : ℕ) → IsReading circuit.now bad walk.old.pending.items (read ∷ []) walk.old.met.items
+    ensures left { OnOk result (count_by not walk.new.met.items + length walk.new.pending.items
+        ≡ count_by not walk.old.met.items + length walk.old.pending.items) }
+    ensures kept { OnOk result ((v : ℕ) → IsMet walk.old.met.items v → IsMet walk.new.met.items v) }
+    ensures reading { OnOk result ((bad : ℕ) →
+        IsReading circuit.now bad walk.old.pending.items (read ∷ []) walk.old.met.items
         → IsReading circuit.now bad walk.new.pending.items [] walk.new.met.items) }
 {
     circuit.facts();
