@@ -17,7 +17,9 @@ use aig_parts::{Gate, Lit, Tern};
 use std::alloc::{AllocError, Global};
 use std::marker::Model;
 
-/// How many gates a word a sweep has at least, where unpacking the row is faster.
+/// How many gates a sweep has at least, in all and a word, where unpacking the row is faster.
+const GATES: usize = 16;
+
 const WORD_GATES: usize = 1;
 
 /// The characters of two cells side by side, by their four bits.
@@ -204,7 +206,8 @@ impl CellRow for PlaneRow {
 
     fn sweep_at_once(&mut self, codes: &mut Vec<Code>, gates: &[Gate]) -> bool {
         let words = self.words.len();
-        let is_faster = gates.len() / WORD_GATES >= words && make_codes(codes, words);
+        let are_many = gates.len() >= GATES && gates.len() / WORD_GATES >= words;
+        let is_faster = are_many && make_codes(codes, words);
         if is_faster {
             sweep_words(&mut self.words, &mut codes[..CODES * words], gates);
         }
