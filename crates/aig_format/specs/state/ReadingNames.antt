@@ -82,13 +82,18 @@ position_at c named kind bytes = do
   position ← number_at greatest bytes
   if nat_le (count_of c kind) position.0 || is_named kind position.0 named then Err text else Ok position
 
+-- the name of an entry, which joins these
+abbrev pub entry_at : List Entry → Kind → ℕ → List ℕ → Read (List Entry)
+entry_at named kind position bytes = do
+  name ← name_at bytes
+  Ok (named ++ ((kind, position), name.0) ∷ [], name.1)
+
 -- what follows the letter: these entries are named already, and one more is
 unfoldable pub symbol_at : Counts → List Entry → Kind → List ℕ → Read (List Entry)
 symbol_at c named kind bytes = do
   position ← position_at c named kind bytes
   blank ← byte_at space position.1
-  name ← name_at blank.1
-  Ok (named ++ ((kind, position.0), name.0) ∷ [], name.1)
+  entry_at named kind position.0 blank.1
 
 abbrev pub Named : Type 0
 Named = List Entry × Bool

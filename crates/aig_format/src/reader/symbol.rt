@@ -1,13 +1,14 @@
 //! The symbols and the comment.
-ghost use Rattle.std.specs.Prelude.{◌≡◌, ◌≢◌, ℕ, ◌<◌, List, [], length, Ok, IfOk, OnOk};
-ghost use Rattle.std.specs.Prelude.{Option, All, Contains};
+ghost use Rattle.std.specs.Prelude.{◌≡◌, ◌≢◌, ℕ, ◌<◌, List, [], ◌∷◌, ◌++◌, length, take, slice_get, Ok, IfOk, OnOk};
+ghost use Rattle.std.specs.Prelude.{Option, Some, IfSome, All, Contains};
 ghost use Rattle.std.specs.Map.{keys_of};
 ghost use Rattle.aig_parts.specs.Formed.{IsName};
 ghost use Rattle.aig_format.specs.Spells.{greatest};
 ghost use Rattle.aig_format.specs.state.Fits.{AreSymbols};
 ghost use Rattle.aig_format.specs.state.Reading.{number_at};
 ghost use Rattle.aig_format.specs.state.ReadingNames.{count_of, kind_of, after_c_at, letter_at, line_at, name_at};
-ghost use Rattle.aig_format.specs.state.ReadingNames.{position_at, symbol_at, symbols_at, names_at, BeginsSymbol};
+ghost use Rattle.aig_format.specs.state.ReadingNames.{position_at, entry_at, symbol_at, symbols_at, names_at};
+ghost use Rattle.aig_format.specs.state.ReadingNames.{BeginsSymbol};
 ghost use Rattle.aig_format.specs.state.Reads.{ReadsAs, ReadsToken};
 
 use crate::reader::buffered_numbers::field_in;
@@ -154,7 +155,43 @@ fn position<S: Source>(
     Ok(position)
 }
 
-/// Adds the symbol that stands after its letter. Its name is read into these bytes first.
+/// How many bytes the name has that these begin with, where the end of its line is among them too.
+fn buffered_name(bytes: &[u8]) -> Option<usize>
+    ensures name { IfSome result (λ size. IsName (take size bytes.now)) }
+    ensures within { IfSome result (λ size. size < length bytes.now) }
+    ensures ended { IfSome result (λ size. slice_get bytes.now size ≡ Some 10) }
+{
+    let size = line_length(bytes);
+    if size == 0 || size == bytes.len() {
+        return None;
+    }
+    Some(size)
+}
+
+/// Adds the entry whose name comes next. A name that is buffered whole joins the others at once, any other is read into
+/// these bytes first.
+fn entry<S: Source>(
+    s: &mut S,
+    kind: Kind,
+    position: u32,
+    all: &mut SymbolList,
+    bytes: &mut Vec<u8>,
+) -> Result<(), Fault>
+    requires fresh { Contains (keys_of all.old) (kind, position) → ⊥ }
+    ensures reads { ReadsAs S.Source s.old s.new (λ _. all.new) result (entry_at all.old kind position) }
+    ensures name { OnOk result ((name : List ℕ) × IsName name × (all.new ≡ all.old ++ ((kind, position), name) ∷ [])) }
+{
+    if let Some(size) = buffered_name(s.front()) {
+        all.push(kind, position, &s.front()[..size])?;
+        s.skip(size + 1);
+        return Ok(());
+    }
+    name(s, bytes)?;
+    all.push(kind, position, bytes.as_slice())?;
+    Ok(())
+}
+
+/// Adds the symbol that stands after its letter. Its name is read into these bytes where it is not buffered whole.
 #[tactic(auto, unfolding(crate::specs::state::ReadingNames::symbol_at))]
 fn symbol<S: Source>(
     s: &mut S,
@@ -168,9 +205,7 @@ fn symbol<S: Source>(
 {
     let position = position(s, counts, kind, all)?;
     byte(s, b' ')?;
-    name(s, bytes)?;
-    all.push(kind, position, bytes.as_slice())?;
-    Ok(())
+    entry(s, kind, position, all, bytes)
 }
 
 /// Adds all symbols, and answers whether a comment follows.
