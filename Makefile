@@ -9,7 +9,7 @@
 #   make install    installs the program and the library that the gate proved, else those of build with a warning
 #   make wheel      writes the wheel of the Python package with that program into build
 #   make dist       packs a release of a commit whose gate has passed, into build/dist
-#   make clean      removes build/aig, build/aig_proof_tests, build/lib and build/dist
+#   make clean      removes build/aig, build/aig_callers, build/lib and build/dist
 #
 # `make install` takes PREFIX and DESTDIR. Like `make bench` and `make wheel` it takes PROGRAM, for another program than
 # the one that it would choose; and LIBRARY, for another folder of libaig.a and libaig.so, or for none: `LIBRARY=`.
@@ -35,9 +35,9 @@ build/aig: $(SOURCES)
 demo: build/aig
 	@tests/tour.py build/aig
 
-build/aig_proof_tests: $(SOURCES)
+build/aig_callers: $(SOURCES)
 	@mkdir -p build
-	@tools/build_unproved.sh "$(CURDIR)" aig_proof_tests build/aig_proof_tests
+	@tools/build_unproved.sh "$(CURDIR)" aig_callers build/aig_callers
 
 lib: build/lib/libaig.a
 	@echo "build/lib has libaig.a and libaig.so. Nothing of them is proved; 'make prove' makes proved ones."
@@ -47,7 +47,7 @@ build/lib/libaig.a: $(SOURCES) $(LIBRARY_SOURCES)
 	@mkdir -p build/lib
 	@tools/unproved_library.py build/lib
 
-test: build/aig build/aig_proof_tests build/lib/libaig.a
+test: build/aig build/aig_callers build/lib/libaig.a
 	@echo "Running all tests on build/aig. CONTRIBUTING.md says how long that takes."
 	@tests/all.py --crates build/aig
 
@@ -85,7 +85,7 @@ dist:
 	@tools/pack.py
 
 clean:
-	rm -rf build/aig build/aig_proof_tests build/lib build/dist
+	rm -rf build/aig build/aig_callers build/lib build/dist
 
 .PHONY: aig demo lib test prove bench install wheel dist clean
 .DELETE_ON_ERROR:

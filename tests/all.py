@@ -24,7 +24,7 @@ WHOLE_SECONDS = 15 * SECONDS
 LARGE = "run_large.py"
 SCRIPTS = ("run_bounds.py", "run_gate.py", "run_program.py", "run_faults.py", "run_random.py", "run_library.py",
            "run_dist.py", "run_hints.py", "tour.py")
-# this runs aig_proof_tests
+# this runs aig_callers
 STEPS = "run_steps.py"
 # these run the package of Python, and aig-verdicts as far as it needs no other program
 PACKAGES = ("python/tests/run_package.py", "python/tests/run_pages.py", "python/tests/run_bundles.py",
@@ -70,12 +70,12 @@ def ended(name, words, folder, seconds=WHOLE_SECONDS):
 def main():
     parser = argparse.ArgumentParser(description=__doc__, formatter_class=argparse.RawDescriptionHelpFormatter)
     parser.add_argument("--crates", action="store_true", help="also the tests of the crates, without a proof")
-    parser.add_argument("program", nargs="?", help="the program that is tested, with aig_proof_tests beside it (else "
+    parser.add_argument("program", nargs="?", help="the program that is tested, with aig_callers beside it (else "
                                                    "those that the gate built)")
     chosen = parser.parse_args()
     program = [os.path.abspath(chosen.program)] if chosen.program else []
     lanes = [[(name, [f"{TESTS}/{name}", *program], REPOSITORY) for name in names] for names in ([LARGE], SCRIPTS)]
-    steps = [f"{os.path.dirname(program[0])}/aig_proof_tests"] if program else []
+    steps = [f"{os.path.dirname(program[0])}/aig_callers"] if program else []
     lanes[1] += [(STEPS, [f"{TESTS}/{STEPS}", *steps], REPOSITORY)]
     if shutil.which("c++"):
         named = [word for it in program for word in ("--aig", it)]

@@ -1,5 +1,5 @@
 #!/usr/bin/env python3
-"""Runs the program aig_proof_tests, which checks proofs about formulas that no circuit has and marks each of their steps."""
+"""Runs the program aig_callers, which checks proofs about formulas that no circuit has and marks each of their steps."""
 
 from library import runs
 from steps.at_random import at_random, options
@@ -9,7 +9,7 @@ from steps.hinted import hinted
 from steps.listed import listed
 from steps.solved import solved
 
-PROVED = runs.REPOSITORY + "/crates/aig_proof_tests/out/aig_proof_tests"
+PROVED = runs.REPOSITORY + "/crates/aig_callers/out/aig_callers"
 PARTS = {"at_random": at_random, "hinted": hinted, "pigeons": pigeon_holes, "added_variables": added_variables,
          "tables": tables, "listed": listed, "definitions": definitions, "more_pigeons": more_pigeons, "solved": solved}
 

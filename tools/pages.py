@@ -118,12 +118,12 @@ def wrong_links(path, text):
 def wrong_programs():
     """Yields what CALLING.md says wrong of the programs."""
     text = CALLING.read_text(encoding="utf-8")
-    main = (CALLERS / "src" / "main.rt").read_text(encoding="utf-8")
-    names = re.findall(r"(?m)^mod (\w+);", main)
-    if sorted(names) != sorted(re.findall(r"(?m)^    (\w+)::run\(rt\)", main)):
-        yield "crates/aig_callers: main does not run each module once"
+    calling = (CALLERS / "src" / "calling.rt").read_text(encoding="utf-8")
+    names = re.findall(r"(?m)^mod (\w+);", calling)
+    if sorted(names) != sorted(re.findall(r"(?m)^    (\w+)::run\(rt\)", calling)):
+        yield "crates/aig_callers: calling.rt does not run each module once"
     yield from (f"docs/CALLING.md does not name {name}.rt" for name in names if f"{name}.rt" not in text)
-    sources = [(CALLERS / "src" / f"{name}.rt").read_text(encoding="utf-8") for name in names]
+    sources = [(CALLERS / "src" / "calling" / f"{name}.rt").read_text(encoding="utf-8") for name in names]
     for piece in re.findall(r"(?ms)^```rust\n(.*?)^```$", text):
         if not any(f"\n{piece}" in source for source in sources):
             yield f"docs/CALLING.md: no module of crates/aig_callers has {piece.splitlines()[0]}"

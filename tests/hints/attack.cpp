@@ -1,7 +1,7 @@
 // attack COUNT SEED PROGRAM
 //
 // Makes random formulas of two to six variables, each with a proof in LRAT, and has PROGRAM check them, which is
-// aig_proof_tests. A third of the proofs are right: they have hints that give nothing, gaps in their numbers, groups of
+// aig_callers. A third of the proofs are right: they have hints that give nothing, gaps in their numbers, groups of
 // hints in any order, and variables of their own. The steps of the others are changed, and bytes of some of these.
 //
 // PROGRAM marks each step. A slow reference has to give the same marks, except where bytes were changed. No proof may
@@ -501,14 +501,15 @@ static void write_cases(const char* name, const std::vector<Case>& cases) {
     if (!file.flush()) fail("a file cannot be written");
 }
 
-// Runs a program without arguments.
+// Runs a program that reads cases with a word.
 static void run(const char* program, const char* input, const char* output) {
     posix_spawn_file_actions_t files;
     posix_spawn_file_actions_init(&files);
     posix_spawn_file_actions_addopen(&files, 0, input, O_RDONLY, 0);
     posix_spawn_file_actions_addopen(&files, 1, output, O_WRONLY | O_CREAT | O_TRUNC, 0666);
     std::string name = program;
-    char* words[] = {name.data(), nullptr};
+    std::string word = "steps";
+    char* words[] = {name.data(), word.data(), nullptr};
     pid_t process;
     int status = 0;
     if (posix_spawn(&process, program, &files, nullptr, words, environ) != 0) fail("the program does not start");

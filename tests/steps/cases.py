@@ -1,10 +1,12 @@
-"""Cases of the program aig_proof_tests, which prints a line for each: a mark for each step of a proof, and how it ends."""
+"""Cases of the program aig_callers, which prints a line for each: a mark for each step of a proof, and how it ends."""
 
 from library.plain_checker import Checker
 from library.plain_steps import NoStep, steps_of
 from library.runs import shortened
 from program.proofs import text_of
 
+# with a word the program reads cases
+WORD = "steps"
 DELETED, FOLLOWS, ON_FIRST, WRONG = "d+*-"
 REFUTED, OPEN = "refuted", "no refutation"
 
@@ -17,7 +19,7 @@ def case(variables, clauses, proof):
 
 def lines_of(program, cases):
     """The lines that the program prints for these cases; where it fails, a line that says how."""
-    ended = program.run(input=b"".join(cases))
+    ended = program.run(WORD, input=b"".join(cases))
     lines = ended.out.decode().splitlines()
     if (ended.status, ended.err, len(lines)) != (0, b"", len(cases)):
         return [f"{len(lines)} lines of {len(cases)} cases, {shortened(ended)}"] * len(cases)
