@@ -3,8 +3,8 @@
 calls of include/aig.h alone.
 
   c_library.py prove ARCHIVE PROOFS   makes an archive of the crate once an `rt ci` that runs, whose output so far is
-                                      in PROOFS, has proved all libraries below it. That proves the crate again, and
-                                      there is no archive unless it is proved
+                                      in PROOFS, has proved all libraries below it. That proves the crate again, as
+                                      a static library, and there is no archive unless it is proved
   c_library.py link ARCHIVE [FOLDER]  links the library from an archive of the crate, into FOLDER, or into
                                       crates/aig_c/out/lib"""
 
@@ -78,7 +78,8 @@ def prove(archive):
         name = os.path.basename(library).removesuffix(".rlib")
         if name in libraries_of(CRATE_NAME) or name == "std":
             words += ["--extern", f"{name}={library}"]
-        words += ["-L", f"dependency={os.path.dirname(library)}"]
+        if name != CRATE_NAME:
+            words += ["-L", f"dependency={os.path.dirname(library)}"]
     words += ["--antt-project", f"{kit}/rattle/logic/antt-project.json", "--logic-built", f"{kit}/logic_built"]
     said = run(*words, "--toolchain", f"{kit}/toolchain", "-o", os.path.abspath(archive), folder=CRATE)
     print(said.rstrip().rpartition("\n")[2])

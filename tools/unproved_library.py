@@ -50,8 +50,8 @@ def copy(room):
     crate = Crate("aig_c")
     text = re.sub(r"(?m)^pub use [^;]*;\n", "", crate.texts["lib"])
     (source / "main.rt").write_text(text + MAIN % "".join(map(call, crate.exports())))
-    (room / "crates.txt").write_text((ROOT / "crates.txt").read_text().replace("aig_c staticlib:", "aig_c:"))
-    shutil.copy(ROOT / "HANDLES", room)
+    for name in ("crates.txt", "HANDLES"):
+        shutil.copy(ROOT / name, room)
 
 
 def main():
