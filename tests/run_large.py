@@ -15,12 +15,14 @@ from large.hostile_proofs import hostile_proofs
 from large.hubs import hubs
 from large.limits import limits
 from large.long_run import long_run
+from large.own_names import own_names
 from large.reductions import reductions
 from library import runs
 
 PARTS = {"block_edges": block_edges, "files": large_files, "long_run": long_run, "names": crowded_names, "hubs": hubs,
-         "limits": limits, "reductions": reductions, "explanations": explanations,
-         "first_literals": first_literals, "deep": deep, "claims": claims, "proofs": hostile_proofs}
+         "limits": limits, "own_names": own_names, "reductions": reductions,
+         "explanations": explanations, "first_literals": first_literals, "deep": deep, "claims": claims,
+         "proofs": hostile_proofs}
 
 
 def options(parser):
