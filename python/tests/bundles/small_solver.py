@@ -8,7 +8,7 @@ import sys
 
 def read(path):
     numbers = []
-    with open(path, encoding="ascii") as file:
+    with open(path, encoding="latin-1") as file:  # comments have names
         for line in file:
             if line[:1] not in "cp":
                 numbers += map(int, line.split())

@@ -8,8 +8,11 @@ import random
 import shutil
 from pathlib import Path
 
+from aig._program import program
+from aig.verdicts.tools import Stop, version
 from bundles.common import called, judged, kept, manifest_of, row, why_rejected, write_manifest
 from bundles.forgers import FORGERS
+from library.runs import EXAMPLES
 
 TRIED = 8
 NOT_READ = ("recheck.sh",)
@@ -60,6 +63,21 @@ def forgers(_, tally, __):
     row(manifest, "fine")["result"] = "holds"
     write_manifest(path, manifest)
     tally.check("forgers: that some run keeps the assumptions has no proof yet", judged(path) is not None)
+
+
+def older(_, tally, __):
+    """A proof that `aig` rejects: if another version made the bundle, the message says so, as its formula may have been
+    another one."""
+    path = Path("queue.verdicts")
+    shutil.copytree(f"{EXAMPLES}/queue.verdicts", path)
+    (path / "1.step.drat").write_bytes(b"")
+    for said, is_named in (("aig 0.1.9 (proved)", True), (version(program(), Stop()), False)):
+        manifest = manifest_of(path)
+        manifest["versions"]["aig"] = said
+        write_manifest(path, manifest)
+        why = why_rejected(path) or ""
+        tally.check(f"older: {said}", why.startswith("b1: aig refute: step proof: no refutation"), why)
+        tally.compare(f"older: {said} is named", "says that aig 0.1.9 made it" in why, is_named)
 
 
 def harmless(_, tally, __):

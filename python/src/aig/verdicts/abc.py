@@ -120,9 +120,9 @@ def _latch(name: str, count: int) -> int:
     return int(number) if name[:1] == "l" and number.isdigit() and len(number) < 10 and int(number) < count else -1
 
 
-def certificate(one: bytes, invariant: bytes, literals: Sequence[int]) -> bytes:
-    """The certificate that claims that no run reaches a state in one of the invariant's cubes. `literals` are those of
-    the latches in the circuit that the certificate is for."""
+def certificate(one: bytes, invariant: bytes) -> bytes:
+    """The certificate that claims that no run reaches a state in one of the invariant's cubes. The latches have the same
+    literals in the circuit that the certificate is for."""
     states = _read(one).latches
     names, cubes = _cubes(invariant)
     made = _Certificate()
@@ -133,7 +133,7 @@ def certificate(one: bytes, invariant: bytes, literals: Sequence[int]) -> bytes:
         q = _latch(name, len(states))
         if q >= 0:
             reset = states[q][2] if len(states[q]) > 2 else "0"
-            columns[column] = made.share(literals[q]) + (reset == "1")  # ABC turns a latch that starts at 1
+            columns[column] = made.share(int(states[q][0])) + (reset == "1")  # ABC turns a latch that starts at 1
             if reset == states[q][0]:
                 free.append(column)
         elif name != "failed":

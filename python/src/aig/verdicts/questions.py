@@ -55,8 +55,7 @@ class Questions:
         return ask(self._stop, command, *options, files=files, named=named, good=good)
 
     def refute(self, *options: str, proofs: Dict[str, bytes], named: Mapping[str, bytes] = {}) -> Refuted:
-        """The line about proofs that are for the whole circuit, which has the proofs by their roles. They get hints if
-        there is a program for that."""
+        """The line about proofs, which are there by their roles. They get hints if there is a program for that."""
         found = self.hinted(*options, proofs=proofs, named=named)
         return found if found is not None else Refuted(self._line(options, proofs, named), proofs)
 
@@ -99,21 +98,20 @@ class Questions:
         self.note(f"no hints: {said}")
         return proof
 
-    def part(self, what: str, circuit: bytes, *options: str) -> Answer:
-        """A question of the search, about a part of the circuit."""
-        return self._solve(what, circuit, options, {}, self.seconds_left())
+    def solve(self, what: str, *options: str) -> Answer:
+        """A question of the search."""
+        return self._solve(what, options, {}, self.seconds_left())
 
-    def whole(self, what: str, *options: str, named: Mapping[str, bytes] = {}) -> Answer:
-        """A question about the whole circuit: the check of an answer, which has a time of its own."""
-        return self._solve(what, self.circuit, options, named, self._bounds.seconds)
+    def checking(self, what: str, *options: str, named: Mapping[str, bytes] = {}) -> Answer:
+        """A question that checks an answer of another program. It has a time of its own."""
+        return self._solve(what, options, named, self._bounds.seconds)
 
-    def _solve(self, what: str, circuit: bytes, options: Sequence[str], named: Mapping[str, bytes],
-               seconds: float) -> Answer:
+    def _solve(self, what: str, options: Sequence[str], named: Mapping[str, bytes], seconds: float) -> Answer:
         if seconds <= 0:
             self.note(f"{what}: {NO_TIME}")
             return Answer()
         try:
-            formula = self.aig("cnf", *options, files=[circuit], named=named)
+            formula = self.aig("cnf", *options, files=[self.circuit], named=named)
         except AigError as error:
             self.note(f"{what}: {error.part}: {error.reason}")
             return Answer()

@@ -9,13 +9,14 @@ from concurrent.futures import ThreadPoolExecutor
 from pathlib import Path
 from typing import Callable, List
 
+from .._program import program
 from ..errors import AigError
 from .bundle import MOST_BYTES, Bundle, Wrong
 from .design import properties, symbol
 from .made import made
 from .manifest import SCRIPT_OF_YOSYS, expect
 from .row import CIRCUIT, CONSTRAINTS, Row, parts_of
-from .tools import Stop, ask
+from .tools import Stop, ask, version
 
 Read = Callable[[str], bytes]
 
@@ -71,6 +72,15 @@ def check_names(rows: List[Row], names: List[str], is_of_yosys: bool) -> None:
         expect(row.of == of, f"{row.label} is of another row")
 
 
+def _of_another_version(row: Row, bundle: Bundle, stop: Stop) -> str:
+    """Why a row may be wrong now that was right once: a proof is one about a formula, and each version of `aig` may make
+    another formula."""
+    old, new = (said.split(" (")[0] for said in (bundle.manifest["versions"].get("aig", "aig"), version(program(), stop)))
+    if set(row.files) <= {"witness"} or old == new:
+        return ""
+    return f"; the bundle says that {old} made it, and the formulas of {new} may be others: `aig-verdicts run` it again"
+
+
 def recheck(path: Path, sums: bool = True, say: Callable[[Row], None] = lambda _: None, jobs: int = 0,
             stop: Stop = Stop(), most_bytes: int = MOST_BYTES) -> Bundle:
     """Checks a bundle, or raises a Wrong."""
@@ -85,7 +95,10 @@ def recheck(path: Path, sums: bool = True, say: Callable[[Row], None] = lambda _
         checks = [pool.submit(check_row, row, circuit, read, stop) for row in bundle.rows]
         try:
             for row, check in zip(bundle.rows, checks):
-                check.result()
+                try:
+                    check.result()
+                except Wrong as error:
+                    raise Wrong(f"{error}{_of_another_version(row, bundle, stop)}") from None
                 if row.by:
                     say(row)
         finally:

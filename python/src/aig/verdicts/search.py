@@ -1,6 +1,6 @@
 """How a verdict is found: one frame, then what ABC knows at once, then runs and inductions of growing length, then ABC
-with its whole limit. The search is on what the property reads; each answer is one that `aig` printed about the whole
-circuit."""
+with its whole limit. A formula has only what the property and the constraints read. Each answer is one that `aig`
+printed about the circuit, and its proofs are those of the search."""
 
 from __future__ import annotations
 
@@ -9,7 +9,6 @@ from pathlib import Path
 from typing import Dict, List, NamedTuple, Optional, Union
 
 from . import abc
-from .cone import Cone, whole
 from .decide import Found, Task
 from .questions import NO_TIME, Answer, Questions, why
 from .row import ALIVE
@@ -36,8 +35,9 @@ class Asserted(NamedTuple):
 
 
 class Proved(NamedTuple):
-    """ABC's answer that there is none: the invariant."""
+    """ABC's answer that there is none: the invariant of a circuit, which has the one property."""
 
+    one: bytes
     invariant: bytes
 
 
@@ -53,15 +53,16 @@ class Search:
     def __init__(self, task: Task, circuit: bytes, folder: Path, stop: Stop, found: Found):
         self.task, self.found = task, found
         self.ask = Questions(circuit, task.bounds, task.programs, folder, stop, found.notes)
-        self.whole = whole(circuit, stop)
         self.known = 0  # there is no run of so many frames
+        self.base = b""  # the proof of that
         self.gave_up = False  # the solver had no answer
-        if task.position >= 0:
-            self.cone = Cone(self.whole, task.position)
 
     @property
     def of_property(self) -> str:
         return f"--property={self.task.position}"
+
+    def bounded(self, frames: int) -> List[str]:
+        return [f"--frames={frames}", self.of_property]
 
     def answer(self, verdict: str, by: str, frames: int, **files: bytes) -> bool:
         self.found.verdict, self.found.by, self.found.frames, self.found.files = verdict, by, frames, files
@@ -84,13 +85,11 @@ class Search:
     def alive(self) -> None:
         """Whether some run keeps all constraints for so many frames."""
         frames = self.task.bounds.frames
-        if not self.whole.constraints:
+        if b"\nconstraints 0\n" in self.ask.aig("info", files=[self.ask.circuit]):
             self.answer(ALIVE, "", frames)
             return
         options = ["--alive", f"--frames={frames}"]
-        said = self.ask.part("constraints", Cone(self.whole, None).file, *options)
-        if said.proof is not None:
-            said = self.ask.whole("constraints", *options)
+        said = self.ask.solve("constraints", *options)
         if said.proof is not None:
             line, proofs = self.ask.refute(*options, proofs={"alive": said.proof})
             self.answer(line, "alive", frames, **proofs)
@@ -103,23 +102,29 @@ class Search:
             if self.gave_up:
                 return False
             if frames > self.known:
-                said = self.ask.part(f"run of {frames}", self.cone.file, f"--frames={frames}")
+                said = self.reach(frames)
                 if said.model is not None:
                     return self.run_of(frames, said.model)
                 self.gave_up = said.proof is None
                 if self.gave_up:
                     return False
-                self.known = frames
-            said = self.ask.part(f"induction of {frames}", self.cone.file, "--step", f"--frames={frames}")
+            said = self.ask.solve(f"induction of {frames}", "--step", *self.bounded(frames))
             if said.proof is not None:
-                return self.induction(frames)
+                return self.induction(frames, said.proof)
             self.gave_up = said.model is None
         return False
+
+    def reach(self, frames: int) -> Answer:
+        """The solver's answer whether there is a run of so many frames, which is more than is known."""
+        said = self.ask.solve(f"run of {frames}", *self.bounded(frames))
+        if said.proof is not None:
+            self.known, self.base = frames, said.proof
+        return said
 
     def run_of(self, frames: int, model: bytes) -> bool:
         """The shortest run, with a proof that there is no shorter one."""
         witness = self.shortest(self.witness(frames, model))
-        reduced = self.ask.aig("reduce", files=[self.ask.circuit, self.cone.widened(witness)])
+        reduced = self.ask.aig("reduce", files=[self.ask.circuit, witness])
         said = self.ask.aig("check", self.of_property, files=[self.ask.circuit, reduced], good=(0, 1))
         verdict = said.decode().strip()
         files = {"witness": reduced}
@@ -129,54 +134,42 @@ class Search:
         return self.answer(verdict, "run", length, **files)
 
     def witness(self, frames: int, model: bytes) -> bytes:
-        return self.ask.aig("witness", f"--frames={frames}", files=[self.cone.file], named={"--model": model})
+        return self.ask.aig("witness", *self.bounded(frames), files=[self.ask.circuit], named={"--model": model})
 
     def shortest(self, witness: bytes) -> bytes:
         """The shortest run that the solver finds, by halving."""
         while _length(witness) - 1 > self.known:
             length = _length(witness)
             middle = (self.known + length) // 2 if length - self.known > 2 else length - 1
-            said = self.ask.part(f"run of {middle}", self.cone.file, f"--frames={middle}")
+            said = self.reach(middle)
             if said.model is not None:
                 witness = self.witness(middle, said.model)
-            elif said.proof is not None:
-                self.known = middle
-            else:
+            elif said.proof is None:
                 break
         return witness
 
     def no_run_of(self, frames: int) -> Dict[str, bytes]:
-        """The proof that no run of so many frames is there, if it can be had."""
+        """The proof that no run of so many frames is there, if the search had it."""
         if self.known == frames:
-            options = [f"--frames={frames}", self.of_property]
-            proof = self.ask.whole(f"run of {frames}", *options).proof
-            if proof is not None:
-                return self.ask.refute(*options, proofs={"shorter": proof}).proofs
+            return self.ask.refute(*self.bounded(frames), proofs={"shorter": self.base}).proofs
         self.ask.note("a shorter run was not ruled out")
         return {}
 
-    def induction(self, frames: int) -> bool:
-        options = [f"--frames={frames}", self.of_property]
-        base = self.ask.whole(f"run of {frames}", *options).proof
+    def induction(self, frames: int, step: bytes) -> bool:
+        base: Optional[bytes] = self.base
+        if frames < self.known:
+            base = self.ask.solve(f"run of {frames}", *self.bounded(frames)).proof
         if base is None:
             return False
-        step = self.ask.whole(f"induction of {frames}", "--step", *options).proof
-        if step is None:
-            return False
-        verdict, proofs = self.ask.refute(*options, proofs={"base": base, "step": step})
+        verdict, proofs = self.ask.refute(*self.bounded(frames), proofs={"base": base, "step": step})
         return self.answer(verdict, "induction", frames, **proofs)
 
     def bound(self) -> bool:
-        """That no run of so many frames is there; of fewer frames, if that takes too long."""
-        frames = self.known
-        while frames:
-            options = [f"--frames={frames}", self.of_property]
-            proof = self.ask.whole(f"run of {frames}", *options).proof
-            if proof is not None:
-                verdict, proofs = self.ask.refute(*options, proofs={"base": proof})
-                return self.answer(verdict, "bound", frames, **proofs)
-            frames //= 2
-        return False
+        """That no run of so many frames is there."""
+        if not self.known:
+            return False
+        verdict, proofs = self.ask.refute(*self.bounded(self.known), proofs={"base": self.base})
+        return self.answer(verdict, "bound", self.known, **proofs)
 
     # -- ABC
 
@@ -187,7 +180,7 @@ class Search:
             return False
         said = self.pdr(program, seconds)
         if isinstance(said, Proved):
-            return self.certificate(said.invariant)
+            return self.certificate(said)
         if isinstance(said, Asserted):
             return self.asserted(said.frames)
         return None if said.more_time else False
@@ -199,15 +192,18 @@ class Search:
         if given < 1:
             self.ask.note(f"invariant: {NO_TIME}")
             return Unknown(False)
-        one = self.ask.aig("toaig", "--to", "aig", files=[abc.folded(self.cone.file)])
+        one = self.ask.aig("select", "--to", "aag", self.of_property, files=[self.ask.circuit])
+        folded = self.ask.aig("toaig", "--to", "aig", files=[abc.folded(one)])
         conflicts = f"-C {bounds.conflicts} " if bounds.conflicts else ""
-        script = f"read_aiger one.aig; logic; undc; strash; pdr -T {int(given)} {conflicts}-d -I inv.pla"
-        ran, made = self.ask.tool([program, "-q", script], given, {"one.aig": one}, "inv.pla")
+        # It drops what the property and the constraints do not read, and merges no latches.
+        read = "read_aiger one.aig; logic; undc; strash; scleanup -c -e"
+        script = f"{read}; pdr -T {int(given)} {conflicts}-d -I inv.pla"
+        ran, made = self.ask.tool([program, "-q", script], given, {"one.aig": folded}, "inv.pla")
         asserted = re.search(rb"was asserted in frame (\d{1,5})\b", ran.out)
         if asserted:
             return Asserted(int(asserted[1]) + 1)
         if b"Property proved" in ran.out and made is not None:
-            return Proved(made)
+            return Proved(one, made)
         if seconds is not None and ran.status == 0 and given < whole_limit and b"onflict" not in ran.out:
             return Unknown(True)
         self.ask.note(f"invariant: {why(program, ran, round(given))}")
@@ -217,18 +213,16 @@ class Search:
         """ABC knows a run: the solver finds it too."""
         said = Answer()
         if self.known < frames <= LONGEST:
-            said = self.ask.part(f"run of {frames}", self.cone.file, f"--frames={frames}")
+            said = self.reach(frames)
         if said.model is not None:
             return self.run_of(frames, said.model)
-        if said.proof is not None:
-            self.known = max(self.known, frames)
         self.ask.note(f"ABC says that there is a run of {frames} frames")
         return False
 
-    def certificate(self, invariant: bytes) -> bool:
-        made = abc.certificate(self.cone.file, invariant, self.cone.latches)
+    def certificate(self, proved: Proved) -> bool:
+        made = abc.certificate(*proved)
         named = {"--certificate": made}
-        said = self.ask.whole("certificate", self.of_property, named=named)
+        said = self.ask.checking("certificate", self.of_property, named=named)
         if said.proof is not None:
             verdict, proofs = self.ask.refute(self.of_property, proofs={"proof": said.proof}, named=named)
             return self.answer(verdict, "certificate", 0, certificate=made, **proofs)
