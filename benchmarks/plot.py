@@ -56,8 +56,9 @@ def apart(places, least, lowest):
     return found
 
 
-def drawn(series, across, up):
-    """The picture of these series: names with lists of points, each a count and a time in seconds."""
+def drawn(series, across, up, words=COUNTS):
+    """The picture of these series: names with lists of points, each a count and a time in seconds. `words` are those at
+    the powers of ten of the counts."""
     points = [point for each in series.values() for point in each]
     counts = Axis([count for count, _ in points], LEFT, WIDTH - RIGHT)
     times = Axis([time for _, time in points], HEIGHT - BOTTOM, TOP)
@@ -68,12 +69,12 @@ def drawn(series, across, up):
         parts += [line(LEFT, y, WIDTH - RIGHT, y, "#dddddd"), text(LEFT - 6, y + 4, SECONDS[power], "end")]
     for power in counts.powers():
         x = counts.place(10.0 ** power)
-        parts += [line(x, TOP, x, HEIGHT - BOTTOM, "#dddddd"), text(x, HEIGHT - BOTTOM + 18, COUNTS[power], "middle")]
+        parts += [line(x, TOP, x, HEIGHT - BOTTOM, "#dddddd"), text(x, HEIGHT - BOTTOM + 18, words[power], "middle")]
     parts += [text((LEFT + WIDTH - RIGHT) / 2, HEIGHT - 10, across, "middle"), text(LEFT, TOP - 6, up)]
     labels = apart({name: times.place(each[-1][1]) for name, each in series.items()}, 15, HEIGHT - BOTTOM - 4)
     for at, (name, each) in enumerate(series.items()):
         colour = COLOURS[at % len(COLOURS)]
-        dashes = ' stroke-dasharray="5 4"' if at >= 4 else ""
+        dashes = ' stroke-dasharray="5 4"' if at >= (len(series) + 1) // 2 else ""
         places = [(counts.place(count), times.place(time)) for count, time in each]
         parts += curve(places, colour, dashes)
         parts.append(text(WIDTH - RIGHT + 10, labels[name] + 4, name, colour=colour))

@@ -32,10 +32,11 @@ PACKAGES = ("python/tests/run_package.py", "python/tests/run_pages.py", "python/
 # this compares with the C++ program of the benchmarks on broken files
 COMPARED = ("benchmarks/measure.py", "compare", "--count", "40")
 # these read the sources and pages alone
-READERS = ("tools/definitions.py", "tools/contracts.py", "tools/edges.py", "tools/unused.py", "tools/pages.py")
+READERS = ("tools/definitions.py", "tools/contracts.py", "tools/edges.py", "tools/unused.py", "tools/pages.py",
+           "tools/pictures.py")
 CRATES = ("aig_tests", "aig_command_tests")
 COUNTS = re.compile(r"(\d+) passed[,;] (\d+) failed")
-SHOWN = re.compile(r"(?m)^.*(?: passed[,;] |left out|to believe|as the sources| compared, ).*\n")
+SHOWN = re.compile(r"(?m)^.*(?: passed[,;] |left out|to believe|as the sources| compared, | pictures ).*\n")
 
 
 def ran(name, words, folder, seconds):

@@ -26,7 +26,7 @@ import gate  # noqa: E402
 import make_wheel  # noqa: E402
 import pack  # noqa: E402
 
-DOCUMENTS = ("LICENSE-APACHE", "LICENSE-MIT", "docs/BEHAVIOUR.md", "docs/FORMATS.md", "docs/PROVED.md", "docs/wave.png")
+DOCUMENTS = ("LICENSE-APACHE", "LICENSE-MIT", "docs/BEHAVIOUR.md", "docs/FORMATS.md", "docs/PROVED.md", "docs/wave.svg")
 PROVENANCE = "This is a test. No gate has passed.\n"
 SECONDS = 1_764_000_000
 STATE = {"commit": "a" * 40, "clean": "yes", "sources": "b" * 64}

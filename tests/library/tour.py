@@ -1,13 +1,18 @@
-"""Commands that a document shows, and what it shows below each: those of README.md and of docs/FLOW.md."""
+"""Commands that a document shows, and what it shows below each: those of README.md and of docs/FLOW.md. A command that
+needs a program which is not there is left out."""
 
 import os
 import re
+import shlex
 import shutil
 import subprocess
+import sys
 
 from library import supervised
-from library.runs import REPOSITORY, contents
+from library.runs import REPOSITORY, contents, write
 from library.supervised import SCRIPT_SECONDS
+
+SOURCE = f"{REPOSITORY}/python/src"
 
 
 def steps(document="README.md"):
@@ -19,13 +24,41 @@ def steps(document="README.md"):
 
 
 def take(program, examples, tally, prints=False):
-    """Runs the commands of README.md in a new folder `tour`, with these examples and with the program on the path."""
+    """Runs the commands of README.md in a new folder `tour`, with these examples and with the program on the path. A folder
+    that `aig-verdicts run` makes is then checked again, from another folder and by the name that it has there."""
     room(program, examples, "tour")
+    verdicts_on_path(program)
     for command, shown in steps():
+        if missing(command):
+            print(f"tour: left out, as there is no {missing(command)}: {command}", flush=True)
+            continue
         said = typed("tour", command)
         if prints:
             print(f"$ {command}\n{said}", end="", flush=True)
         tally.compare(f"tour: {command}", said, shown)
+    os.mkdir("elsewhere")
+    for made in [name for name in os.listdir("tour") if name.endswith(".verdicts")]:
+        os.rename(f"tour/{made}", "elsewhere/bundle")
+        again = typed("elsewhere", "aig-verdicts recheck bundle")
+        tally.check("tour: the folder that it made", again.endswith("; all checked by aig\n"), again)
+
+
+def missing(command):
+    """The first program that a search needs and that is not there."""
+    needed = ("yosys", "cadical") if command.startswith("aig-verdicts run ") else ()
+    return next((name for name in needed if not shutil.which(name)), "")
+
+
+def verdicts_on_path(program):
+    """Puts `aig-verdicts` beside the program: the one that was installed with it, else that of the sources."""
+    installed = f"{os.path.dirname(program.path)}/aig-verdicts"
+    if os.path.exists(installed):
+        os.symlink(os.path.abspath(installed), "path/aig-verdicts")
+        return
+    settings = f"AIG_PROGRAM={shlex.quote(program.path)} PYTHONPATH={shlex.quote(SOURCE)}"
+    # Python writes each line as it comes, as for a terminal.
+    write("path/aig-verdicts", f'#!/bin/sh\n{settings} exec {shlex.quote(sys.executable)} -u -m aig.verdicts "$@"\n')
+    os.chmod("path/aig-verdicts", 0o755)
 
 
 def room(program, examples, folder):

@@ -5,9 +5,8 @@ import os
 
 from hints.programs import built
 from library.runs import EXAMPLES, REPOSITORY, contents
-from library.tour import room, steps, typed
+from library.tour import room, steps, typed, verdicts_on_path
 from tools import viewer
-from tools.table import on_path
 
 FIRST = "aig-verdicts run examples/queue.v --out queue"
 
@@ -20,7 +19,7 @@ def flow(program, tally, _):
 
 def typed_page(program, tally):
     room(program, EXAMPLES, "page")
-    on_path(program)
+    verdicts_on_path(program)
     os.symlink(built("drat2lrat"), "path/drat2lrat")
     for command, shown in steps("docs/FLOW.md"):
         tally.compare(f"flow: {command}", typed("page", command), shown)

@@ -2,16 +2,13 @@
 
 import os
 import re
-import shlex
 import subprocess
 import sys
 from typing import List, NamedTuple
 
 from library import supervised
-from library.runs import REPOSITORY, write
 from library.supervised import SCRIPT_SECONDS
-
-SOURCE = f"{REPOSITORY}/python/src"
+from library.tour import SOURCE
 
 
 class Row(NamedTuple):
@@ -60,9 +57,3 @@ def row_of(line):
     files = rest[0].split(" ") if rest else []
     return Row(cells[0], name, words, by, files)
 
-
-def on_path(program):
-    """Puts `aig-verdicts` into the folder `path`. Python writes each line as it comes, as for a terminal."""
-    settings = f"AIG_PROGRAM={shlex.quote(program.path)} PYTHONPATH={shlex.quote(SOURCE)}"
-    write("path/aig-verdicts", f"#!/bin/sh\n{settings} exec {shlex.quote(sys.executable)} -u -m aig.verdicts \"$@\"\n")
-    os.chmod("path/aig-verdicts", 0o755)
