@@ -6,7 +6,8 @@
 #   make prove      the gate: proves every function, runs the tests, tries the planted bugs
 #   make bench      measures the program that the gate proved, else build/aig, beside a C++ program: ten minutes
 #   make lib        builds the library for C without its proofs, as build/lib/libaig.a and libaig.so
-#   make install    installs the program and the library that the gate proved, else those of build with a warning
+#   make install    installs the program and the library that the gate proved, else those of build with a warning; and
+#                   aig-verdicts
 #   make wheel      writes the wheel of the Python package with that program into build
 #   make dist       packs a release of a commit whose gate has passed, into build/dist
 #   make clean      removes build/aig, build/aig_callers, build/lib and build/dist
@@ -60,6 +61,10 @@ bench: $(PROGRAM)
 install: $(PROGRAM) $(addsuffix /libaig.a,$(LIBRARY))
 	@[ "$(PROGRAM)" != build/aig ] || echo "make install: warning: nothing of this program is proved" >&2
 	install -D "$(PROGRAM)" "$(ROOT)/bin/aig"
+	install -D tools/aig-verdicts "$(ROOT)/bin/aig-verdicts"
+	for file in $$(cd python/src && find aig -name '*.py'); do \
+	    install -D -m 644 "python/src/$$file" "$(ROOT)/share/aig/python/$$file"; \
+	done
 	for page in man/*.[15]; do \
 	    install -D -m 644 "$$page" "$(ROOT)/share/man/man$${page##*.}/$${page#man/}"; \
 	done

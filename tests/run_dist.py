@@ -26,6 +26,7 @@ import gate  # noqa: E402
 import make_wheel  # noqa: E402
 import pack  # noqa: E402
 
+PYTHON = f"{REPOSITORY}/python/src"
 DOCUMENTS = ("LICENSE-APACHE", "LICENSE-MIT", "docs/BEHAVIOUR.md", "docs/FORMATS.md", "docs/PROVED.md", "docs/wave.svg")
 PROVENANCE = "This is a test. No gate has passed.\n"
 SECONDS = 1_764_000_000
@@ -72,6 +73,20 @@ def look_for_library(library, tally, way, root):
     tally.compare(f"{way}: a program in C", (done.returncode, done.stdout), (0, "confirmed\n"))
 
 
+def look_for_verdicts(program, tally, way, root):
+    """Checks the installed command `aig-verdicts`: it has all of its Python, runs the program beside it, and leaves
+    nothing behind. The tour has re-checked a bundle with it."""
+    package = f"{root}/share/aig/python/aig"
+    sources = {os.path.relpath(it, f"{PYTHON}/aig"): contents(it) for it in glob.glob(f"{PYTHON}/aig/**/*.py", recursive=True)}
+    found = {os.path.relpath(it, package): contents(it) for it in glob.glob(f"{package}/**/*", recursive=True)
+             if os.path.isfile(it)}
+    tally.check(f"{way}: the Python of aig-verdicts", found == sources, sorted(found.keys() ^ sources.keys()))
+    said = supervised.run([os.path.abspath(f"{root}/bin/aig-verdicts"), "--version"], env={"PATH": os.environ["PATH"]},
+                          cwd="/", stdin=DEVNULL, capture_output=True, timeout=runs.SECONDS, check=False)
+    version = f"aig {pack.version_of(program.path)}".encode()
+    tally.check(f"{way}: aig-verdicts", said.returncode == 0 and said.stdout.startswith(version), said)
+
+
 def look(program, tally, way, root, functions="zsh/site-functions"):
     """Checks an installed copy. `root` is the folder that has bin/ and share/."""
     share = f"{root}/share"
@@ -97,6 +112,7 @@ def look(program, tally, way, root, functions="zsh/site-functions"):
     modes = {oct(os.stat(it).st_mode & 0o7777) for it in (root, f"{root}/bin/aig", documents)}
     tally.compare(f"{way}: who may read it", modes, {"0o755"})
     take(runs.Program(f"{root}/bin/aig", True), f"{documents}/examples", tally)
+    look_for_verdicts(program, tally, way, root)
     look_for_library(made(program).library, tally, way, os.path.abspath(root))
 
 
@@ -131,9 +147,10 @@ def package(program, tally, _):
     need("make", "bash", "objdump", "dpkg-deb")
     name = release(program, "made")[1]
     version, libc = pack.version_of(program.path), pack.libc_of(program.path)
-    fields = supervised.run(["dpkg-deb", "-f", f"made/{name}", "Package", "Version", "Architecture", "Depends"],
-                            capture_output=True, text=True, check=True).stdout
-    wanted = f"Package: aig\nVersion: {version}\nArchitecture: amd64\nDepends: libc6 (>= {libc})\n"
+    names = ("Package", "Version", "Architecture", "Depends", "Recommends", "Suggests")
+    fields = supervised.run(["dpkg-deb", "-f", f"made/{name}", *names], capture_output=True, text=True, check=True).stdout
+    wanted = (f"Package: aig\nVersion: {version}\nArchitecture: amd64\nDepends: libc6 (>= {libc})\n"
+              "Recommends: python3 (>= 3.9)\nSuggests: yosys, cadical, berkeley-abc\n")
     tally.compare("package: its fields", fields, wanted)
     supervised.run(["dpkg-deb", "-x", f"made/{name}", "root"], check=True)
     look(program, tally, "package", "root/usr", "zsh/vendor-completions")

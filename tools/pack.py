@@ -7,12 +7,15 @@ proved. The same commit, program and library give the same files, byte for byte.
 
 import collections
 import gzip
+import itertools
 import os
+import pathlib
 import re
 import shutil
 import subprocess
 import sys
 import tempfile
+import textwrap
 
 import gate
 
@@ -31,11 +34,14 @@ Architecture: amd64
 Maintainer: Vollirka maintainers <maintainers@users.noreply.vollirka.example>
 Installed-Size: {size}
 Depends: libc6 (>= {libc})
+Recommends: python3 (>= 3.9)
+Suggests: yosys, cadical, berkeley-abc
 Description: verified AIGER toolkit
  Converts, simulates, edits, unrolls and checks and-inverter graphs in the
  AIGER formats, and writes their runs as waves. It is for people who run
  hardware model checkers and have to trust a verdict. The package has the
- program and a library for C.
+ program, a library for C, and aig-verdicts, which finds the verdicts on the
+ assertions of a Verilog design with Yosys, cadical and ABC.
 """
 
 COPYRIGHT = """\
@@ -132,9 +138,31 @@ def pack(made, provenance, seconds, folder):
 
 
 def provenance_of(record):
-    """Returns what PROVENANCE says of the program and the library that the gate of this record proved."""
-    lines = "".join(f"{name:10}{text}\n" for name, text in record.items() if name != "clean")
-    return f"The gate (.ci/run) built and proved program and library at this commit, and passed its tests.\n\n{lines}"
+    """Returns what PROVENANCE says: what the gate of this record built, proved, tested and refused, and with what."""
+    def lines(names):
+        return "".join(f"{name:10}{record[name]}\n" for name in names if name in record)
+
+    bugs = planted()
+    listed = "".join(filled(f"{name} ({len(of)}): {', '.join(of)}") for name, of in bugs.items())
+    return (f"The gate (.ci/run) built and proved program and library at this commit, and passed its tests.\n\n"
+            f"{lines(('commit', 'toolchain', 'seconds'))}\n"
+            f"The last lines of its proofs, of the library for C, of its tests, and of its planted bugs:\n"
+            f"{lines(('proofs', 'library', 'tests', 'planted'))}\n"
+            f"SHA-256 of the sources that are proved, and of what was made of them:\n"
+            f"{lines(('sources', *gate.MADE))}\n"
+            f"The {sum(map(len, bugs.values()))} planted bugs, each refused by this gate, or by an earlier one on the "
+            f"same files (tools/refused.txt):\n{listed}")
+
+
+def filled(entry):
+    """Returns an entry of a list in lines."""
+    return textwrap.fill(entry, 120, subsequent_indent="  ", break_long_words=False, break_on_hyphens=False) + "\n"
+
+
+def planted():
+    """Returns the names of the gate's planted bugs by the names of their crates."""
+    paths = sorted(pathlib.Path(gate.ROOT, "crates").glob("*/planted/*.edit"))
+    return {name: [path.stem for path in of] for name, of in itertools.groupby(paths, lambda it: it.parts[-3])}
 
 
 def main():
