@@ -137,15 +137,16 @@ class Search:
         return self.ask.aig("witness", *self.bounded(frames), files=[self.ask.circuit], named={"--model": model})
 
     def shortest(self, witness: bytes) -> bytes:
-        """The shortest run that the solver finds, by halving."""
-        while _length(witness) - 1 > self.known:
-            length = _length(witness)
-            middle = (self.known + length) // 2 if length - self.known > 2 else length - 1
-            said = self.reach(middle)
+        """The shortest run that the solver finds: most often it is the one that is known, so one frame less comes first;
+        then by halving."""
+        tried = _length(witness) - 1
+        while self.known < _length(witness) - 1:
+            said = self.reach(tried)
             if said.model is not None:
-                witness = self.witness(middle, said.model)
+                witness = self.witness(tried, said.model)
             elif said.proof is None:
                 break
+            tried = max(self.known + 1, (self.known + _length(witness)) // 2)
         return witness
 
     def no_run_of(self, frames: int) -> Dict[str, bytes]:
