@@ -9,6 +9,7 @@ pub mod InputMapLaw
 pub mod InputMapLines
 pub mod NumberLemmas
 pub mod NumberedGates
+pub mod ReadFrames
 pub mod SymbolLemmas
 pub mod UnrolledCircuit
 pub mod UnrolledReady

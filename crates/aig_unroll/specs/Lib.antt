@@ -3,5 +3,6 @@ pub mod FrameLiteral
 pub mod InputMap
 pub mod Unrollable
 pub mod Unrolled
+pub mod UnrolledPart
 pub mod UnrolledValues
 pub mod state

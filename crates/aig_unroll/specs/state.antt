@@ -2,3 +2,4 @@
 pub mod FrameTable
 pub mod MapLines
 pub mod Numbers
+pub mod ReadFrames
