@@ -9,6 +9,9 @@ pub mod DimacsLines
 pub mod DimacsReading
 pub mod FormulaText
 pub mod GoalLemmas
+pub mod ReadGates
+pub mod ReadParts
 pub mod SignLemmas
 pub mod StartLemmas
 pub mod TermLemmas
+pub mod Thinned
