@@ -17,16 +17,18 @@ from large.limits import limits
 from large.long_run import long_run
 from large.own_names import own_names
 from large.reductions import reductions
+from large.unread_gates import unread_gates
 from library import runs
 
 PARTS = {"block_edges": block_edges, "files": large_files, "long_run": long_run, "names": crowded_names, "hubs": hubs,
-         "limits": limits, "own_names": own_names, "reductions": reductions,
-         "explanations": explanations, "first_literals": first_literals, "deep": deep, "claims": claims,
+         "limits": limits, "own_names": own_names, "reductions": reductions, "explanations": explanations,
+         "first_literals": first_literals, "unread_gates": unread_gates, "deep": deep, "claims": claims,
          "proofs": hostile_proofs}
 
 
 def options(parser):
     parser.add_argument("--names", type=int, default=NAMES, help="how many names the part `names` has")
+    parser.add_argument("--unread", type=int, default=100_000, help="how many gates are not read in `unread_gates`")
     parser.add_argument("--readers", type=int, default=200_000, help="how many gates read the net of the part `hubs`")
 
 
