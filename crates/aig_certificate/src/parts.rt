@@ -72,12 +72,23 @@ fn push_chain(
 }
 
 /// What the strengthened circuit is made of.
-#[derive(Drop)]
 pub(crate) struct Sources<'a> {
     pub model: &'a Circuit,
     pub certificate: &'a Circuit,
     pub shared: SharedEntries,
     pub translation: Translation,
+}
+
+// By hand: a value then ends in one call, which is one step of a proof (docs/PROOFS.md, Habits).
+impl Drop for Sources<'_> {
+    fn drop(self) {
+        let Sources {
+            model: _,
+            certificate: _,
+            shared: _,
+            translation: _,
+        } = self;
+    }
 }
 
 // The entries that stand for nothing.

@@ -14,10 +14,19 @@ use aig_base::{Circuit, Kind, List, Lit};
 use std::alloc::Global;
 
 /// What each input and each latch of a certificate stands for, or none where it is the certificate's own.
-#[derive(Drop)]
 pub(crate) struct SharedEntries {
     pub inputs: List<Option<Lit>>,
     pub latches: List<Option<Lit>>,
+}
+
+// By hand: a value then ends in one call, which is one step of a proof (docs/PROOFS.md, Habits).
+impl Drop for SharedEntries {
+    fn drop(self) {
+        let SharedEntries {
+            inputs: _,
+            latches: _,
+        } = self;
+    }
 }
 
 // The literal of the circuit's input or latch at a position.

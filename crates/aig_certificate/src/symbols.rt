@@ -107,13 +107,25 @@ pub(crate) fn properties(certificate: &Circuit) -> &[Lit]
 }
 
 /// A certificate's entries, with the new positions of its own inputs and latches.
-#[derive(Drop)]
 struct Names<'a> {
     model: &'a Circuit,
     certificate: &'a Circuit,
     shared: &'a SharedEntries,
     inputs: Vec<u32>,
     latches: Vec<u32>,
+}
+
+// By hand: a value then ends in one call, which is one step of a proof (docs/PROOFS.md, Habits).
+impl Drop for Names<'_> {
+    fn drop(self) {
+        let Names {
+            model: _,
+            certificate: _,
+            shared: _,
+            inputs: _,
+            latches: _,
+        } = self;
+    }
 }
 
 impl<'a> Names<'a> {

@@ -8,7 +8,7 @@ use std::io::{Error, ErrorKind};
 pub const OUTPUT: Exit = Exit::Run(RunFault::Output);
 
 /// Why a file is not written.
-#[derive(Clone, Copy, PartialEq, Eq, Debug, Drop)]
+#[derive(Clone, Copy, Drop)]
 pub enum Unwritten {
     /// No memory was found.
     Memory,

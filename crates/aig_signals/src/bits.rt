@@ -15,7 +15,7 @@ use aig_names::{bit_of, first_word, symbol_at};
 use std::alloc::Global;
 
 /// A word X[n] of an entry: n, and the literal of the entry.
-#[derive(Clone, Copy, PartialEq, Eq, Debug, Drop)]
+#[derive(Clone, Copy, Drop)]
 pub(crate) struct WordBit {
     pub(crate) index: u64,
     pub(crate) literal: Lit,

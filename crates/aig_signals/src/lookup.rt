@@ -20,7 +20,7 @@ use aig_names::push_position;
 use std::alloc::Global;
 
 /// What gives an entry a name.
-#[derive(Clone, Copy, PartialEq, Eq, Debug, Drop)]
+#[derive(Clone, Copy, Drop)]
 enum Rule {
     /// The first word of its symbol; without one, its letter and position.
     FirstName,

@@ -16,12 +16,22 @@ use std::alloc::Global;
 use std::marker::Model;
 
 /// Entries of a section that a line names, with their values.
-#[derive(Drop)]
 pub struct SectionNaming {
     signals: Vec<Signal>,
     values: Vec<Option<Tern>>,
     /// The numbers of the signals of which a bit is named, in no order.
     named: Vec<usize>,
+}
+
+// By hand: a value then ends in one call, which is one step of a proof (docs/PROOFS.md, Habits).
+impl Drop for SectionNaming {
+    fn drop(self) {
+        let SectionNaming {
+            signals: _,
+            values: _,
+            named: _,
+        } = self;
+    }
 }
 
 impl Model for SectionNaming {

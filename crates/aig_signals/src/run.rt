@@ -10,7 +10,7 @@ use std::alloc::Global;
 
 /// Neighbours of a section that are one signal: the bits of a vector, or an entry alone. They are the entries from the
 /// first up to the end, which is none of them.
-#[derive(Clone, Copy, PartialEq, Eq, Debug, Drop)]
+#[derive(Clone, Copy, Drop)]
 pub struct Run {
     pub first: u32,
     pub end: u32,

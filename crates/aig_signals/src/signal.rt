@@ -22,12 +22,23 @@ use itoa::Buffer;
 use std::alloc::Global;
 
 /// A vector, or an entry that is in none: its entries in its section are those from the first up to the end.
-#[derive(Debug, Drop)]
 pub struct Signal {
     pub kind: Kind,
     pub first: u32,
     pub end: u32,
     pub name: Bytes,
+}
+
+// By hand: a value then ends in one call, which is one step of a proof (docs/PROOFS.md, Habits).
+impl Drop for Signal {
+    fn drop(self) {
+        let Signal {
+            kind: _,
+            first: _,
+            end: _,
+            name: _,
+        } = self;
+    }
 }
 
 /// Notes a vector by its name: each name is kept with whether it is that of only one.

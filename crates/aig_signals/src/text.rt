@@ -15,10 +15,19 @@ use itoa::Buffer;
 use std::alloc::Global;
 
 /// The inputs and latches that a line names, with their values.
-#[derive(Drop)]
 pub struct Naming {
     pub inputs: SectionNaming,
     pub latches: SectionNaming,
+}
+
+// By hand: a value then ends in one call, which is one step of a proof (docs/PROOFS.md, Habits).
+impl Drop for Naming {
+    fn drop(self) {
+        let Naming {
+            inputs: _,
+            latches: _,
+        } = self;
+    }
 }
 
 /// Adds a number.
@@ -31,7 +40,7 @@ fn push_number(text: &mut Vec<u8>, number: u32) -> Result<(), Memory>
 }
 
 /// Where latches that the last lines name have their values from.
-#[derive(Clone, Copy, PartialEq, Eq, Debug, Drop)]
+#[derive(Clone, Copy, PartialEq, Eq, Drop)]
 pub enum Origin {
     /// Nothing explains them: the lines end at this frame.
     NotExplained(u32),
