@@ -16,14 +16,14 @@ use crate::reader::token_fault::TokenFault;
 use aig_base::Kind;
 
 /// The two formats (AIGER 1.0, ASCII format and binary format).
-#[derive(Clone, Copy, PartialEq, Eq, Debug)]
+#[derive(Clone, Copy, PartialEq, Eq)]
 pub enum Format {
     Ascii,
     Binary,
 }
 
 /// The counts of a header line (AIGER 1.0, header; AIGER 1.9 adds the last four).
-#[derive(Clone, Copy, PartialEq, Eq, Debug)]
+#[derive(Clone, Copy)]
 pub struct Counts {
     pub max_var: u32,
     pub inputs: u32,
@@ -37,7 +37,7 @@ pub struct Counts {
 }
 
 /// The counts that AIGER 1.9 adds.
-#[derive(Clone, Copy, PartialEq, Eq, Debug)]
+#[derive(Clone, Copy)]
 pub(crate) struct Tail {
     pub(crate) bad: u32,
     pub(crate) constraints: u32,

@@ -14,7 +14,7 @@ use aig_base::{Fault, List, Lit};
 use std::alloc::Global;
 
 /// What the circuit answers and what it is to keep (AIGER 1.9, header).
-#[derive(Drop, Debug)]
+#[derive(Drop)]
 pub struct Properties {
     pub outputs: List<Lit>,
     pub bad: List<Lit>,

@@ -20,7 +20,7 @@ use aig_base::{Bytes, Fault, Kind, List, SymbolList, Symbols, line_length};
 use std::alloc::Global;
 
 /// What stands where a symbol line may begin.
-#[derive(Clone, Copy, PartialEq, Eq, Debug)]
+#[derive(Clone, Copy)]
 pub enum Next {
     End,
     Comment,
@@ -28,7 +28,7 @@ pub enum Next {
 }
 
 /// All that follows the gates.
-#[derive(Drop, Debug)]
+#[derive(Drop)]
 pub struct Names {
     pub symbols: Symbols,
     pub comment: Option<Bytes>,

@@ -4,7 +4,7 @@ ghost use Rattle.std.specs.Prelude.{◌≡◌};
 use aig_base::Fault;
 
 /// Why a token is refused, or why there is none. What reads tokens takes no memory, so no fault is for the want of it.
-#[derive(Clone, Copy, PartialEq, Eq, Debug)]
+#[derive(Clone, Copy)]
 pub enum TokenFault {
     /// The format does not want it here; `at` counts bytes from 0.
     Text { at: u64 },
