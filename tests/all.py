@@ -33,7 +33,7 @@ PACKAGES = ("python/tests/run_package.py", "python/tests/run_pages.py", "python/
 COMPARED = ("benchmarks/measure.py", "compare", "--count", "40")
 # these read the sources and pages alone
 READERS = ("tools/definitions.py", "tools/contracts.py", "tools/edges.py", "tools/unused.py", "tools/pages.py",
-           "tools/pictures.py")
+           "tools/pictures.py", "tools/version.py")
 CRATES = ("aig_tests", "aig_command_tests")
 COUNTS = re.compile(r"(\d+) passed[,;] (\d+) failed")
 SHOWN = re.compile(r"(?m)^.*(?: passed[,;] |left out|to believe|as the sources| compared, | pictures ).*\n")
