@@ -16,13 +16,15 @@ from large.hubs import hubs
 from large.limits import limits
 from large.long_run import long_run
 from large.own_names import own_names
+from large.prompts import prompts
 from large.reductions import reductions
 from large.unread_gates import unread_gates
 from library import runs
 
 PARTS = {"block_edges": block_edges, "files": large_files, "long_run": long_run, "names": crowded_names, "hubs": hubs,
-         "limits": limits, "own_names": own_names, "reductions": reductions, "explanations": explanations,
-         "first_literals": first_literals, "unread_gates": unread_gates, "deep": deep, "claims": claims,
+         "limits": limits, "own_names": own_names, "prompts": prompts, "reductions": reductions,
+         "explanations": explanations, "first_literals": first_literals, "unread_gates": unread_gates, "deep": deep,
+         "claims": claims,
          "proofs": hostile_proofs}
 
 
