@@ -205,7 +205,8 @@ class Search:
             return Asserted(int(asserted[1]) + 1)
         if b"Property proved" in ran.out and made is not None:
             return Proved(one, made)
-        if seconds is not None and ran.status == 0 and given < whole_limit and b"onflict" not in ran.out:
+        had_no_time = ran.status is None or ran.status == 0 and b"onflict" not in ran.out
+        if seconds is not None and had_no_time and given < whole_limit:
             return Unknown(True)
         self.ask.note(f"invariant: {why(program, ran, round(given))}")
         return Unknown(False)
