@@ -25,7 +25,7 @@ PLACES = {
     "README.md": (rf"aig-{NUMBER}-(?:py3|x86)",),
     "python/README.md": (rf"aig-{NUMBER}-py3",),
     "docs/CALLING.md": (rf"aig-{NUMBER}-py3",),
-    "docs/FLOW.md": (rf"aig-{NUMBER}-py3",),
+    "docs/FLOW.md": (rf"aig-{NUMBER}-py3", rf"aig_{NUMBER}_amd64"),
 }
 DATED = {"tests/library/manual.py": r'DATE = "([\d-]+)"'}
 CHANGES = "CHANGELOG.md"
