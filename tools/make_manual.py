@@ -1,5 +1,5 @@
 #!/usr/bin/env python3
-"""Writes the manual pages man/aig.1 and man/aig-formats.5 from what the program's help says, from docs/BEHAVIOUR.md and
+"""Writes the manual pages in man/ from what the help of the program and of aig-verdicts says, from docs/BEHAVIOUR.md and
 from docs/FORMATS.md. usage: tools/make_manual.py PROGRAM"""
 
 import os

@@ -1,8 +1,10 @@
-"""The two manual pages, made from what the program's help says, from docs/BEHAVIOUR.md and from docs/FORMATS.md."""
+"""The manual pages, made from what the program's help says, from docs/BEHAVIOUR.md and from docs/FORMATS.md, and from the
+help of aig-verdicts."""
 
 import os
 import re
 import subprocess
+import sys
 
 from library import supervised
 from library.helptext import commands, examples, grouped
@@ -31,7 +33,8 @@ def asker(program):
 def pages(ask):
     """The texts of the manual pages by their names."""
     version = ask("--version").split(" ")[1].strip()
-    return {"aig.1": aig_page(ask, version), "aig-formats.5": formats_page(version)}
+    return {"aig.1": aig_page(ask, version), "aig-formats.5": formats_page(version),
+            "aig-verdicts.1": verdicts_page(version)}
 
 
 def document(name):
@@ -53,6 +56,34 @@ def formats_page(version):
     return finished(head("aig-formats", 5, version, "File Formats", "files that aig reads and writes")
                     + ".SH DESCRIPTION\n" + markdown.page(intro) + markdown.page(rest)
                     + ".SH SEE ALSO\n\\fBaig\\fP(1)\n")
+
+
+def verdicts_page(version):
+    """aig-verdicts(1): the help of its commands."""
+    sys.path.insert(0, f"{REPOSITORY}/python/src")
+    from aig.verdicts.arguments import STATUSES, parser
+
+    top = parser()
+    each = next(it.choices for it in top._actions if it.choices)
+    text = head("aig-verdicts", 1, version, "User Commands", "from Verilog to checked verdicts on its assertions")
+    text += (".SH SYNOPSIS\n.nf\naig-verdicts run [OPTION ..] FILE ..\naig-verdicts recheck [OPTION ..] BUNDLE\n.fi\n"
+             f".SH DESCRIPTION\n{filled(prose(top.description))}")
+    for name, one in each.items():
+        text += f".SH COMMAND: {name.upper()}\n{flowing(one.description.strip())}"
+        text += entries({words_of(it): it.help for it in one._actions})
+    rows = STATUSES.split("\n", 1)[1]
+    text += f".SH EXIT STATUS\n{flowing(rows)}"
+    text += (".SH EXAMPLES\nThe examples come with the program.\n" + code_block("aig-verdicts run queue.v --out queue\n")
+             + code_block("aig-verdicts recheck queue\n"))
+    return finished(text + ".SH SEE ALSO\n\\fBaig\\fP(1), \\fByosys\\fP(1), \\fBcadical\\fP(1), \\fBabc\\fP(1)\n")
+
+
+def words_of(action):
+    """How an option or an argument is typed."""
+    if not action.option_strings:
+        return action.metavar
+    value = f" {action.metavar}" if action.metavar else ""
+    return ", ".join(f"{name}{value}" for name in action.option_strings)
 
 
 def finished(text):
