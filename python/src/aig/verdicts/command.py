@@ -25,6 +25,7 @@ from .page import Page
 from .progress import Progress
 from .recheck import recheck, same_design
 from .row import Row
+from .sections import Pictures
 from .session import Session
 from .table import junit, plain, text
 from .tools import Stop, Stopped, ToolFailed, found, version
@@ -68,8 +69,8 @@ def _is_named(word: str, position: int, name: str) -> bool:
 
 
 def _page(to: Path, manifest: Dict[str, Any], rows: List[Row], read: Callable[[str], bytes], seconds: Dict[int, float],
-          is_unfinished: bool) -> None:
-    page = Page(manifest, rows, judge(rows), read, seconds, is_unfinished)
+          is_unfinished: bool, pictures: Optional[Pictures] = None) -> None:
+    page = Page(manifest, rows, judge(rows), read, seconds, is_unfinished, pictures)
     write_whole(to, page.html().encode("utf-8", "replace"))
 
 
@@ -110,9 +111,11 @@ def run(words: argparse.Namespace, stop: Stop) -> int:
 
 def _search(words: argparse.Namespace, session: Session) -> bool:
     """Finds the verdicts. Whether all was searched."""
+    pictures: Pictures = {}
+
     def renew(is_unfinished: bool = True) -> None:
-        folder = session.folder
-        _page(folder.path / PAGE, session.manifest(), session.rows, folder.read, session.seconds, is_unfinished)
+        folder, rows = session.folder, session.rows
+        _page(folder.path / PAGE, session.manifest(), rows, folder.read, session.seconds, is_unfinished, pictures)
 
     shown = {row.position for row in session.rows if row.kind in ("assert", "cover")}
     shown &= shown if session.only is None else set(session.only)

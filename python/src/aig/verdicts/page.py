@@ -2,13 +2,13 @@
 
 from __future__ import annotations
 
-from typing import Any, Callable, Dict, List, Sequence
+from typing import Any, Callable, Dict, List, Optional, Sequence
 
 import aig
 
 from .judge import MARK, Judged, summary
 from .row import Row
-from .sections import KIND, Sections, Sources, anchor, counted, place, size, verdict
+from .sections import KIND, Pictures, Sections, Sources, anchor, counted, place, size, verdict
 from .style import STYLE
 from .svg import STYLE as WAVE, escape
 
@@ -44,12 +44,14 @@ class Page:
 
     read     the bytes of a file of the bundle
     seconds  how long the search for each row took, by position
+    pictures those of earlier pages of the same circuit, to which this page adds its own
     """
 
     def __init__(self, manifest: Dict[str, Any], rows: Sequence[Row], table: Sequence[Judged],
-                 read: Callable[[str], bytes], seconds: Dict[int, float], unfinished: bool = False):
+                 read: Callable[[str], bytes], seconds: Dict[int, float], unfinished: bool = False,
+                 pictures: Optional[Pictures] = None):
         self.manifest, self.rows, self.read = manifest, rows, read
-        self.seconds, self.unfinished = seconds, unfinished
+        self.seconds, self.unfinished, self.pictures = seconds, unfinished, pictures
         groups = [key for key, _, _ in GROUPS]
         self.table = sorted(table, key=lambda it: (groups.index(it.result), not it.doubt))
         self.circuit = aig.Circuit(read("circuit.aig"))
@@ -123,7 +125,7 @@ class Page:
     # -- the sections
 
     def _groups(self) -> str:
-        sections = Sections(self.circuit, self.sources, self.read)
+        sections = Sections(self.circuit, self.sources, self.read, self.pictures)
         found: List[str] = []
         for key, title, words in GROUPS:
             members = [it for it in self.table if it.result == key]

@@ -3,7 +3,7 @@
 from __future__ import annotations
 
 import re
-from typing import Callable, Dict, List, Optional, Sequence
+from typing import Callable, Dict, Hashable, List, NamedTuple, Optional, Sequence
 
 import aig
 
@@ -101,11 +101,24 @@ class Sources:
         return f'<pre class="src" aria-label="source">{"".join(out)}</pre>'
 
 
-class Sections:
-    """Makes the section of each row."""
+class Drawn(NamedTuple):
+    """The picture of a run with its lines of `why`, and how much of a page's room it takes."""
 
-    def __init__(self, circuit: aig.Circuit, sources: Sources, read: Callable[[str], bytes]):
+    html: str
+    room: int
+
+
+# Pictures by what they are of, for the next page of the same circuit: while a search goes on, its page is written often.
+Pictures = Dict[Hashable, Drawn]
+
+
+class Sections:
+    """Makes the section of each row. Pictures that are there already are not drawn again."""
+
+    def __init__(self, circuit: aig.Circuit, sources: Sources, read: Callable[[str], bytes],
+                 pictures: Optional[Pictures] = None):
         self._told, self._sources, self._read = Told(circuit), sources, read
+        self._pictures: Pictures = {} if pictures is None else pictures
         self._constrained = bool(circuit.info()["constraints"])
         self._room = MOST_PICTURES
 
@@ -147,11 +160,21 @@ class Sections:
     def _picture(self, row: Row) -> str:
         file = escape(row.files["witness"])
         letters = row.frames * len(self._told.circuit.entries)
-        told = self._story(row) if self._room > 0 and letters <= MOST_LETTERS else None
+        if self._room > 0 and letters <= MOST_LETTERS:
+            key = (row.label, row.name, row.kind, self._sources.text(row), self._read(row.files["witness"]))
+            drawn = self._pictures.get(key) or self._drawn(row, file, letters)
+            if drawn is not None:
+                self._pictures[key] = drawn
+                self._room -= drawn.room
+                return drawn.html
+        return ("<p>The page has no more room for pictures: "
+                f"<code>aig wave --witness circuit.aig {file}</code> makes a waveform, and "
+                f"<code>aig why --witness circuit.aig {file}</code> says why.</p>")
+
+    def _drawn(self, row: Row, file: str, letters: int) -> Optional[Drawn]:
+        told = self._story(row)
         if told is None:
-            return ("<p>The page has no more room for pictures: "
-                    f"<code>aig wave --witness circuit.aig {file}</code> makes a waveform, and "
-                    f"<code>aig why --witness circuit.aig {file}</code> says why.</p>")
+            return None
         mark = "reached" if row.kind == "cover" else "fails"
         title = f"run of {counted(row.frames, 'frame')} to {row.name}"
         names, waves = parts(told.lanes, told.run.frames, told.run.frames - 1, title, mark)
@@ -161,8 +184,7 @@ class Sections:
                     f"<code>aig why --witness circuit.aig {file}</code></p>")
         found = (f'<div class="two"><div><div class="wave">{names}<div class="scroll">{waves}</div></div>{more}</div>'
                  f"<div><p><b>Why</b>, from the last frame back:</p>{_why(told.why)}</div></div>")
-        self._room -= len(found) + letters // 1000 + sum(map(len, told.why)) // 100
-        return found
+        return Drawn(found, len(found) + letters // 1000 + sum(map(len, told.why)) // 100)
 
     def _story(self, row: Row) -> Optional[Story]:
         try:
