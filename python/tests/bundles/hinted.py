@@ -128,7 +128,7 @@ def failures(_, tally, __):
     for name, body, word, more in (
             ("crash", "kill -SEGV $$", "ended by signal 11", ()),
             ("status", "echo help me >&2; exit 1", "help me", ()),
-            ("hang", "sleep 1000", "did not end", ("--seconds", "1")),
+            ("hang", "sleep 1000", "did not end", ("--seconds", "3")),
             ("full", f'{LAST}exec cat /dev/zero > "$last"', "larger than --proof-megabytes",
              ("--proof-megabytes", "1")),
             ("nothing", "exit 0", "wrote none", ()), ("empty", f'{LAST}: > "$last"', "wrote none", ()),
