@@ -19,13 +19,13 @@ from large.own_names import own_names
 from large.prompts import prompts
 from large.reductions import reductions
 from large.unread_gates import unread_gates
+from large.walks import walks
 from library import runs
 
 PARTS = {"block_edges": block_edges, "files": large_files, "long_run": long_run, "names": crowded_names, "hubs": hubs,
          "limits": limits, "own_names": own_names, "prompts": prompts, "reductions": reductions,
-         "explanations": explanations, "first_literals": first_literals, "unread_gates": unread_gates, "deep": deep,
-         "claims": claims,
-         "proofs": hostile_proofs}
+         "explanations": explanations, "walks": walks, "first_literals": first_literals, "unread_gates": unread_gates,
+         "deep": deep, "claims": claims, "proofs": hostile_proofs}
 
 
 def options(parser):
