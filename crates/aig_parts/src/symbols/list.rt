@@ -58,7 +58,7 @@ impl SymbolList {
         self.entries.reserve(1)?;
         let place = put_name(&mut self.text, name)?;
         self.named.insert(kind, position)?;
-        self.entries.push(((kind, position), place))?;
+        self.entries.push_reserved(((kind, position), place));
         Ok(())
     }
 

@@ -21,7 +21,7 @@ invariant_of-self-2 c =
     let key : Key = (c.args.kind, c.args.position) in
     let keys = ap keys_of (sym c.self.view_is) ∙ keys_in inside.text.items inside.entries.items in
     let fresh = subst (λ (ks : List Key). Contains ks key → ⊥) keys c.requires in
-    let entries = c.in_ok-push.ensures.items ∙ ap (λ (es : List (Key × Place)). es ++ (key, c.in_ok-place.place) ∷ []) c.in_ok-reserve.ensures.items in
+    let entries = c.push_reserved.ensures.items ∙ ap (λ (es : List (Key × Place)). es ++ (key, c.in_ok-place.place) ∷ []) c.in_ok-reserve.ensures.items in
     subst (λ (es : List (Key × Place)). AreNamedEntries c.insert.new.self es c.put_name.new.text.items) (sym entries)
     (listed_more inside.named c.insert.new.self inside.entries.items inside.text.items c.put_name.new.text.items
     c.self.invariant c.args.name.now key c.in_ok-place.place fresh c.in_ok-place.ensures.ok
@@ -31,7 +31,7 @@ pub returns-clause-ok : goal.returns-clause-ok
 returns-clause-ok c =
     let inside = c.self.inside in
     let key : Key = (c.args.kind, c.args.position) in
-    let entries = c.in_ok-push.ensures.items ∙ ap (λ (es : List (Key × Place)). es ++ (key, c.in_ok-place.place) ∷ []) c.in_ok-reserve.ensures.items in
+    let entries = c.push_reserved.ensures.items ∙ ap (λ (es : List (Key × Place)). es ++ (key, c.in_ok-place.place) ∷ []) c.in_ok-reserve.ensures.items in
     ap (symbols_in c.put_name.new.text.items) entries
     ∙ symbol_more inside.text.items c.args.name.now c.put_name.new.text.items inside.entries.items key c.in_ok-place.place
     c.self.invariant.places c.in_ok-place.ensures.ok c.in_ok-place.ensures.place.0 c.in_ok-place.ensures.place.1
