@@ -1,6 +1,8 @@
 -- Gates with the literals of the renumbered circuit, and what stands for those at a frame.
-use Rattle.std.proofs.Common.{◌≡◌, ℕ, ◌+◌, ◌*◌, ◌/◌, ◌%◌, ◌≤◌, nat_eq, Bool, true, false, List, [], ◌∷◌, ◌++◌, map}
+use Rattle.std.proofs.Common.{◌≡◌, inl, inr, ◌⊎◌, ℕ, ◌+◌, ◌-◌, ◌*◌, ◌/◌, ◌%◌, ◌<◌, ◌≤◌, nat_eq, nat_lt, Bool, true, false}
+use Rattle.std.proofs.Common.{List, [], ◌∷◌, ◌++◌, map}
 use Rattle.std.proofs.Common.{slice_index, All, Some, slice_get, refl, sym, ◌∙◌, ap, subst, arith}
+use Rattle.std.proofs.lemmas.Bool.Decides.{nat_tests}
 use Rattle.std.proofs.lemmas.List.{map-append}
 use Rattle.std.proofs.lemmas.Option.{slice_get-map}
 use Rattle.aig_parts.specs.declared.gate.Gate.{Gate}
@@ -14,7 +16,7 @@ use Rattle.aig_base.proofs.renumbered.Renumberings.{gate_stands}
 use Rattle.aig_unroll.specs.declared.unrolling.frame_literals.Frame.{Frame}
 use Rattle.aig_unroll.specs.declared.unrolling.plan.Plan.{Plan}
 use Rattle.aig_unroll.specs.state.FrameTable.{numbered_at, literal_at, number_literal, numbered_gate, IsNumbered}
-use Rattle.aig_unroll.specs.state.FrameTable.{IsGateNumbered}
+use Rattle.aig_unroll.specs.state.FrameTable.{IsGateNumbered, variable_at}
 
 -- the sign of a literal turns one or leaves it
 pub turned : (l k : ℕ) → IsNegated l → with_sign l k ≡ negation k
@@ -22,6 +24,30 @@ turned l k h = rw h refl
 
 pub straight : (l k : ℕ) → (IsNegated l → ⊥) → with_sign l k ≡ k
 straight l k h = let e : l % 2 ≡ 0 = omega arith in rw e refl
+
+-- the literal of a gate is found by its distance from the first
+pub gate_side : (plan : Plan) (frame : Frame) (l least first : ℕ) → least ≡ 2 * (plan.inputs + plan.latches + 1)
+    → first ≡ 2 * variable_at plan frame.number 0 → least ≤ l → l - least + first ≡ numbered_at plan frame l
+unfolding numbered_at number_literal
+gate_side plan frame l least first e f le = go (nat_eq (l % 2) 0) refl
+  where
+    over : nat_lt (plan.inputs + plan.latches) (l / 2) ≡ true
+    over = let k : plan.inputs + plan.latches < l / 2 = omega (arith, e, le) in grind (arith, nat_tests)
+
+    parity : (l % 2 ≡ 0) ⊎ (l % 2 ≡ 1)
+    parity = grind arith
+
+    w : ℕ
+    w = variable_at plan frame.number (l / 2 - (plan.inputs + plan.latches) - 1)
+
+    go : (b : Bool) → nat_eq (l % 2) 0 ≡ b → l - least + first ≡ with_sign l (number_literal plan frame (l / 2))
+    go true d =
+        let z : l % 2 ≡ 0 = grind (arith, nat_tests) in
+        rw (d, over) (omega (arith, e, f, le, z))
+    go false d = elim parity [
+      | inl z ↦ absurd (grind (arith, nat_tests))
+      | inr o ↦ let g : 2 * w % 2 ≡ 0 = omega arith in rw (d, over, g) (omega (arith, e, f, le, o))
+    ]
 
 -- the variable of the renumbered circuit's literal
 numbered_variable : (numbers : List ℕ) (l : ℕ) → variable (literal_by numbers l) ≡ slice_index numbers (variable l)

@@ -11,6 +11,7 @@ use Rattle.aig_base.specs.Renumbered.{ready_gate}
 use Rattle.aig_base.specs.RenumberingTable.{IsRenumbering, literal_by}
 use Rattle.aig_unroll.specs.declared.unrolling.plan.Plan.{Plan}
 use Rattle.aig_unroll.specs.declared.unrolling.frame_literals.Frame.{Frame}
+use Rattle.aig_unroll.specs.declared.unrolling.parts.GateLiterals.{GateLiterals}
 use Rattle.aig_unroll.specs.declared.unrolling.sections.Sections.{Sections}
 use Rattle.aig_unroll.specs.FrameLiteral.{frame_literal, frame_size, input_count, has_guards, chain_count, guard_count}
 use Rattle.aig_unroll.specs.FrameLiteral.{is_uninitialised, uninitialised}
@@ -74,6 +75,11 @@ IsNumbered plan l = variable l ≤ plan.inputs + plan.latches + plan.gates
 
 abbrev pub IsGateNumbered : Plan → Gate → Type 0
 IsGateNumbered plan g = IsNumbered plan g.lhs × IsNumbered plan g.rhs0 × IsNumbered plan g.rhs1
+
+-- the least literal of a gate of the renumbered circuit, and what stands for it at the frame
+pub record AreGateLiterals (plan : Plan) (frame : Frame) (literals : GateLiterals) : Type 0 where
+  pub least : literals.least ≡ 2 * (plan.inputs + plan.latches + 1)
+  pub first : literals.first ≡ 2 * variable_at plan frame.number 0
 
 abbrev pub first_literal_of : List Latch → ℕ → ℕ → Option Latch → ℕ
 first_literal_of latches offset p None = 0

@@ -5,7 +5,7 @@ ghost use Rattle.aig_parts.specs.Formed.{limit};
 ghost use Rattle.aig_base.specs.RenumberingTable.{IsInTable};
 ghost use Rattle.aig_unroll.specs.FrameLiteral as literals;
 ghost use Rattle.aig_unroll.specs.state.FrameTable as table;
-ghost use Rattle.aig_unroll.specs.state.FrameTable.{IsWithin, IsGateNumbered};
+ghost use Rattle.aig_unroll.specs.state.FrameTable.{AreGateLiterals, IsGateNumbered, IsNumbered, IsWithin};
 
 use crate::unrolling::frame_literals::{Frame, literal_at, numbered_at, ready_gate};
 use crate::unrolling::plan::{Plan, is_uninitialised};
@@ -29,15 +29,50 @@ pub(crate) fn push_literals(
     Ok(())
 }
 
-fn gate_at(plan: &Plan, frame: &Frame, gate: Gate) -> Gate
+// The literals of gates at a frame: the least of the renumbered circuit, and what stands for it.
+#[derive(Clone, Copy, Drop)]
+struct GateLiterals {
+    least: u32,
+    first: u32,
+}
+
+impl GateLiterals {
+    fn of(plan: &Plan, frame: &Frame) -> GateLiterals
+        requires { IsWithin plan.now frame.now }
+        ensures { AreGateLiterals plan.now frame.now result }
+    {
+        GateLiterals {
+            least: 2 * (plan.inputs + plan.latches + 1),
+            first: 2 * (plan.sources + frame.number * plan.size + 1),
+        }
+    }
+}
+
+// The literal that stands for a literal of the renumbered circuit at the frame. That of a gate is found by its distance
+// from the first.
+fn side_at(plan: &Plan, frame: &Frame, gates: GateLiterals, literal: Lit) -> Lit
+    requires within { IsWithin plan.now frame.now }
+    requires numbered { IsNumbered plan.now literal }
+    requires gates { AreGateLiterals plan.now frame.now gates }
+    ensures { result ≡ table.numbered_at plan.now frame.now literal }
+{
+    if literal.value() < gates.least {
+        numbered_at(plan, frame, literal)
+    } else {
+        Lit::new(literal.value() - gates.least + gates.first)
+    }
+}
+
+fn gate_at(plan: &Plan, frame: &Frame, gates: GateLiterals, gate: Gate) -> Gate
     requires within { IsWithin plan.now frame.now }
     requires numbered { IsGateNumbered plan.now gate }
+    requires gates { AreGateLiterals plan.now frame.now gates }
     ensures { result ≡ table.plan_gate plan.now frame.now gate }
 {
     ready_gate(
-        numbered_at(plan, frame, gate.lhs),
-        numbered_at(plan, frame, gate.rhs0),
-        numbered_at(plan, frame, gate.rhs1),
+        side_at(plan, frame, gates, gate.lhs),
+        side_at(plan, frame, gates, gate.rhs0),
+        side_at(plan, frame, gates, gate.rhs1),
     )
 }
 
@@ -52,8 +87,9 @@ pub(crate) fn push_gates(
     requires numbered { All (IsGateNumbered plan.now) gates.now }
     ensures { OnOk result (to.new ≡ to.old ++ map (table.plan_gate plan.now frame.now) gates.now) }
 {
+    let literals = GateLiterals::of(plan, frame);
     for gate in gates {
-        to.push(gate_at(plan, frame, *gate))?;
+        to.push(gate_at(plan, frame, literals, *gate))?;
     }
     Ok(())
 }
