@@ -1,3 +1,4 @@
+pub mod AskedValues
 pub mod BenchEnds
 pub mod Benches
 pub mod Digits

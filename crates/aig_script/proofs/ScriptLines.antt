@@ -46,3 +46,11 @@ keeps_bytes line kept e k = subst (KeepsBy line kept) e k.keeps
 pub bytes_keep : (line : List ℕ) (kept : ScriptLine) → kept.is_row ≡ false
     → kept.bytes ≡ first_bytes line → (BeginsRow line → ⊥) → KeepsScriptLine line kept
 bytes_keep line kept e is never = record { keeps = subst (KeepsBy line kept) (sym e) (is, never) }
+
+-- a line of which no byte is kept has none
+pub no_line : (line : List ℕ) (kept : ScriptLine) → kept.is_row ≡ false → kept.bytes ≡ [] → KeepsScriptLine line kept
+    → line ≡ []
+no_line [] kept e none k = refl
+no_line (x ∷ line) kept e none k =
+    let is : [] ≡ x ∷ take 34 line = sym none ∙ (keeps_bytes (x ∷ line) kept e k).0 in
+    absurd (let no : ⊥ = cc in no)

@@ -1,8 +1,12 @@
 //! Replies to the lines of a script.
-ghost use Rattle.std.specs.Prelude.{◌≡◌, ℕ, List, ◌∷◌, length, Result, Ok};
+ghost use Rattle.std.specs.Prelude.{◌≡◌, ℕ, List, ◌∷◌, ◌++◌, length, codes, Result, Ok};
 ghost use Rattle.aig_parts.specs.declared.raw.Raw.{Raw};
 ghost use Rattle.aig_bytes.specs.Bytes.{Writes};
+ghost use Rattle.aig_parts.specs.declared.ternary.Tern.{Tern};
+ghost use Rattle.aig_bench.specs.declared.edit.EditFault.{EditFault};
+ghost use Rattle.aig_bench.specs.BenchState.{HasTrace};
 ghost use Rattle.aig_bench.specs.Edit.{edit_fault_number};
+ghost use Rattle.aig_bench.specs.Question.{AnswersValue};
 ghost use Rattle.aig_sim.specs.RowParser.{KeepsLine};
 ghost use Rattle.aig_unroll.specs.declared.fault.UnrollFault.{UnrollFault};
 ghost use Rattle.aig_unroll.specs.Answers as unrolling;
@@ -15,12 +19,11 @@ ghost use Rattle.aig_script.specs.ScriptLine.{BeginsRow, KeepsScriptLine};
 
 use crate::command::{Command, parse_command};
 use crate::script_line::ScriptLine;
-use aig_base::{Circuit, Io, Tern, Write, write_all, write_number};
+use aig_base::{Circuit, Io, Lit, Write, write_all, write_number};
 use aig_bench::{Bench, EditFault, EditReport};
 use aig_format::write_ascii;
 use aig_sim::{Grid, RowParser, StimFault};
 use aig_unroll::UnrollFault;
-use aig_values::code::Code;
 use std::alloc::Global;
 
 /// The number of a fault, as `no N` names it.
@@ -78,11 +81,20 @@ fn write_edit<W: Write>(answer: Result<EditReport, EditFault>, out: &mut W) -> R
     }
 }
 
-fn write_value<W: Write>(answer: Result<Tern, EditFault>, out: &mut W) -> Result<(), Io>
-    ensures { Writes W.written W.failures out.old out.new (value_reply answer) result }
+/// Writes the value of a literal at a frame, or why it is refused: the character is that of the grid.
+fn write_value<G: Grid, W: Write>(
+    bench: &Bench<G>,
+    frame: u32,
+    literal: Lit,
+    out: &mut W,
+) -> Result<(), Io>
+    ensures { (answer : Result Tern EditFault) × AnswersValue bench.now.pair frame literal answer
+        × Writes W.written W.failures out.old out.new (value_reply answer) result }
 {
-    match answer {
-        Ok(value) => write_all(out, &[Code::of(value).character(false), b'\n']),
+    // Its contract says that it is a circuit.
+    bench.width();
+    match bench.value(frame, literal) {
+        Ok(_) => write_all(out, &[bench.grid().character(frame, literal), b'\n']),
         Err(fault) => write_refusal(fault, out),
     }
 }
@@ -97,7 +109,8 @@ fn write_unrolled_circuit<W: Write>(circuit: &Circuit, out: &mut W) -> Result<()
     }
 }
 
-/// Writes the circuit unrolled for all frames, or why it is refused.
+/// Writes the circuit unrolled for all frames, or why it is refused. It has a frame of its own, as `write_frames`.
+#[inline(never)]
 fn write_unrolled<G: Grid, W: Write>(alloc: Global, bench: &Bench<G>, out: &mut W) -> Result<(), Io>
     ensures { (r : Result Raw UnrollFault) × AnswersUnrolling bench.now.pair.circuit (length bench.now.pair.rows) r
         × Writes W.written W.failures out.old out.new (unroll_reply r) result }
@@ -108,7 +121,18 @@ fn write_unrolled<G: Grid, W: Write>(alloc: Global, bench: &Bench<G>, out: &mut 
     }
 }
 
+/// Writes the trace, and a line `.`. It has a frame of its own, since its room on the stack is large.
+#[inline(never)]
+fn write_frames<G: Grid, W: Write>(bench: &Bench<G>, out: &mut W) -> Result<(), Io>
+    ensures { (text : List ℕ) × HasTrace bench.now.pair text
+        × Writes W.written W.failures out.old out.new (text ++ codes ".\n") result }
+{
+    bench.write_trace(out)?;
+    write_all(out, b".\n")
+}
+
 /// Does what the command asks for, and writes its reply.
+#[inline(always)]
 fn obey<G: Grid, W: Write>(
     alloc: Global,
     bench: &mut Bench<G>,
@@ -138,11 +162,8 @@ fn obey<G: Grid, W: Write>(
         Command::SetOutput { position, literal } => {
             write_edit(bench.set_output(position, literal), out)
         }
-        Command::Value { frame, literal } => write_value(bench.value(frame, literal), out),
-        Command::Trace => {
-            bench.write_trace(out)?;
-            write_all(out, b".\n")
-        }
+        Command::Value { frame, literal } => write_value(bench, frame, literal, out),
+        Command::Trace => write_frames(bench, out),
         Command::Unroll => write_unrolled(alloc, bench, out),
     }
 }

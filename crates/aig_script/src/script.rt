@@ -1,27 +1,23 @@
 //! Scripts: lines that drive a bench, answered one by one.
-ghost use Rattle.std.specs.Prelude.{◌≡◌, ◌<◌, ◌≤◌, ◌↔◌, ◌++◌, ℕ, List, [], map, length, take};
-ghost use Rattle.std.specs.Prelude.{IsTrue, OnOk, OnErr, IfOk, IfErr};
+ghost use Rattle.std.specs.Prelude.{◌≡◌, ◌≢◌, ◌<◌, ◌≤◌, ◌↔◌, ◌++◌, ℕ, List, [], map, length, take, All, Some};
+ghost use Rattle.std.specs.Prelude.{slice_get, OnOk, OnErr, IfOk, IfErr};
 ghost use Rattle.aig_bytes.specs.Bytes.{IsAtEnd, Writes};
 ghost use Rattle.aig_bytes.specs.Flow.{flow};
 ghost use Rattle.aig_script.specs.Lines.{whole, lines_from, rest_from};
 ghost use Rattle.aig_script.specs.Ran.{Answered, StoppedAt, Reading, Ran, Failing};
 ghost use Rattle.aig_script.specs.Replies.{WholeReply};
-ghost use Rattle.aig_script.specs.ScriptLine.{BeginsRow, KeepsScriptLine};
+ghost use Rattle.aig_script.specs.ScriptLine.{KeepsScriptLine};
 
 use crate::reply::{answer, answer_command};
-use crate::script_line::ScriptLine;
+use crate::script_line::{ScriptLine, begins_row};
 use aig_base::{Io, Read, Write, line_length, write_all};
 use aig_bench::Bench;
 use aig_command::ScriptFault;
 use aig_sim::Grid;
 use std::alloc::Global;
 
-/// Whether a line that begins with these bytes appends a frame.
-fn begins_row(bytes: &[u8]) -> bool
-    ensures { IsTrue result ↔ BeginsRow bytes.now }
-{
-    matches!(bytes, [b'+', b' ', ..])
-}
+/// How many bytes are searched for the end of a line at first.
+const NEAR: usize = 32;
 
 /// Answers the line that ends with these bytes, and begins the next. A whole command is answered where it stands.
 fn end_line<G: Grid, W: Write>(
@@ -48,6 +44,22 @@ fn end_line<G: Grid, W: Write>(
     Ok(())
 }
 
+/// How many bytes come before the first LF, or how many there are. Most lines are short, so few bytes are searched at
+/// first.
+fn piece_length(bytes: &[u8]) -> usize
+    ensures bound { result ≤ length bytes.now }
+    ensures no_end { All (λ b. b ≢ 10) (take result bytes.now) }
+    ensures ended { result < length bytes.now → slice_get bytes.now result ≡ Some 10 }
+{
+    if bytes.len() > NEAR {
+        let near = line_length(&bytes[..NEAR]);
+        if near < NEAR {
+            return near;
+        }
+    }
+    line_length(bytes)
+}
+
 /// Takes bytes up to the end of a line, which is then answered, or keeps all of them. Answers how many it took.
 fn feed_line<G: Grid, W: Write>(
     alloc: Global,
@@ -70,7 +82,7 @@ fn feed_line<G: Grid, W: Write>(
         StoppedAt (flow W.written W.failures out.old out.new) (map whole (lines_from text bytes.now))
         bench.old.pair bench.new.pair) }
 {
-    let length = line_length(bytes);
+    let length = piece_length(bytes);
     if length == bytes.len() {
         line.extend(bytes);
         return Ok(length);

@@ -1,5 +1,6 @@
 //! The line of a script that is being read.
-ghost use Rattle.std.specs.Prelude.{◌≡◌, ◌↔◌, List, ℕ, [], ◌∷◌, ◌++◌, true, IsTrue, IfOk, IfSome, IfNone, false};
+ghost use Rattle.std.specs.Prelude.{◌≡◌, ◌↔◌, ◌≤◌, List, ℕ, [], ◌∷◌, ◌++◌, true, IsTrue, IfOk, IfSome, IfNone, false};
+ghost use Rattle.std.specs.Prelude.{length};
 ghost use Rattle.aig_script.specs.ScriptLine.{BeginsRow, KeepsScriptLine};
 
 use aig_base::Memory;
@@ -9,6 +10,9 @@ use std::marker::Model;
 
 /// The longest command that appends no frame has 34 bytes.
 const ROOM: usize = 35;
+
+/// How many values of a row are looked at together at least.
+const FEW: usize = 16;
 
 /// What is kept of a line of any length: its first bytes, as many as show whether it is a command, and where it appends
 /// a frame as many values as a row has.
@@ -29,6 +33,14 @@ impl Model for ScriptLine {
     ghost view = { λ l. record { bytes = take l.length l.bytes; is_row = l.is_row; row = l.row } };
 
     ghost invariant = { λ l. (l.length ≤ 35) × (l.row.width ≤ l.row.room) };
+}
+
+/// Whether a line that begins with these bytes appends a frame.
+pub fn begins_row(bytes: &[u8]) -> bool
+    ensures row { IsTrue result ↔ BeginsRow bytes.now }
+    ensures length { IsTrue result → 2 ≤ length bytes.now }
+{
+    matches!(bytes, [b'+', b' ', ..])
 }
 
 impl ScriptLine {
@@ -67,7 +79,7 @@ impl ScriptLine {
     }
 
     // Whether with this byte the line begins as one that appends a frame.
-    fn begins_row(&self, byte: u8) -> bool
+    fn begins_row_with(&self, byte: u8) -> bool
         ensures { IsTrue result ↔ (self.now.bytes ≡ 43 ∷ []) × (byte ≡ 32) }
     {
         matches!(self.bytes(), [b'+']) && byte == b' '
@@ -79,7 +91,7 @@ impl ScriptLine {
         ensures keeps { (line : List ℕ) → KeepsScriptLine line self.old → KeepsScriptLine (line ++ byte ∷ []) self.new }
         ensures width { self.new.row.width ≡ self.old.row.width }
     {
-        if self.begins_row(byte) {
+        if self.begins_row_with(byte) {
             self.is_row = true;
             self.row.clear();
         } else if self.length < ROOM {
@@ -100,13 +112,59 @@ impl ScriptLine {
         }
     }
 
-    /// Takes the line's next bytes.
-    pub fn extend(&mut self, bytes: &[u8])
+    // Takes the line's next bytes one by one.
+    fn push_all(&mut self, bytes: &[u8])
         ensures keeps { (line : List ℕ) → KeepsScriptLine line self.old → KeepsScriptLine (line ++ bytes.now) self.new }
         ensures width { self.new.row.width ≡ self.old.row.width }
     {
         for byte in bytes {
             self.push(*byte);
+        }
+    }
+
+    // Begins a line that appends a frame.
+    fn begin_row(&mut self)
+        ensures row { self.new.is_row ≡ true }
+        ensures keeps { KeepsScriptLine (43 ∷ 32 ∷ []) self.new }
+        ensures width { self.new.row.width ≡ self.old.row.width }
+    {
+        self.is_row = true;
+        self.row.clear();
+    }
+
+    // Takes the next bytes of a line that appends a frame. Where there are few, one by one is faster.
+    fn extend_row(&mut self, bytes: &[u8])
+        requires { self.old.is_row ≡ true }
+        ensures keeps { (line : List ℕ) → KeepsScriptLine line self.old → KeepsScriptLine (line ++ bytes.now) self.new }
+        ensures width { self.new.row.width ≡ self.old.row.width }
+    {
+        if bytes.len() < FEW {
+            return self.push_all(bytes);
+        }
+        let Ok(()) = self.row.extend(bytes) else {
+            unreachable!()
+        };
+    }
+
+    // Whether no byte was taken.
+    fn is_fresh(&self) -> bool
+        ensures { IsTrue result → (self.now.is_row ≡ false) × (self.now.bytes ≡ []) }
+    {
+        !self.is_row && self.length == 0
+    }
+
+    /// Takes the line's next bytes.
+    pub fn extend(&mut self, bytes: &[u8])
+        ensures keeps { (line : List ℕ) → KeepsScriptLine line self.old → KeepsScriptLine (line ++ bytes.now) self.new }
+        ensures width { self.new.row.width ≡ self.old.row.width }
+    {
+        if self.is_fresh() && begins_row(bytes) {
+            self.begin_row();
+            self.extend_row(&bytes[2..]);
+        } else if self.is_row {
+            self.extend_row(bytes);
+        } else {
+            self.push_all(bytes);
         }
     }
 

@@ -1,15 +1,9 @@
 use Rattle.std.proofs.Common.{refl, ◌++◌}
 use Rattle.std.specs.Prelude.{codes}
-use Rattle.aig_bytes.proofs.WriteLemmas.{writes_then, writes_stop}
 use Rattle.aig_bench.specs.Edit.{rewire, set_reset, set_bit, drop_frame, append_gate, set_output}
-use Rattle.aig_script.specs.Replies.{edit_reply, unroll_reply}
+use Rattle.aig_script.specs.Replies.{edit_reply, value_reply, unroll_reply}
 use Rattle.aig_script.proofs.RunLemmas.{edit_reply_of, excused}
 use Rattle.aig_script.proofs.reply.obey.Goals as goal
-
-pub returns-in_err-write_trace-in-Trace : goal.returns-in_err-write_trace-in-Trace
-returns-in_err-write_trace-in-Trace g c =
-    let h = c.in_err-write_trace-in-Trace.ensures in
-    (h.0 ++ codes ".\n", rw c.in-Trace.is (h.0, h.1, refl, refl), writes_stop _ h.2 c.from_residual.ensures.0)
 
 pub returns-in-Rewire : goal.returns-in-Rewire
 returns-in-Rewire g c = (
@@ -59,12 +53,17 @@ returns-in-SetOutput g c = (
   c.write_edit-in-SetOutput.ensures,
 )
 
-pub returns-in_ok-write_trace-in-Trace : goal.returns-in_ok-write_trace-in-Trace
-returns-in_ok-write_trace-in-Trace g c =
-    let h = c.in_ok-write_trace-in-Trace.ensures in
-    (h.0 ++ codes ".\n", rw c.in-Trace.is (h.0, h.1, refl, refl), writes_then h.2 c.write_all.ensures)
+pub returns-in-Trace : goal.returns-in-Trace
+returns-in-Trace g c =
+    let h = c.write_frames.ensures in
+    (h.0 ++ codes ".\n", rw c.in-Trace.is (h.0, h.1, refl, refl), h.2)
 
 pub returns-in-Unroll : goal.returns-in-Unroll
 returns-in-Unroll g c =
     let h = c.write_unrolled.ensures in
     (unroll_reply h.0, rw c.in-Unroll.is (h.0, h.1, refl, refl), h.2)
+
+pub returns-in-Value : goal.returns-in-Value
+returns-in-Value g c =
+    let h = c.write_value.ensures in
+    (value_reply h.0, rw c.in-Value.is (h.0, h.1, refl, refl), h.2)

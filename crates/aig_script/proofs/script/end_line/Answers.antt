@@ -19,7 +19,7 @@ returns-then-not-begins_row-clause-reply g c =
       λ text k.
           subst (λ (t : List ℕ). WholeReply c.args.bench.now.pair (t ++ c.args.piece.now) h.0 c.answer_command.new.bench.pair)
           (sym ((c.is_empty.ensures text k).0 c.if-is_empty.true))
-          (h.1 (λ b. true≢false (sym (c.begins_row.ensures.1 b) ∙ c.if-not-begins_row.true))),
+          (h.1 (λ b. true≢false (sym (c.begins_row.ensures.row.1 b) ∙ c.if-not-begins_row.true))),
       h.2,
     )
 

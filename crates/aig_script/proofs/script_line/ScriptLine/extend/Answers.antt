@@ -1,24 +1,17 @@
-use Rattle.std.proofs.Common.{ℕ, List, ◌∷◌, ◌++◌, [], take, get_or, subst, sym, ap, ◌∙◌, append_assoc}
-use Rattle.std.proofs.lemmas.List.{take_all, take_more}
+use Rattle.std.proofs.Common.{◌≡◌, ℕ, ◌-◌, List, [], ◌∷◌, ◌++◌, length, take, drop, sym, ap, subst, ◌∙◌, arith}
+use Rattle.std.proofs.lemmas.List.{take_all, length-drop}
 use Rattle.aig_script.specs.ScriptLine.{KeepsScriptLine}
+use Rattle.aig_script.proofs.ScriptLines.{no_line}
 use Rattle.aig_script.proofs.script_line.ScriptLine.extend.Goals as goal
 
-pub loop-byte-preserved : goal.loop-byte-preserved
-loop-byte-preserved c =
+pub returns-then-begins_row-clause-keeps : goal.returns-then-begins_row-clause-keeps
+returns-then-begins_row-clause-keeps c = λ line k.
     let xs = c.args.bytes.now in
-    let i = c.loop-byte.byte-index in
-    record {
-      width = c.push.ensures.width ∙ c.loop-byte.invariant.width;
-      keeps = λ line k.
-          subst (λ (t : List ℕ). KeepsScriptLine t c.push.new.self)
-          (append_assoc line (take i xs) (get_or xs i 0 ∷ [])
-          ∙ ap (λ (t : List ℕ). line ++ t) (sym (take_more xs i 0 c.loop-byte-test.true)))
-          (c.push.ensures.keeps (line ++ take i xs) (c.loop-byte.invariant.keeps line k));
-    }
-
-pub returns-clause-keeps : goal.returns-clause-keeps
-returns-clause-keeps c = λ line k.
-    let xs = c.args.bytes.now in
-    let i = c.loop-byte.byte-index in
-    subst (λ (t : List ℕ). KeepsScriptLine (line ++ t) c.loop-byte.self) (take_all i xs c.loop-byte-test.false)
-    (c.loop-byte.invariant.keeps line k)
+    let fresh = c.is_fresh.ensures c.if-is_fresh.true in
+    let nothing : line ≡ [] = no_line line c.args.self.now fresh.0 fresh.1 k in
+    let (rest, is) = c.begins_row.ensures.row.0 c.if-begins_row.true in
+    let piece : take (length xs - 2) (drop 2 xs) ≡ rest =
+    take_all (length xs - 2) (drop 2 xs) (omega (arith, length-drop 2 xs)) ∙ ap (drop 2) is in
+    subst (λ (t : List ℕ). KeepsScriptLine t c.extend_row.new.self)
+    (sym (ap (λ (l : List ℕ). l ++ xs) nothing ∙ is ∙ ap (λ (r : List ℕ). 43 ∷ (32 ∷ r)) (sym piece)))
+    (c.extend_row.ensures.keeps (43 ∷ (32 ∷ [])) c.begin_row.ensures.keeps)

@@ -13,7 +13,7 @@ returns-then-self-lt-ROOM-clause-keeps c = λ line k.
     bytes_keep (line ++ c.args.byte ∷ []) _ plain
     (joins_within line c.self.inside.bytes c.self.inside.length c.args.byte c.self.told c.if-self-lt-ROOM.true (bytes ∙ old.0))
     (begins_with line c.args.byte old.1 (λ h.
-    false≢true (sym c.if-begins_row.false ∙ c.begins_row.ensures.1 (old.0 ∙ ap first_bytes h.0, h.1))))
+    false≢true (sym c.if-begins_row_with.false ∙ c.begins_row_with.ensures.1 (old.0 ∙ ap first_bytes h.0, h.1))))
 
 pub returns-else-self-lt-ROOM-clause-keeps : goal.returns-else-self-lt-ROOM-clause-keeps
 returns-else-self-lt-ROOM-clause-keeps c = λ line k.
@@ -24,4 +24,4 @@ returns-else-self-lt-ROOM-clause-keeps c = λ line k.
     (sym bytes ∙ joins_past line c.self.inside.bytes c.self.inside.length c.args.byte c.self.told c.if-self-lt-ROOM.false
     c.self.invariant.0 (bytes ∙ old.0))
     (begins_with line c.args.byte old.1 (λ h.
-    false≢true (sym c.if-begins_row.false ∙ c.begins_row.ensures.1 (old.0 ∙ ap first_bytes h.0, h.1))))
+    false≢true (sym c.if-begins_row_with.false ∙ c.begins_row_with.ensures.1 (old.0 ∙ ap first_bytes h.0, h.1))))

@@ -1,6 +1,6 @@
 use Rattle.std.proofs.Common.{◌≡◌, ℕ, List, ◌++◌, take}
 use Rattle.aig_script.specs.ScriptLine.{KeepsScriptLine}
-use Rattle.aig_script.proofs.script_line.ScriptLine.extend.Given as goal
+use Rattle.aig_script.proofs.script_line.ScriptLine.push_all.Given as goal
 
 abbrev pub invariant-loop-byte : goal.invariant-loop-byte
 invariant-loop-byte l = record {
