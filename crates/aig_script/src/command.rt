@@ -1,5 +1,5 @@
 //! Commands of a script.
-ghost use Rattle.std.specs.Prelude.{◌≡◌, ◌≢◌, ◌<◌, ℕ, List, ◌∷◌, ◌++◌, [], codes, IfSome, IfNone};
+ghost use Rattle.std.specs.Prelude.{◌≡◌, ◌≢◌, ◌+◌, ◌*◌, ◌^◌, ◌<◌, ◌≤◌, ℕ, List, ◌∷◌, ◌++◌, [], codes, IfSome, IfNone};
 ghost use Rattle.std.specs.Fmt.{decimal};
 ghost use Rattle.aig_parts.specs.declared.ternary.Tern.{Tern};
 ghost use Rattle.aig_values.specs.Characters.{character};
@@ -11,6 +11,9 @@ ghost use Rattle.aig_script.specs.state.Numbers.{EndsNumber};
 ghost use Rattle.aig_script.specs.ScriptLine.{BeginsRow};
 
 use aig_base::{Lit, Tern};
+
+/// A number below this one is at most `u32::MAX` with any further digit.
+const TENTH: u32 = 429_496_729;
 
 /// What a line of a script asks for, where it appends no frame.
 #[derive(Clone, Copy, PartialEq, Eq, Debug)]
@@ -55,6 +58,24 @@ pub enum Command {
     Unroll,
 }
 
+/// A number with one more digit, where that is at most `u32::MAX`. A look at the number mostly shows that it is.
+#[inline(always)]
+fn with_digit(number: u32, digit: u32) -> Option<u32>
+    requires { digit ≤ 9 }
+    ensures some { IfSome result (λ longer. longer ≡ number * 10 + digit) }
+    ensures fits { IfSome result (λ _. number * 10 + digit < 2 ^ 32) }
+    ensures none { IfNone result (2 ^ 32 ≤ number * 10 + digit) }
+{
+    if number < TENTH {
+        return Some(number * 10 + digit);
+    }
+    let longer = number as u64 * 10 + digit as u64;
+    if longer > u32::MAX as u64 {
+        return None;
+    }
+    Some(longer as u32)
+}
+
 /// The number whose digits are those of another one and then those in front, and what follows them. There is none where
 /// the number is over `u32::MAX`.
 fn longer_number(first: u32, bytes: &[u8]) -> Option<(u32, &[u8])>
@@ -67,11 +88,8 @@ fn longer_number(first: u32, bytes: &[u8]) -> Option<(u32, &[u8])>
     let mut number = first;
     let mut at = 0;
     while at < bytes.len() && bytes[at].is_ascii_digit() {
-        let longer = number as u64 * 10 + (bytes[at] - b'0') as u64;
-        if longer > u32::MAX as u64 {
-            return None;
-        }
-        number = longer as u32;
+        let longer = with_digit(number, (bytes[at] - b'0') as u32)?;
+        number = longer;
         at += 1;
     }
     Some((number, &bytes[at..]))

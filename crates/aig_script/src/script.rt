@@ -1,6 +1,6 @@
 //! Scripts: lines that drive a bench, answered one by one.
 ghost use Rattle.std.specs.Prelude.{◌≡◌, ◌≢◌, ◌<◌, ◌≤◌, ◌↔◌, ◌++◌, ℕ, List, [], map, length, take, All, Some};
-ghost use Rattle.std.specs.Prelude.{slice_get, OnOk, OnErr, IfOk, IfErr};
+ghost use Rattle.std.specs.Prelude.{slice_get, OnOk, OnErr, IfOk, IfErr, IfSome};
 ghost use Rattle.aig_bytes.specs.Bytes.{IsAtEnd, Writes};
 ghost use Rattle.aig_bytes.specs.Flow.{flow};
 ghost use Rattle.aig_script.specs.Lines.{whole, lines_from, rest_from};
@@ -16,7 +16,9 @@ use aig_command::ScriptFault;
 use aig_sim::Grid;
 use std::alloc::Global;
 
-/// How many bytes are searched for the end of a line at first.
+/// How many bytes are searched for the end of a line at first, one by one and together.
+const FIRST: usize = 6;
+
 const NEAR: usize = 32;
 
 /// Answers the line that ends with these bytes, and begins the next. A whole command is answered where it stands.
@@ -44,6 +46,25 @@ fn end_line<G: Grid, W: Write>(
     Ok(())
 }
 
+/// How many bytes come before the first LF, if that is among the first bytes. The shortest lines end there.
+#[inline(always)]
+fn short_length(bytes: &[u8]) -> Option<usize>
+    ensures bound { IfSome result (λ size. size < length bytes.now) }
+    ensures no_end { IfSome result (λ size. All (λ b. b ≢ 10) (take size bytes.now)) }
+    ensures ended { IfSome result (λ size. slice_get bytes.now size ≡ Some 10) }
+{
+    if bytes.len() < FIRST {
+        return None;
+    }
+    for size in 0..FIRST {
+        let byte = bytes[size];
+        if byte == b'\n' {
+            return Some(size);
+        }
+    }
+    None
+}
+
 /// How many bytes come before the first LF, or how many there are. Most lines are short, so few bytes are searched at
 /// first.
 fn piece_length(bytes: &[u8]) -> usize
@@ -51,6 +72,9 @@ fn piece_length(bytes: &[u8]) -> usize
     ensures no_end { All (λ b. b ≢ 10) (take result bytes.now) }
     ensures ended { result < length bytes.now → slice_get bytes.now result ≡ Some 10 }
 {
+    if let Some(size) = short_length(bytes) {
+        return size;
+    }
     if bytes.len() > NEAR {
         let near = line_length(&bytes[..NEAR]);
         if near < NEAR {
