@@ -6,7 +6,7 @@ use Rattle.std.proofs.lemmas.Option.{slice_get-get_or}
 use Rattle.aig_parts.specs.declared.ternary.Tern.{Tern}
 use Rattle.aig_parts.specs.declared.ternary.Tern.TheVariants.{X}
 use Rattle.aig_parts.specs.Literal.{variable}
-use Rattle.aig_values.specs.Cells.{Cells}
+use Rattle.aig_values.specs.Cells.{Cells, literal_value}
 use Rattle.aig_values.specs.InputRows.{with_cell, row_at}
 use Rattle.aig_values.specs.state.Padded.{ArePadded, IsPadded}
 use Rattle.aig_values.specs.Characters.{character}
@@ -66,11 +66,15 @@ module _ {A : Type 0} (cells : A → List Tern) where
         ∙ slice_get-get_or (take n (cells row)) v X (omega (arith, length-take n (cells row)))
         ∙ ap Some (get_or-take n (cells row) v X small) ∙ sym (slice_get-get_or (cells row) v X wide)
 
+    pub read_literal : (l : ℕ) → variable l < length grid.gate_flags
+        → literal_value (row_at grid.cells t) l ≡ literal_value (cells row) l
+    read_literal l lt =
+        ap (λ (r : List Tern). literal_value r l) taken
+        ∙ literal_of_row n (cells row) l (first_cells (variable l) lt)
+
     pub read_character : (l : ℕ) → variable l < length grid.gate_flags
         → literal_character (row_at grid.cells t) l ≡ literal_character (cells row) l
-    read_character l lt =
-        ap (λ (r : List Tern). literal_character r l) taken
-        ∙ ap character (literal_of_row n (cells row) l (first_cells (variable l) lt))
+    read_character l lt = ap character (read_literal l lt)
 
     pub have_cells : (ls : List ℕ) → All (λ l. variable l < length grid.gate_flags) ls
         → All (λ l. variable l < length (cells row)) ls

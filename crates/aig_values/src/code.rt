@@ -46,7 +46,11 @@ impl Code {
         ensures { result ≡ value }
     {
         Code {
-            bits: (value as u8 >> 1) | (value as u8 & 1) * 0b11,
+            bits: match value {
+                Tern::Zero => 0b00,
+                Tern::One => 0b11,
+                Tern::X => 0b01,
+            },
         }
     }
 

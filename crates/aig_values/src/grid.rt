@@ -7,7 +7,8 @@ ghost use Rattle.aig_parts.specs.declared.ternary.Tern.{Tern};
 ghost use Rattle.aig_parts.specs.declared.ternary.Tern.TheVariants.{X};
 ghost use Rattle.aig_parts.specs.Limits.{cell_limit, frame_limit};
 ghost use Rattle.aig_parts.specs.Literal.{variable};
-ghost use Rattle.aig_values.specs.Cells.{gate_value, fresh_row, with_new_cell, with_swept_row, HasCells};
+ghost use Rattle.aig_values.specs.Cells.{literal_value, gate_value, fresh_row, with_new_cell, with_swept_row};
+ghost use Rattle.aig_values.specs.Cells.{HasCells};
 ghost use Rattle.aig_values.specs.InputRows.{with_cell, row_at};
 ghost use Rattle.aig_values.specs.TraceText.{literal_character};
 
@@ -50,6 +51,17 @@ pub trait Grid: Sized + Drop {
         requires frame { frame < length (cells self.now) }
         requires variable { variable < length (gate_flags self.now) }
         ensures { slice_get (row_at (cells self.now) frame) variable ≡ Some result };
+
+    /// The value of a literal at a frame.
+    fn literal(&self, frame: u32, literal: Lit) -> Tern
+        requires frame { frame < length (cells self.now) }
+        requires variable { variable literal < length (gate_flags self.now) }
+        ensures { result ≡ literal_value (row_at (cells self.now) frame) literal }
+    {
+        Code::of(self.get(frame, literal.var()))
+            .with_sign(literal.is_neg())
+            .value()
+    }
 
     /// The character of the value of a literal at a frame: `0`, `1` or `x`.
     fn character(&self, frame: u32, literal: Lit) -> u8

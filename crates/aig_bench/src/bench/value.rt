@@ -8,7 +8,6 @@ ghost use Rattle.aig_bench.specs.state.Current.{IsCurrentBefore};
 
 use crate::engine::Engine;
 use aig_base::{Latch, Lit, Tern};
-use aig_values::code::Code;
 use aig_values::{Grid, first_value};
 
 /// The value of a literal by the cell of its variable. No jump depends on either.
@@ -17,9 +16,7 @@ pub fn literal_at<G: Grid>(grid: &G, frame: u32, literal: Lit) -> Tern
     requires variable { variable literal < length (G.gate_flags grid.now) }
     ensures { result ≡ literal_value (row_at (G.cells grid.now) frame) literal }
 {
-    Code::of(grid.get(frame, literal.var()))
-        .with_sign(literal.is_neg())
-        .value()
+    grid.literal(frame, literal)
 }
 
 impl<G: Grid> Engine<G> {

@@ -4,7 +4,7 @@ ghost use Rattle.std.specs.Prelude.{slice_set, slice_index_or};
 ghost use Rattle.aig_parts.specs.Formed.{limit};
 ghost use Rattle.aig_parts.specs.declared.ternary.Tern.TheVariants.{X};
 ghost use Rattle.aig_parts.specs.Literal.{variable};
-ghost use Rattle.aig_values.specs.Cells.{fresh_row, gate_value, with_gate_value, HasVariablesBelow};
+ghost use Rattle.aig_values.specs.Cells.{fresh_row, literal_value, gate_value, with_gate_value, HasVariablesBelow};
 ghost use Rattle.aig_values.specs.state.Padded.{AreLengthened};
 ghost use Rattle.aig_values.specs.TraceText.{literal_character};
 
@@ -71,6 +71,14 @@ impl<R: CellRow> Model for RowGrid<R> {
     } };
 
     ghost invariant = { λ g. ArePadded g.variables g.room g.gates.flags (map R.cells g.rows.items) };
+}
+
+// The value of a literal.
+fn literal_in<R: CellRow>(row: &R, literal: Lit) -> Tern
+    requires { variable literal < length (R.cells row.now) }
+    ensures { result ≡ literal_value (R.cells row.now) literal }
+{
+    row.literal(literal).value()
 }
 
 // The character of the value of a literal.
@@ -182,6 +190,10 @@ impl<R: CellRow> Grid for RowGrid<R> {
 
     fn get(&self, frame: u32, variable: u32) -> Tern {
         self.rows[frame as usize].get(variable as usize).value()
+    }
+
+    fn literal(&self, frame: u32, literal: Lit) -> Tern {
+        literal_in(&self.rows[frame as usize], literal)
     }
 
     fn character(&self, frame: u32, literal: Lit) -> u8 {
