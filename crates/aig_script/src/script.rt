@@ -53,7 +53,8 @@ fn short_length(bytes: &[u8]) -> Option<usize>
     ensures no_end { IfSome result (λ size. All (λ b. b ≢ 10) (take size bytes.now)) }
     ensures ended { IfSome result (λ size. slice_get bytes.now size ≡ Some 10) }
 {
-    if bytes.len() < FIRST {
+    // A line with fields is longer, unless it appends a frame.
+    if bytes.len() < FIRST || (bytes[1] == b' ' && bytes[0] != b'+') {
         return None;
     }
     for size in 0..FIRST {
