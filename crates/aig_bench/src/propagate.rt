@@ -85,7 +85,7 @@ impl<G: Grid> Engine<G> {
     // Lets these gates wait.
     fn force(&mut self, gates: &[u32])
         requires { (v : ℕ) → Contains gates.now v → IsGate self.old.pair.circuit v }
-        ensures same { self.new ≡ record self.old { queued = self.new.queued } }
+        ensures same { self.new ≡ record self.old { queued = self.new.queued; heads = self.new.heads } }
         ensures queued { (v : ℕ) → IsMarked self.new.queued v ↔ (IsMarked self.old.queued v ⊎ Contains gates.now v) }
     {
         self.pending.buckets.link_all(gates);

@@ -36,7 +36,7 @@ module _ (n first : ℕ) (next : List ℕ) (marks : List Bool) (size : length ma
     list_queued = linked_queued (replicate (n + 1) 0) (first ∷ []) next marks h v 0 first at (omega arith) positive refl unmarked
 
   pub list_none : first ≡ 0 → (u : ℕ) → IsMarked marks u → ⊥
-  list_none e u m = none_of_level (replicate (n + 1) 0) (first ∷ []) next marks h 0 (omega arith) first refl e u m (marked_zero u m)
+  list_none e u m = none_of_level (replicate (n + 1) 0) (first ∷ []) next marks h 0 (omega arith) e u m (marked_zero u m)
 
   module _ (some : first ≢ 0) where
     pub list_first : IsMarked marks first

@@ -1,6 +1,6 @@
 -- What one evaluation does to grid and buckets.
 use Rattle.std.proofs.Common.{◌≡◌, ◌≢◌, ◌↔◌, inl, inr, ℕ, ◌+◌, ◌*◌, ◌<◌, ◌≤◌, Bool, List, ◌∷◌, length, get_or, Some}
-use Rattle.std.proofs.Common.{slice_get, slice_set, Contains, refl, sym, ap, ◌∙◌, subst, arith}
+use Rattle.std.proofs.Common.{slice_get, slice_index, slice_set, Contains, refl, sym, ap, ◌∙◌, subst, arith}
 use Rattle.std.proofs.lemmas.Bool.{cases_eq}
 use Rattle.std.proofs.lemmas.List.{length-set}
 use Rattle.std.proofs.lemmas.Option.{same_Some}
@@ -21,7 +21,7 @@ use Rattle.aig_bench.proofs.carries.NextLatches.{next_latches_same, next_latches
 use Rattle.aig_bench.specs.declared.propagate.buckets.Buckets.{Buckets}
 use Rattle.aig_bench.specs.declared.engine.driven_circuit.DrivenCircuit.{DrivenCircuit}
 use Rattle.aig_bench.specs.declared.engine.fanouts.Fanouts.{Fanouts}
-use Rattle.aig_bench.specs.state.Buckets.{AreBuckets, IsQueued, CanBeQueued, Links, TakesVariable}
+use Rattle.aig_bench.specs.state.Buckets.{AreBuckets, IsFirst, IsQueued, CanBeQueued, Links, TakesVariable}
 use Rattle.aig_bench.specs.state.Current.{AreGateFlags, IsLaidOut}
 use Rattle.aig_bench.specs.state.DrivenCircuit.{pair_of}
 use Rattle.aig_parts.specs.declared.raw.Raw.{Raw}
@@ -30,6 +30,7 @@ use Rattle.aig_bench.specs.state.Sweep.{IsWork, Sweeps}
 use Rattle.aig_bench.specs.state.Waiting.{HaveSides, Sides, sides_of}
 use Rattle.aig_bench.proofs.cells.CellLemmas.{get_set_other, row_written, row_other, frames_written}
 use Rattle.aig_bench.proofs.cells.Flags.{gate_cells}
+use Rattle.aig_bench.proofs.queues.Chained.{first_is}
 use Rattle.aig_bench.proofs.passes.Sweeps.{lower, swept_changed, swept_same, cell_changed, cell_same}
 
 -- the list of a variable has the gates that read it
@@ -68,12 +69,11 @@ laid_out_written driven t u w flags flags' old new h is lt positive e = record {
     there s ne = ap (λ (c : List (List Tern)). row_at c s) is ∙ row_other old t u w s ne
 
 -- what was taken is a gate of the circuit
-pub taken_gate : (driven : DrivenCircuit) (fanouts : Fanouts) (flags : List Bool) (cells : List (List Tern)) (b : Buckets) (g : Gate)
-    → IsWork driven fanouts flags cells b → IsQueued b (variable g.lhs) → g.lhs ≡ 2 * variable g.lhs
-    → slice_get b.marks.sides (variable g.lhs) ≡ Some (sides_of g)
+pub taken_gate : (driven : DrivenCircuit) (fanouts : Fanouts) (flags : List Bool) (cells : List (List Tern)) (b : Buckets) (v : ℕ) (g : Gate)
+    → IsWork driven fanouts flags cells b → IsQueued b v → g.lhs ≡ 2 * v → slice_get b.marks.sides v ≡ Some (sides_of g)
     → (q : ℕ) × (slice_get driven.circuit.gates q ≡ Some g)
-taken_gate driven fanouts flags cells b g work waits even sides =
-    let (x, q, at, e) = gate_of driven.circuit (variable g.lhs) (work.gates (variable g.lhs) waits) in
+taken_gate driven fanouts flags cells b v g work waits lhs_is sides =
+    let (x, q, at, e) = gate_of driven.circuit v (work.gates v waits) in
     let d = gate_definition driven.circuit work.driven_is.circuit.sound q x at in
     let both = same_Some (sides_of x) (sides_of g)
     (sym (work.sides.each q x at) ∙ ap (slice_get b.marks.sides) e ∙ sides) in
@@ -85,12 +85,12 @@ taken_gate driven fanouts flags cells b g work waits even sides =
 
 module _ (driven : DrivenCircuit) (fanouts : Fanouts) (flags : List Bool) (cells : List (List Tern)) (b b' : Buckets) (t l w q : ℕ) (g : Gate)
     (work : IsWork driven fanouts flags cells b) (lt : t < length driven.stimulus.rows)
-    (takes : TakesVariable fanouts.levels l b b' (Some w)) (at : slice_get driven.circuit.gates q ≡ Some g) (e : variable g.lhs ≡ w) where
+    (takes : TakesVariable fanouts.levels l b b' w) (at : slice_get driven.circuit.gates q ≡ Some g) (e : variable g.lhs ≡ w) where
   abbrev v : ℕ
   v = variable g.lhs
 
-  taken : TakesVariable fanouts.levels l b b' (Some v)
-  taken = subst (λ (z : ℕ). TakesVariable fanouts.levels l b b' (Some z)) (sym e) takes
+  taken : TakesVariable fanouts.levels l b b' v
+  taken = subst (TakesVariable fanouts.levels l b b') (sym e) takes
 
   in_range : v ≤ driven.circuit.max_var
   in_range = gate_in_range driven.circuit work.driven_is.circuit.sound q g at
@@ -137,6 +137,15 @@ module _ (driven : DrivenCircuit) (fanouts : Fanouts) (flags : List Bool) (cells
   pub level_is : slice_get fanouts.levels v ≡ Some l
   level_is = taken.of_level
 
+  head_inside : l < length b'.head.items
+  head_inside =
+      let below = work.heads v l (gate_is driven.circuit q g at) level in omega (arith, taken.heads)
+
+  pub next_first : (next : ℕ) → slice_index b'.head.items l ≡ next
+      → IsFirst fanouts.levels b'.head.items b'.marks.items l next
+  next_first next is =
+      first_is fanouts.levels b'.head.items b'.marks.next b'.marks.items taken.buckets.chained l head_inside next is
+
   module _ (xs : List ℕ) (read : xs ≡ list_of fanouts.readers w) where
     reads : (u : ℕ) → Contains xs u ↔ ReadsVariable driven.circuit u v
     reads = each_reader driven.circuit fanouts.readers xs v work.readers in_range (read ∙ ap (list_of fanouts.readers) (sym e))
@@ -161,6 +170,16 @@ module _ (driven : DrivenCircuit) (fanouts : Fanouts) (flags : List Bool) (cells
               omega (arith, taken.heads);
         }
 
+    -- a reader has a higher level
+    reader_over : (u : ℕ) → slice_get fanouts.levels u ≡ Some l → Contains xs u → ⊥
+    reader_over u stands i =
+        let (r, x, there, is, side) = (reads u).0 i in
+        let k : Level driven.circuit u l = level_of_gate driven.circuit fanouts.levels u l work.levels
+        work.driven_is.circuit.acyclic (gate_reads u i) stands in
+        let o : l < l = lower (pair_of driven) t work.driven_is.circuit r x v l l there side level
+        (subst (λ (z : ℕ). Level driven.circuit z l) (sym is) k) in
+        omega arith
+
     module _ (b'' : Buckets) (are : AreBuckets fanouts.levels b'') (links : Links (Contains xs) b' b'') where
       pub linked_work : IsWork driven fanouts flags cells b''
       linked_work = record {
@@ -178,21 +197,20 @@ module _ (driven : DrivenCircuit) (fanouts : Fanouts) (flags : List Bool) (cells
         ];
       }
 
-      -- a reader has a higher level, so at this level no more wait
+      -- the level's chain is as it was
+      pub linked_first : (next : ℕ) → slice_index b'.head.items l ≡ next
+          → IsFirst fanouts.levels b''.head.items b''.marks.items l next
+      linked_first next is =
+          first_is fanouts.levels b''.head.items b''.marks.next b''.marks.items are.chained l
+          (let below = head_inside in omega (arith, links.heads)) next
+          (links.kept l (λ u i s. reader_over u (ap (λ (ls : List ℕ). slice_get ls u) (sym taken.buckets.levels_are) ∙ s) i) ∙ is)
+
+      -- at this level no more wait
       pub linked_less : (u : ℕ) → slice_get fanouts.levels u ≡ Some l → IsQueued b'' u → IsQueued b u
       linked_less u stands k = elim ((links.queued u).0 k) [
         | inl o ↦ queued_less u o
         | inr i ↦ absurd (reader_over u stands i)
       ]
-        where
-          reader_over : (u : ℕ) → slice_get fanouts.levels u ≡ Some l → Contains xs u → ⊥
-          reader_over u stands i =
-              let (r, x, there, is, side) = (reads u).0 i in
-              let k : Level driven.circuit u l = level_of_gate driven.circuit fanouts.levels u l work.levels
-              work.driven_is.circuit.acyclic (gate_reads u i) stands in
-              let o : l < l = lower (pair_of driven) t work.driven_is.circuit r x v l l there side level
-              (subst (λ (z : ℕ). Level driven.circuit z l) (sym is) k) in
-              omega arith
 
       pub linked_no_more : IsQueued b'' v → ⊥
       linked_no_more k = elim ((links.queued v).0 k) [

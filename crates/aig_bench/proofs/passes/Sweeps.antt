@@ -259,47 +259,6 @@ module _ (p : CircuitAndRows) (t : ℕ) where
         };
   }
 
-  -- no gate of the level waits
-  pub sweeps_level : (levels : List ℕ) (n : ℕ) (row : List Tern) (marks : List Bool) → AreLevels p.circuit levels
-      → ((u : ℕ) → IsMarked marks u → slice_get levels u ≢ Some n)
-      → Sweeps p t n (n + 1) row marks row marks 0 0
-  sweeps_level levels n row marks are none = record {
-    sweep = λ forced old xs ys fits s. record {
-      evaluated_now = xs;
-      changed_now = ys;
-      sweeping = record {
-        done = s.done;
-        size = s.size;
-        passing = s.passing;
-        low = λ v m d l. let le = s.low v m d l in omega arith;
-        high = λ v m k l.
-            let le = s.high v m k l in
-            let ne : m ≢ n = λ e. none v k (are.each v m l ∙ ap Some e) in
-            omega arith;
-        gates = s.gates;
-        once = s.once;
-        each = s.each;
-        changed_once = s.changed_once;
-        changed_each = s.changed_each;
-      };
-      evaluated_more = omega arith;
-      changed_more = omega arith;
-    };
-  }
-
-  -- the last of a level was evaluated
-  pub sweeps_past : (levels : List ℕ) (n m : ℕ) (row mid new : List Tern) (marks marks' marks'' : List Bool) (e f : ℕ)
-      → AreLevels p.circuit levels → Sweeps p t n m row marks mid marks' e f → Sweeps p t m m mid marks' new marks'' 0 0
-      → ((u : ℕ) → IsMarked marks'' u → slice_get levels u ≢ Some m)
-      → Sweeps p t n (m + 1) row marks new marks'' e f
-  sweeps_past levels n m row mid new marks marks' marks'' e f are h g none =
-      let k = sweeps_then n m (m + 1) row mid new marks marks' marks'' e f (0 + 0) (0 + 0) h
-      (sweeps_then m m (m + 1) mid new new marks' marks'' marks'' 0 0 0 0 g (sweeps_level levels m new marks'' are none)) in
-      let i : e + (0 + 0) ≡ e = omega arith in
-      let j : f + (0 + 0) ≡ f = omega arith in
-      subst (λ (a : ℕ). Sweeps p t n (m + 1) row marks new marks'' a f) i
-      (subst (λ (a : ℕ). Sweeps p t n (m + 1) row marks new marks'' (e + (0 + 0)) a) j k)
-
   -- none of the levels in between waits
   pub sweeps_far : (levels : List ℕ) (n m k : ℕ) (row mid : List Tern) (marks marks' : List Bool) (e f : ℕ)
       → AreLevels p.circuit levels → Sweeps p t n m row marks mid marks' e f → m ≤ k

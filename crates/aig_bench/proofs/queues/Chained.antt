@@ -7,7 +7,7 @@ use Rattle.std.proofs.lemmas.List.{get_or_read, length-replicate, get_or-replica
 use Rattle.std.proofs.lemmas.Option.{slice_get_within, get_or_from_slice_get}
 use Rattle.aig_base.specs.state.Marks.{IsMarked}
 use Rattle.aig_base.proofs.lists.Positions.{Contains-cons, no_element}
-use Rattle.aig_bench.specs.state.Buckets.{IsBucketChain, HasChain, AreChained}
+use Rattle.aig_bench.specs.state.Buckets.{IsBucketChain, HasChain, AreChained, IsFirst}
 use Rattle.aig_bench.proofs.cells.CellLemmas.{get_set_same, get_set_other}
 
 pub head_in : (x : ℕ) (xs : List ℕ) → Contains (x ∷ xs) x
@@ -170,19 +170,18 @@ module _ (levels head next : List ℕ) (marks : List Bool) (h : AreChained level
 
   module _ (l : ℕ) (lt : l < length head) where
     -- where a level has no first variable, none of it is marked
-    pub none_of_level : (first : ℕ) → first ≡ get_or head l first → first ≡ 0 → (u : ℕ) → IsMarked marks u
-        → slice_get levels u ≢ Some l
-    none_of_level first is empty u m at =
+    pub none_of_level : get_or head l 0 ≡ 0 → (u : ℕ) → IsMarked marks u → slice_get levels u ≢ Some l
+    none_of_level empty u m at =
         let c = h.chains l lt in
-        let e : get_or head l 0 ≡ first = sym (get_or_read head l first lt is 0) in
-        no_element u (subst (λ xs. Contains xs u) (ends next (get_or head l 0) c.chain c.leads (e ∙ empty)) ((c.each u).1 (m, at)))
+        no_element u (subst (λ xs. Contains xs u) (ends next (get_or head l 0) c.chain c.leads empty) ((c.each u).1 (m, at)))
 
-    module _ (first : ℕ) (is : first ≡ get_or head l first) (some : first ≢ 0) where
+    pub first_is : (first : ℕ) → get_or head l 0 ≡ first → IsFirst levels head marks l first
+    first_is first is = record { is = is; none = λ e. none_of_level (is ∙ e) }
+
+    module _ (first : ℕ) (is : get_or head l 0 ≡ first) (some : first ≢ 0) where
       begins : Begins next first (h.chains l lt).chain
       begins =
-          let c = h.chains l lt in
-          let e : get_or head l 0 ≡ first = sym (get_or_read head l first lt is 0) in
-          begun next first c.chain (rw e at c.leads) some
+          let c = h.chains l lt in begun next first c.chain (rw is at c.leads) some
 
       first_in : Contains (h.chains l lt).chain first
       first_in = subst (λ xs. Contains xs first) (sym begins.is) (head_in first begins.rest)

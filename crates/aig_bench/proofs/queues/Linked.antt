@@ -17,6 +17,8 @@ module _ (xs : List ℕ) where
   pub links_none : (b : Buckets) → Links (Among xs 0) b b
   links_none b = record {
     heads = refl;
+    kept = λ l none. refl;
+    levels = refl;
     sides = refl;
     queued = λ u. (λ m. inl m, λ k. elim k [ inl m ↦ m | inr a ↦ absurd (omega (arith, a.1)) ]);
   }
@@ -25,6 +27,10 @@ module _ (xs : List ℕ) where
       → Links (λ u. u ≡ x) old new → Links (Among xs (n + 1)) start new
   links_more n x start old new at h k = record {
     heads = k.heads ∙ h.heads;
+    kept = λ l none.
+        k.kept l (λ u e s. none u (n, omega arith, at ∙ ap Some (sym e)) (ap (λ (ls : List ℕ). slice_get ls u) (sym h.levels) ∙ s))
+        ∙ h.kept l (λ u a. none u (a.0, omega (arith, a.1), a.2));
+    levels = k.levels ∙ h.levels;
     sides = k.sides ∙ h.sides;
     queued = λ u. (
       λ m. elim ((k.queued u).0 m) [
@@ -50,6 +56,8 @@ module _ (xs : List ℕ) where
       → Links (Contains xs) start new
   links_all n start new is h = record {
     heads = h.heads;
+    kept = λ l none. h.kept l (λ u a. none u (contains_at xs a.0 u a.2));
+    levels = h.levels;
     sides = h.sides;
     queued = λ u. (
       λ m. elim ((h.queued u).0 m) [ inl s ↦ inl s | inr a ↦ inr (contains_at xs a.0 u a.2) ],

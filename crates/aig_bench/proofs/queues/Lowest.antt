@@ -1,7 +1,6 @@
 -- The levels of which no variable waits.
-use Rattle.std.proofs.Common.{◌≡◌, ℕ, ◌<◌, ◌≤◌, inl, inr, zero, suc, List, length, get_or, replicate, refl, sym, arith}
+use Rattle.std.proofs.Common.{◌≡◌, ℕ, ◌<◌, ◌≤◌, inl, inr, zero, suc, List, length, get_or, replicate, refl, arith}
 use Rattle.std.proofs.lemmas.Bool.{cases_eq}
-use Rattle.std.proofs.lemmas.Grind.{get_or_default_zero}
 use Rattle.aig_bench.specs.declared.propagate.buckets.Buckets.{Buckets}
 use Rattle.aig_bench.specs.state.Buckets.{AreBuckets, AreLevelsEmpty, IsOccupied}
 use Rattle.aig_parts.specs.state.Bits.{HasBit}
@@ -20,8 +19,7 @@ module _ (levels : List ℕ) (b : Buckets) (from : ℕ) (h : AreBuckets levels b
   clear_to end inside none u l k at le below =
       let lt : l < length b.head.items = omega arith in
       let e = none_first l (none l le below) in
-      none_of_level levels b.head.items b.marks.next b.marks.items h.chained l lt (get_or b.head.items l 0)
-      (sym (get_or_default_zero b.head.items l (get_or b.head.items l 0) lt)) e u k at
+      none_of_level levels b.head.items b.marks.next b.marks.items h.chained l lt e u k at
 
 -- no level is in the set, and no chain has a variable
 pub none_occupied : (head occupied : List ℕ) (n : ℕ) → head ≡ replicate n 0 → ((l : ℕ) → HasBit occupied l → ⊥)

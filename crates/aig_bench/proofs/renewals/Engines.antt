@@ -19,11 +19,11 @@ use Rattle.aig_bench.specs.state.Latches.{QueuesNextLatches}
 use Rattle.aig_bench.specs.state.Pending.{IsEngine, IsSettledBench, state_of}
 use Rattle.aig_bench.specs.state.Passing.{IsConsistent}
 use Rattle.aig_bench.specs.state.Renewed.{RenewsAll}
-use Rattle.aig_bench.specs.state.Steps.{report_of, Settles, SettlesLevels}
+use Rattle.aig_bench.specs.state.Steps.{Settles, SettlesLevels}
 use Rattle.aig_bench.specs.state.Sweep.{IsWork, PassEnds, PassStarts, Sweeps}
 use Rattle.aig_bench.proofs.edits.Edited.{all_current, working}
 use Rattle.aig_bench.proofs.carries.NextLatches.{next_latches_none, next_latches_then}
-use Rattle.aig_bench.proofs.passes.Sweeps.{sweeps_none, sweeps_then, sweeps_past, sweeps_far}
+use Rattle.aig_bench.proofs.passes.Sweeps.{sweeps_none, sweeps_then, sweeps_far}
 use Rattle.aig_bench.proofs.passes.SweepEnds.{ended}
 
 pub row_none : (t : ℕ) (s : EngineState) → ChangesRow t 0 s s
@@ -35,7 +35,7 @@ row_none t s = record {
   evaluations = omega arith;
 }
 
-pub levels_none : (t n : ℕ) (s : EngineState) → SettlesLevels t n n s s (report_of None)
+pub levels_none : (t n : ℕ) (s : EngineState) → SettlesLevels t n n s s (record { evaluated = 0; changed = 0 })
 levels_none t n s = record {
   row = row_none t s;
   here = refl;
@@ -76,18 +76,18 @@ module _ (t : ℕ) (a b c : EngineState) where
         (subst (λ (p : CircuitAndRows). Sweeps p t m l (row_at b.cells t) b.queued (row_at c.cells t) c.queued y.evaluated y.changed) h.row.pair k.sweeps));
   }
 
-  -- after them nothing of the level waits
-  pub levels_past : (n : ℕ) (x : EditReport) → AreLevels a.pair.circuit a.levels → SettlesLevels t n n a b x
-      → SettlesLevels t n n b c (report_of None) → ((u : ℕ) → IsMarked c.queued u → slice_get b.levels u ≢ Some n)
-      → SettlesLevels t n (n + 1) a c x
-  levels_past n x are h k none = record {
-    row = row_then x.evaluated 0 x.evaluated h.row k.row (omega arith);
-    here = k.here ∙ h.here;
-    few = h.few;
-    sweeps = sweeps_past a.pair t a.levels n n (row_at a.cells t) (row_at b.cells t) (row_at c.cells t) a.queued b.queued c.queued _ _ are h.sweeps
-        (subst (λ (p : CircuitAndRows). Sweeps p t n n (row_at b.cells t) b.queued (row_at c.cells t) c.queued 0 0) h.row.pair k.sweeps)
-        (subst (λ (xs : List ℕ). (u : ℕ) → IsMarked c.queued u → slice_get xs u ≢ Some n) h.row.levels none);
-  }
+-- after them nothing of the level waits
+pub levels_past : (t n : ℕ) (a b : EngineState) (x : EditReport) → AreLevels a.pair.circuit a.levels → SettlesLevels t n n a b x
+    → ((u : ℕ) → IsMarked b.queued u → slice_get b.levels u ≢ Some n) → SettlesLevels t n (n + 1) a b x
+levels_past t n a b x are h none = record {
+  row = h.row;
+  here = h.here;
+  few = h.few;
+  sweeps = sweeps_far a.pair t a.levels n n (n + 1) (row_at a.cells t) (row_at b.cells t) a.queued b.queued _ _ are h.sweeps (omega arith)
+      (λ u l m at le lt.
+      let same : l ≡ n = omega arith in
+      none u m (ap (λ (ls : List ℕ). slice_get ls u) h.row.levels ∙ at ∙ ap Some same));
+}
 
 module _ (driven : DrivenCircuit) (fanouts : Fanouts) (pending : Pending) (order : Order) (flags : List Bool) (cells : List (List Tern)) (n t from : ℕ)
     (a b : EngineState) (x : EditReport) (work : IsWork driven fanouts flags cells pending.buckets)

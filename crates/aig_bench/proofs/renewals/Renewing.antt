@@ -49,7 +49,7 @@ advanced m = record m { here = m.ahead; ahead = m.here }
 
 module _ (forced : List ℕ) (first t : ℕ) (a s f : EngineState) (e : EditReport) (sound : IsSound a.pair.circuit)
     (stale : IsStaleFrom a forced first) (le : first ≤ t) (lt : t < length a.pair.rows) (h : RenewsUpTo forced first t a s e)
-    (same : f ≡ record s { queued = f.queued })
+    (same : f ≡ record s { queued = f.queued; heads = f.heads })
     (queued : (v : ℕ) → IsMarked f.queued v ↔ (IsMarked s.queued v ⊎ Contains forced v)) where
   abbrev p : CircuitAndRows
   p = a.pair

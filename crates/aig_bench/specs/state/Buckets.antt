@@ -1,12 +1,10 @@
 -- Gates that wait, in a chain for each level (our own choice).
 -- Example: an empty queue: the row is current, and what was evaluated is what was touched.
 use Rattle.std.specs.Prelude.{◌≡◌, ◌≢◌, ◌⊎◌, ◌↔◌, ℕ, ◌+◌, ◌*◌, ◌<◌, ◌≤◌, Bool, IsTrue, List, [], ◌∷◌, length, slice_get}
-use Rattle.std.specs.Prelude.{slice_index, Contains, Option, Some, None, IfSome, IfNone}
+use Rattle.std.specs.Prelude.{slice_index, Contains, Option, Some, None}
 use Rattle.std.specs.Vec.{vec_capacity}
 use Rattle.aig_base.specs.state.Marks.{IsMarked}
-use Rattle.aig_parts.specs.declared.gate.Gate.{Gate}
 use Rattle.aig_parts.specs.Formed.{limit}
-use Rattle.aig_parts.specs.Literal.{variable}
 use Rattle.aig_parts.specs.state.Bits.{HasBit}
 use Rattle.aig_bench.specs.declared.propagate.buckets.Buckets.{Buckets}
 
@@ -66,28 +64,30 @@ abbrev pub IsLowest : List ℕ → Buckets → ℕ → Option ℕ → Type 0
 IsLowest levels b from (Some l) = (from ≤ l) × AreLevelsEmpty levels b from l
 IsLowest levels b from None = AreLevelsEmpty levels b from (length b.head.items)
 
--- what waits afterwards waited before, or is one of these; as many levels are there, and gates have the same sides
+-- the first variable of the level's chain; 0 where none of the level waits
+pub record IsFirst (levels head : List ℕ) (marks : List Bool) (level first : ℕ) : Type 0 where
+  pub is : slice_index head level ≡ first
+  pub none : first ≡ 0 → (u : ℕ) → IsMarked marks u → slice_get levels u ≢ Some level
+
+-- what waits afterwards waited before, or is one of these; there are as many levels, the levels of none of these begin
+-- with the same variable, and variables have the same levels and sides
 pub record Links (P : ℕ → Type 0) (old new : Buckets) : Type 0 where
   pub heads : length new.head.items ≡ length old.head.items
+  pub kept : (l : ℕ) → ((u : ℕ) → P u → slice_get old.marks.levels u ≢ Some l)
+      → slice_index new.head.items l ≡ slice_index old.head.items l
+  pub levels : new.marks.levels ≡ old.marks.levels
   pub sides : new.marks.sides ≡ old.marks.sides
   pub queued : (u : ℕ) → IsQueued new u ↔ (IsQueued old u ⊎ P u)
-
--- the variable of a gate that was taken
-abbrev pub taken_variable : Option Gate → Option ℕ
-taken_variable None = None
-taken_variable (Some g) = Some (variable g.lhs)
 
 -- all of them but the levels of variables
 abbrev pub without_levels : Buckets → Buckets
 without_levels b = record b { marks = record b.marks { levels = [] } }
 
--- a variable of the level that waited waits no more, and the others wait as before; or none of the level waits
-pub record TakesVariable (levels : List ℕ) (level : ℕ) (old new : Buckets) (result : Option ℕ) : Type 0 where
+-- the variable of the level waited and waits no more, and the others wait as before
+pub record TakesVariable (levels : List ℕ) (level : ℕ) (old new : Buckets) (v : ℕ) : Type 0 where
   pub buckets : AreBuckets levels new
   pub heads : length new.head.items ≡ length old.head.items
   pub sides : new.marks.sides ≡ old.marks.sides
-  pub was_queued : IfSome result (λ v. IsQueued old v)
-  pub of_level : IfSome result (λ v. slice_get levels v ≡ Some level)
-  pub queued : IfSome result (λ v. (u : ℕ) → IsQueued new u ↔ (IsQueued old u × (u ≢ v)))
-  pub none : IfNone result ((u : ℕ) → IsQueued new u → slice_get levels u ≢ Some level)
-  pub same : IfNone result (new ≡ old)
+  pub was_queued : IsQueued old v
+  pub of_level : slice_get levels v ≡ Some level
+  pub queued : (u : ℕ) → IsQueued new u ↔ (IsQueued old u × (u ≢ v))

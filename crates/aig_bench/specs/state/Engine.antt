@@ -8,14 +8,15 @@ use Rattle.aig_bench.specs.BenchState.{CircuitAndRows}
 use Rattle.aig_bench.specs.state.Current.{AreCurrent}
 use Rattle.aig_bench.specs.state.Latches.{QueuesNextLatches}
 
--- how the gates are taken at a new frame, the gates that wait, by variable, and the latches that are carried into the
--- current frame and into the next one, by number
+-- how the gates are taken at a new frame, the gates that wait, by variable, the first one of each level's chain, and
+-- the latches that are carried into the current frame and into the next one, by number
 pub record EngineState : Type 0 where
   pub pair : CircuitAndRows
   pub cells : List (List Tern)
   pub levels : List ℕ
   pub way : Way
   pub queued : List Bool
+  pub heads : List ℕ
   pub here : List Bool
   pub ahead : List Bool
   pub evaluations : ℕ

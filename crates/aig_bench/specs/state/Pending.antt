@@ -46,6 +46,7 @@ state_of driven fanouts pending order cells n = record {
   levels = fanouts.levels;
   way = order.way;
   queued = pending.buckets.marks.items;
+  heads = pending.buckets.head.items;
   here = pending.here.marks.items;
   ahead = pending.ahead.marks.items;
   evaluations = n;

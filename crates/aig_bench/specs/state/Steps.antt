@@ -1,5 +1,5 @@
 -- Steps of an engine over one frame: what was evaluated of it, and what that answers for (our own choice).
-use Rattle.std.specs.Prelude.{◌≡◌, ℕ, suc, ◌+◌, ◌*◌, ◌≤◌, Bool, if◌then◌else◌, List, Option, Some, None, Contains}
+use Rattle.std.specs.Prelude.{◌≡◌, ℕ, suc, ◌+◌, ◌*◌, ◌≤◌, Bool, if◌then◌else◌, List, Contains}
 use Rattle.aig_parts.specs.declared.ternary.Tern.{Tern}
 use Rattle.aig_parts.specs.Formed.{limit}
 use Rattle.aig_base.specs.state.Marks.{IsMarked}
@@ -15,9 +15,8 @@ abbrev pub frame_work : ℕ
 frame_work = (limit + 1) * (limit + 1)
 
 -- what the evaluation of one gate counts for, by whether its cell changed
-abbrev pub report_of : Option Bool → EditReport
-report_of None = record { evaluated = 0; changed = 0 }
-report_of (Some b) = record { evaluated = 1; changed = if b then 1 else 0 }
+abbrev pub report_of : Bool → EditReport
+report_of b = record { evaluated = 1; changed = if b then 1 else 0 }
 
 -- the source of the variable was put
 pub record PutsSource (t v : ℕ) (old new : EngineState) : Type 0 where

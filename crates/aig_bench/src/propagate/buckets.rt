@@ -3,17 +3,23 @@ ghost use Rattle.std.specs.Prelude.{◌≡◌, ℕ, ◌+◌, ◌<◌, ◌≤◌,
 ghost use Rattle.std.specs.Prelude.{slice_index, slice_index_or, slice_set, Contains, ◌≢◌, ◌*◌};
 ghost use Rattle.std.specs.Prelude.{[], ◌∷◌, ◌++◌};
 ghost use Rattle.aig_parts.specs.Formed.{limit};
-ghost use Rattle.aig_parts.specs.Literal.{variable};
 ghost use Rattle.aig_base.specs.Levels.{AreLevels};
 ghost use Rattle.aig_bench.specs.declared.propagate.buckets.Buckets as buckets;
 ghost use Rattle.aig_bench.specs.state.Buckets.{AreBuckets, IsQueued, CanBeQueued, FitsOneVariable};
-ghost use Rattle.aig_bench.specs.state.Buckets.{IsLowest, IsOccupied, Links, TakesVariable, taken_variable};
+ghost use Rattle.aig_bench.specs.state.Buckets.{IsFirst, IsLowest, IsOccupied, Links, TakesVariable};
 ghost use Rattle.aig_bench.specs.state.Waiting.{HaveSides, sides_of};
 
 use crate::propagate::level_set::LevelSet;
 use crate::propagate::waiting::Waiting;
 use aig_base::{Circuit, Gate, LevelCopy, Levels, Lit, Memory};
 use std::alloc::Global;
+
+/// A gate that waited, and the variable that was next in the chain of its level; 0 stands for none.
+#[derive(Clone, Copy)]
+pub struct Taken {
+    pub gate: Gate,
+    pub next: u32,
+}
 
 /// Variables of gates that wait, a chain for each level, and a copy of the levels. It takes memory when it is made and
 /// when the circuit grows, and else none.
@@ -165,27 +171,37 @@ impl Buckets {
         }
     }
 
-    /// Takes a gate of a level that waits, if there is one.
-    pub fn take(&mut self, level: u32) -> Option<Gate>
+    /// The first variable of a level's chain; 0 stands for none.
+    pub fn first(&self, level: u32) -> u32
+        requires { level < length self.now.head.items }
+        ensures { (levels : List ℕ) → AreBuckets levels self.now
+            → IsFirst levels self.now.head.items self.now.marks.items level result }
+    {
+        self.head[level as usize]
+    }
+
+    /// Takes the gate of a variable, which is the first of its level's chain.
+    pub fn take(&mut self, level: u32, first: u32) -> Taken
         requires level { level < length self.old.head.items }
         requires buckets { (levels : List ℕ) × AreBuckets levels self.old }
+        requires first { slice_index self.old.head.items level ≡ first }
+        requires some { first ≢ 0 }
         ensures takes { (levels : List ℕ) → AreBuckets levels self.old
-            → TakesVariable levels level self.old self.new (taken_variable result) }
-        ensures even { IfSome result (λ g. g.lhs ≡ 2 * variable g.lhs) }
-        ensures sides { IfSome result (λ g. slice_get self.old.marks.sides (variable g.lhs)
-            ≡ Some (sides_of g)) }
+            → TakesVariable levels level self.old self.new first }
+        ensures lhs { result.gate.lhs ≡ 2 * first }
+        ensures sides { slice_get self.old.marks.sides first ≡ Some (sides_of result.gate) }
+        ensures next { slice_index self.new.head.items level ≡ result.next }
     {
-        let first = self.head[level as usize];
-        if first == 0 {
-            return None;
-        }
         let slot = self.marks.leave(first);
         self.drop_first(level as usize, slot.next);
-        Some(Gate {
-            lhs: Lit::new(2 * first),
-            rhs0: slot.rhs0,
-            rhs1: slot.rhs1,
-        })
+        Taken {
+            gate: Gate {
+                lhs: Lit::new(2 * first),
+                rhs0: slot.rhs0,
+                rhs1: slot.rhs1,
+            },
+            next: slot.next,
+        }
     }
 }
 

@@ -1,12 +1,11 @@
 //! The evaluation of what waits at a frame, level by level: event-driven and levelized.
-ghost use Rattle.std.specs.Prelude.{◌≡◌, ◌≢◌, ℕ, ◌*◌, ◌+◌, ◌<◌, ◌≤◌, length, Some, slice_get};
-ghost use Rattle.std.specs.Prelude.{IfSome, IfNone};
+ghost use Rattle.std.specs.Prelude.{◌≡◌, ◌≢◌, ◌*◌, ◌+◌, ◌<◌, ◌≤◌, length};
 ghost use Rattle.aig_parts.specs.Formed.{limit};
 ghost use Rattle.aig_base.specs.Grounded.{IsSource};
 ghost use Rattle.aig_base.specs.Levels.{AreLevels};
 ghost use Rattle.aig_parts.specs.Limits.{cell_limit};
-ghost use Rattle.aig_base.specs.state.Marks.{IsMarked};
 ghost use Rattle.aig_bench.specs.BenchState.{HasValue};
+ghost use Rattle.aig_bench.specs.state.Buckets.{IsFirst};
 ghost use Rattle.aig_bench.specs.state.Steps.{frame_work, report_of, PutsSource, Settles, SettlesLevels};
 ghost use Rattle.aig_bench.specs.state.Sweep.{queued_count};
 
@@ -15,12 +14,20 @@ use crate::engine::Engine;
 use aig_base::Tern;
 use aig_values::Grid;
 
+// Whether the cell of an evaluated gate changed, and the variable that is next in the chain of its level; 0 stands for
+// none.
+#[derive(Clone, Copy)]
+struct Settled {
+    changed: bool,
+    next: u32,
+}
+
 /// Counts one more evaluation.
 fn count(report: &mut EditReport, changed: bool)
     requires evaluated { report.old.evaluated < cell_limit }
     requires changed { report.old.changed ≤ report.old.evaluated }
     ensures evaluated { report.new.evaluated ≡ report.old.evaluated + 1 }
-    ensures changed { report.new.changed ≡ report.old.changed + (report_of (Some changed)).changed }
+    ensures changed { report.new.changed ≡ report.old.changed + (report_of changed).changed }
 {
     report.evaluated += 1;
     if changed {
@@ -29,30 +36,35 @@ fn count(report: &mut EditReport, changed: bool)
 }
 
 impl<G: Grid> Engine<G> {
-    // Evaluates a gate of the level that waits, and lets its readers wait if its cell changed, which is answered; its
-    // latches are carried ahead. No gate of the level waits where the answer is `None`.
-    fn settle_next(&mut self, frame: u32, level: u32) -> Option<bool>
+    // Evaluates the first gate of a level's chain, and lets its readers wait if its cell changed; its latches are
+    // carried ahead.
+    fn settle_first(&mut self, frame: u32, level: u32, first: u32) -> Settled
         requires frame { frame < length self.old.pair.rows }
         requires level { level < length self.old.levels }
-        ensures fewer { IfSome result (λ c. queued_count self.old.levels self.new.queued level
-            < queued_count self.old.levels self.old.queued level) }
-        ensures none { IfNone result ((u : ℕ) → IsMarked self.new.queued u → slice_get self.old.levels u ≢ Some level) }
-        ensures settles { SettlesLevels frame level level self.old self.new (report_of result) }
+        requires first { IsFirst self.old.levels self.old.heads self.old.queued level first }
+        requires some { first ≢ 0 }
+        ensures fewer { queued_count self.old.levels self.new.queued level
+            < queued_count self.old.levels self.old.queued level }
+        ensures next { IsFirst self.new.levels self.new.heads self.new.queued level result.next }
+        ensures settles { SettlesLevels frame level level self.old self.new (report_of result.changed) }
     {
-        let gate = self.pending.buckets.take(level)?;
-        let variable = gate.lhs.var();
-        let changed = self.grid.evaluate(frame, gate);
+        let taken = self.pending.buckets.take(level, first);
+        let changed = self.grid.evaluate(frame, taken.gate);
         if changed {
-            let readers = self.fanouts.readers.list(variable);
+            let readers = self.fanouts.readers.list(first);
             self.pending.buckets.link_all(readers);
             self.fanouts
                 .latches
-                .list_all(variable, &mut self.pending.ahead);
+                .list_all(first, &mut self.pending.ahead);
         }
-        Some(changed)
+        Settled {
+            changed,
+            next: taken.next,
+        }
     }
 
-    // Evaluates all gates of a level that wait, and answers how many there were and the cells of how many changed.
+    // Evaluates all gates of a level that wait, and answers how many there were and the cells of how many changed. The
+    // next gate is in a local, not read from memory that the gate before it wrote: its misses need not wait for those.
     fn settle_level(&mut self, frame: u32, level: u32) -> EditReport
         requires frame { frame < length self.old.pair.rows }
         requires level { level < length self.old.levels }
@@ -65,8 +77,11 @@ impl<G: Grid> Engine<G> {
             evaluated: 0,
             changed: 0,
         };
-        while let Some(changed) = self.settle_next(frame, level) {
-            count(&mut report, changed);
+        let mut first = self.pending.buckets.first(level);
+        while first != 0 {
+            let settled = self.settle_first(frame, level, first);
+            count(&mut report, settled.changed);
+            first = settled.next;
         }
         report
     }

@@ -1,4 +1,5 @@
 use Rattle.std.proofs.Common.{◌≡◌, ◌∙◌, inl, inr, List, ℕ, Some, slice_get, ap, length, refl, sym, subst, arith}
+use Rattle.std.proofs.Common.{get_or-set_other}
 use Rattle.std.proofs.lemmas.List.{get_or_default, length-set}
 use Rattle.aig_bench.specs.state.Buckets.{CanBeQueued}
 use Rattle.aig_bench.proofs.queues.Chained.{linked, linked_queued, unmarked_read, first_within}
@@ -69,6 +70,10 @@ returns-clause-links c =
     let at = subst (λ (ls : List ℕ). slice_get ls c.args.variable ≡ Some c.level-level.result) h.levels_are c.level-level.ensures in
     record {
       heads = ap length s.head ∙ length-set _ _ _;
+      kept = λ l none.
+          let ne = λ (e : l ≡ c.level-level.result). none c.args.variable refl (c.level-level.ensures ∙ ap Some (sym e)) in
+          rw s.head (get_or-set_other c.args.self.now.head.items c.level-level.result l c.args.variable 0 ne);
+      levels = rw (c.enter.ensures.levels, s.marks) refl;
       sides = rw (c.enter.ensures.sides, s.marks) refl;
       queued = rw (c.enter.ensures.marks, s.marks)
           (linked_queued levels _ _ _ h.chained c.args.variable c.level-level.result
