@@ -12,6 +12,7 @@ mod buckets;
 mod latch_list;
 pub(crate) mod latch_readers;
 mod level_set;
+mod link;
 pub(crate) mod pending;
 mod settle;
 mod waiting;

@@ -3,8 +3,8 @@ use Rattle.std.proofs.Common.{◌≡◌, inl, inr, ℕ, ◌+◌, ◌<◌, List, 
 use Rattle.std.proofs.Common.{subst, arith}
 use Rattle.std.proofs.lemmas.Bool.{cases_eq}
 use Rattle.std.proofs.lemmas.Option.{slice_get-get_or, get_or_from_slice_get, slice_get_within}
-use Rattle.aig_bench.specs.declared.propagate.buckets.Buckets.{Buckets}
-use Rattle.aig_bench.specs.state.Buckets.{Links}
+use Rattle.aig_bench.specs.state.Buckets.{LinksIn}
+use Rattle.aig_bench.specs.state.Waiting.{WaitingVariables}
 
 -- the variable is one of the first n
 abbrev pub Among : List ℕ → ℕ → ℕ → Type 0
@@ -23,9 +23,9 @@ module _ (xs : List ℕ) where
     queued = λ u. (λ m. inl m, λ k. elim k [ inl m ↦ m | inr a ↦ absurd (omega (arith, a.1)) ]);
   }
 
-  pub links_more : (n x : ℕ) (start old new : Buckets) → slice_get xs n ≡ Some x → Links (Among xs n) start old
-      → Links (λ u. u ≡ x) old new → Links (Among xs (n + 1)) start new
-  links_more n x start old new at h k = record {
+  pub links_more : (n x : ℕ) (h0 h1 h2 : List ℕ) (start old new : WaitingVariables) → slice_get xs n ≡ Some x
+      → LinksIn (Among xs n) h0 start h1 old → LinksIn (λ u. u ≡ x) h1 old h2 new → LinksIn (Among xs (n + 1)) h0 start h2 new
+  links_more n x h0 h1 h2 start old new at h k = record {
     heads = k.heads ∙ h.heads;
     kept = λ l none.
         k.kept l (λ u e s. none u (n, omega arith, at ∙ ap Some (sym e)) (ap (λ (ls : List ℕ). slice_get ls u) (sym h.levels) ∙ s))
@@ -52,9 +52,9 @@ module _ (xs : List ℕ) where
     );
   }
 
-  pub links_all : (n : ℕ) (start new : Buckets) → length xs ≡ n → Links (Among xs n) start new
-      → Links (Contains xs) start new
-  links_all n start new is h = record {
+  pub links_all : (n : ℕ) (head head' : List ℕ) (start new : WaitingVariables) → length xs ≡ n
+      → LinksIn (Among xs n) head start head' new → LinksIn (Contains xs) head start head' new
+  links_all n head head' start new is h = record {
     heads = h.heads;
     kept = λ l none. h.kept l (λ u a. none u (contains_at xs a.0 u a.2));
     levels = h.levels;

@@ -1,10 +1,10 @@
 -- The slots of a circuit's variables.
-use Rattle.std.proofs.Common.{◌≡◌, inl, inr, ℕ, ◌+◌, ◌<◌, Bool, List, [], ◌∷◌, ◌++◌, length, map, set, take, get_or}
-use Rattle.std.proofs.Common.{Some, slice_get, refl, sym, ap, ◌∙◌, arith, length-append}
-use Rattle.std.proofs.lemmas.Bool.{cases_eq}
+use Rattle.std.proofs.Common.{◌≡◌, ◌≢◌, inl, inr, ℕ, ◌+◌, ◌<◌, Bool, true, List, [], ◌∷◌, ◌++◌, length, map, set, take, get_or}
+use Rattle.std.proofs.Common.{Some, option_map, slice_get, refl, sym, ap, ◌∙◌, arith, length-append}
+use Rattle.std.proofs.lemmas.Bool.{cases_eq, false≢true}
 use Rattle.std.proofs.Math.Seq.{map-set_same}
-use Rattle.std.proofs.lemmas.List.{get_or-map, length-map, map-append, map-set, take_more}
-use Rattle.std.proofs.lemmas.Option.{get_or_from_slice_get}
+use Rattle.std.proofs.lemmas.List.{length-map, map-append, map-set, take_more}
+use Rattle.std.proofs.lemmas.Option.{get_or_from_slice_get, same_Some, slice_get-map}
 use Rattle.aig_parts.specs.declared.gate.Gate.{Gate}
 use Rattle.aig_parts.specs.declared.raw.Raw.{Raw}
 use Rattle.aig_parts.specs.Literal.{variable}
@@ -13,28 +13,11 @@ use Rattle.aig_base.specs.state.Marks.{IsMarked}
 use Rattle.aig_base.proofs.circuits.Circuits.{gate_in_range}
 use Rattle.aig_base.proofs.lists.Gets.{slice_get_last, slice_get_left}
 use Rattle.aig_bench.specs.declared.propagate.waiting.Slot.{Slot}
-use Rattle.aig_bench.specs.state.Waiting.{HaveSides, Sides, WaitingVariables, idle, is_waiting, marks_of, sides_of}
+use Rattle.aig_bench.specs.state.Buckets.{AreQueues, LinksIn}
+use Rattle.aig_bench.specs.state.Waiting.{HaveSides, Sides, idle, is_waiting, level_of, marks_of, next_of, sides_in}
+use Rattle.aig_bench.specs.state.Waiting.{sides_of, view_of}
 use Rattle.aig_bench.proofs.growing.Lengthened.{unmarked_pushed}
-use Rattle.aig_bench.proofs.queues.WaitingMarks.{marks_pushed, waits_read}
-
-abbrev pub next_of : Slot → ℕ
-next_of s = s.next
-
-abbrev pub level_of : Slot → ℕ
-level_of s = s.level
-
-abbrev pub sides_in : Slot → Sides
-sides_in s = record { rhs0 = s.rhs0; rhs1 = s.rhs1 }
-
--- what contracts see of slots
-abbrev pub view_of : List Slot → Bool → WaitingVariables
-view_of slots room = record {
-  items = marks_of (map next_of slots);
-  next = map next_of slots;
-  levels = map level_of slots;
-  sides = map sides_in slots;
-  room = room;
-}
+use Rattle.aig_bench.proofs.queues.WaitingMarks.{marks_entered, marks_pushed, not_idle}
 
 -- a slot that was written
 module _ (slots : List Slot) (v : ℕ) (s : Slot) (room : Bool) (is : s ≡ get_or slots v s) where
@@ -56,13 +39,57 @@ module _ (slots : List Slot) (v : ℕ) (s : Slot) (room : Bool) (is : s ≡ get_
       let d = map-set sides_in slots v now in
       rw (a, b, d) refl
 
--- whether a variable waits, by its slot
-pub slot_waits : (slots : List Slot) (v : ℕ) (s : Slot) → v < length (map next_of slots) → s ≡ get_or slots v s
-    → is_waiting s.next ≡ get_or (marks_of (map next_of slots)) v (is_waiting s.next)
-slot_waits slots v s lt is =
-    let inside = length-map slots next_of in
-    waits_read (map next_of slots) v s.next (is_waiting s.next) lt
-    (ap next_of is ∙ sym (get_or-map next_of slots v s s.next (omega arith))) refl
+  -- the variable begins to wait
+  pub entered : (second : ℕ) → second ≢ idle → view_of (set slots v (record s { next = second })) room
+      ≡ record (view_of slots room) {
+        items = set (marks_of (map next_of slots)) v true;
+        next = set (map next_of slots) v second;
+      }
+  entered second ne =
+      let now : Slot = record s { next = second } in
+      let a = map-set next_of slots v now in
+      let b : map level_of (set slots v now) ≡ map level_of slots = map-set_same level_of slots v now s (ap level_of is) in
+      let d : map sides_in (set slots v now) ≡ map sides_in slots = map-set_same sides_in slots v now s (ap sides_in is) in
+      rw (a, b, d, marks_entered (map next_of slots) v second ne) refl
+
+-- whether a variable waits, and its level, by its slot
+module _ (slots : List Slot) (v : ℕ) (s : Slot) (at : slice_get slots v ≡ Some s) where
+  pub level_read : slice_get (map level_of slots) v ≡ Some s.level
+  level_read = slice_get-map level_of slots v ∙ ap (option_map level_of) at
+
+  mark_read : slice_get (marks_of (map next_of slots)) v ≡ Some (is_waiting s.next)
+  mark_read =
+      slice_get-map is_waiting (map next_of slots) v
+      ∙ ap (option_map is_waiting) (slice_get-map next_of slots v ∙ ap (option_map next_of) at)
+
+  pub waits : s.next ≢ idle → IsMarked (marks_of (map next_of slots)) v
+  waits ne = mark_read ∙ ap Some (not_idle s.next ne)
+
+  pub rests : s.next ≡ idle → IsMarked (marks_of (map next_of slots)) v → ⊥
+  rests e m = false≢true (sym (ap is_waiting e) ∙ same_Some (is_waiting s.next) true (sym mark_read ∙ m))
+
+-- whether there is room for one more does not matter
+pub queues_room : (levels head : List ℕ) (slots : List Slot) (old new : Bool) (words : List ℕ)
+    → AreQueues levels head (view_of slots old) words → AreQueues levels head (view_of slots new) words
+queues_room levels head slots old new words h = record {
+  chained = h.chained;
+  levels_are = h.levels_are;
+  sizes = h.sizes;
+  few = h.few;
+  room = h.room;
+  occupied = h.occupied;
+}
+
+pub links_room : (P : ℕ → Type 0) (head head' : List ℕ) (slots slots' : List Slot) (room before after : Bool)
+    → LinksIn P head (view_of slots room) head' (view_of slots' room)
+    → LinksIn P head (view_of slots before) head' (view_of slots' after)
+links_room P head head' slots slots' room before after h = record {
+  heads = h.heads;
+  kept = h.kept;
+  levels = h.levels;
+  sides = h.sides;
+  queued = h.queued;
+}
 
 -- the slots of the first n variables, none of which waits
 pub record SlotsTo (raw : Raw) (levels : List ℕ) (n : ℕ) (slots : List Slot) : Type 0 where

@@ -6,6 +6,7 @@ use Rattle.std.specs.Vec.{vec_capacity}
 use Rattle.aig_base.specs.state.Marks.{IsMarked}
 use Rattle.aig_parts.specs.Formed.{limit}
 use Rattle.aig_parts.specs.state.Bits.{HasBit}
+use Rattle.aig_bench.specs.state.Waiting.{WaitingVariables}
 use Rattle.aig_bench.specs.declared.propagate.buckets.Buckets.{Buckets}
 
 -- from at on, by the list that has the next number of each: these numbers, each once, and then 0
@@ -30,13 +31,17 @@ pub record AreChained (levels head next : List ℕ) (marks : List Bool) : Type 0
 abbrev pub IsOccupied : List ℕ → List ℕ → Type 0
 IsOccupied head occupied = (l : ℕ) → HasBit occupied l ↔ (slice_index head l ≢ 0)
 
-pub record AreBuckets (levels : List ℕ) (b : Buckets) : Type 0 where
-  pub chained : AreChained levels b.head.items b.marks.next b.marks.items
-  pub levels_are : b.marks.levels ≡ levels
-  pub sizes : length b.marks.next ≡ length b.head.items
-  pub few : length b.head.items ≤ limit + 1
-  pub room : length b.head.items ≤ 64 * length b.occupied
-  pub occupied : IsOccupied b.head.items b.occupied
+-- chains by level, with a copy of the levels, and the set of levels of which a variable waits
+pub record AreQueues (levels head : List ℕ) (marks : WaitingVariables) (words : List ℕ) : Type 0 where
+  pub chained : AreChained levels head marks.next marks.items
+  pub levels_are : marks.levels ≡ levels
+  pub sizes : length marks.next ≡ length head
+  pub few : length head ≤ limit + 1
+  pub room : length head ≤ 64 * length words
+  pub occupied : IsOccupied head words
+
+abbrev pub AreBuckets : List ℕ → Buckets → Type 0
+AreBuckets levels b = AreQueues levels b.head.items b.marks b.occupied
 
 -- one more variable, and a chain for one more level, fit without memory
 pub record FitsOneVariable (b : Buckets) : Type 0 where
@@ -71,13 +76,16 @@ pub record IsFirst (levels head : List ℕ) (marks : List Bool) (level first : �
 
 -- what waits afterwards waited before, or is one of these; there are as many levels, the levels of none of these begin
 -- with the same variable, and variables have the same levels and sides
-pub record Links (P : ℕ → Type 0) (old new : Buckets) : Type 0 where
-  pub heads : length new.head.items ≡ length old.head.items
-  pub kept : (l : ℕ) → ((u : ℕ) → P u → slice_get old.marks.levels u ≢ Some l)
-      → slice_index new.head.items l ≡ slice_index old.head.items l
-  pub levels : new.marks.levels ≡ old.marks.levels
-  pub sides : new.marks.sides ≡ old.marks.sides
-  pub queued : (u : ℕ) → IsQueued new u ↔ (IsQueued old u ⊎ P u)
+pub record LinksIn (P : ℕ → Type 0) (head : List ℕ) (old : WaitingVariables) (head' : List ℕ)
+    (new : WaitingVariables) : Type 0 where
+  pub heads : length head' ≡ length head
+  pub kept : (l : ℕ) → ((u : ℕ) → P u → slice_get old.levels u ≢ Some l) → slice_index head' l ≡ slice_index head l
+  pub levels : new.levels ≡ old.levels
+  pub sides : new.sides ≡ old.sides
+  pub queued : (u : ℕ) → IsMarked new.items u ↔ (IsMarked old.items u ⊎ P u)
+
+abbrev pub Links : (ℕ → Type 0) → Buckets → Buckets → Type 0
+Links P old new = LinksIn P old.head.items old.marks new.head.items new.marks
 
 -- all of them but the levels of variables
 abbrev pub without_levels : Buckets → Buckets

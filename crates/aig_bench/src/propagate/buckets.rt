@@ -1,6 +1,6 @@
 //! Gates that wait for their evaluation, by level: the queue of events.
 ghost use Rattle.std.specs.Prelude.{◌≡◌, ℕ, ◌+◌, ◌<◌, ◌≤◌, List, length, IfOk, OnOk, IfSome, Some, slice_get};
-ghost use Rattle.std.specs.Prelude.{slice_index, slice_index_or, slice_set, Contains, ◌≢◌, ◌*◌};
+ghost use Rattle.std.specs.Prelude.{slice_index, slice_set, Contains, ◌≢◌, ◌*◌};
 ghost use Rattle.std.specs.Prelude.{[], ◌∷◌, ◌++◌};
 ghost use Rattle.aig_parts.specs.Formed.{limit};
 ghost use Rattle.aig_base.specs.Levels.{AreLevels};
@@ -94,26 +94,6 @@ impl Buckets {
         self.marks.set_sides(variable, rhs0, rhs1);
     }
 
-    // Puts a variable before the others of a level's chain, and answers which was the first; 0 stands for none.
-    fn push_first(&mut self, level: usize, first: u32) -> u32
-        requires level { level < length self.old.head.items }
-        requires first { first ≢ 0 }
-        requires room { length self.old.head.items ≤ 64 * length self.old.occupied }
-        requires occupied { IsOccupied self.old.head.items self.old.occupied }
-        ensures before { result ≡ slice_index_or self.old.head.items level result }
-        ensures head { self.new.head.items ≡ slice_set self.old.head.items level first }
-        ensures marks { self.new.marks ≡ self.old.marks }
-        ensures room { length self.new.head.items ≤ 64 * length self.new.occupied }
-        ensures occupied { IsOccupied self.new.head.items self.new.occupied }
-    {
-        let before = self.head[level];
-        self.head[level] = first;
-        if before == 0 {
-            self.occupied.insert(level);
-        }
-        before
-    }
-
     // Takes the first variable out of a level's chain, where this one is the second; 0 stands for none.
     fn drop_first(&mut self, level: usize, second: u32)
         requires level { level < length self.old.head.items }
@@ -144,21 +124,6 @@ impl Buckets {
         }
     }
 
-    /// Lets a variable wait, unless it waits already.
-    pub fn link(&mut self, variable: u32)
-        requires { (levels : List ℕ) × AreBuckets levels self.old
-            × CanBeQueued levels (length self.old.head.items) variable }
-        ensures buckets { (levels : List ℕ) → AreBuckets levels self.old → AreBuckets levels self.new }
-        ensures links { Links (λ u. u ≡ variable) self.old self.new }
-    {
-        if self.marks.waits(variable) {
-            return;
-        }
-        let level = self.marks.level(variable) as usize;
-        let second = self.push_first(level, variable);
-        self.marks.enter(variable, second);
-    }
-
     /// Lets these variables wait.
     pub fn link_all(&mut self, variables: &[u32])
         requires { (levels : List ℕ) × AreBuckets levels self.old
@@ -166,9 +131,8 @@ impl Buckets {
         ensures buckets { (levels : List ℕ) → AreBuckets levels self.old → AreBuckets levels self.new }
         ensures links { Links (Contains variables.now) self.old self.new }
     {
-        for variable in variables {
-            self.link(*variable);
-        }
+        self.marks
+            .link_all(&mut self.head, &mut self.occupied, variables);
     }
 
     /// The first variable of a level's chain; 0 stands for none.

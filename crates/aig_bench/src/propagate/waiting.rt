@@ -1,18 +1,21 @@
 //! Which variables wait, the chains in which they stand, and what an event looks at of a variable: in one place.
-ghost use Rattle.std.specs.Prelude.{◌≡◌, ◌≢◌, ℕ, ◌<◌, ◌++◌, ◌∷◌, [], false, true, length, IfOk, IsTrue, OnOk};
-ghost use Rattle.std.specs.Prelude.{Some, slice_get, slice_index, slice_index_or, slice_set};
+ghost use Rattle.std.specs.Prelude.{◌≡◌, ℕ, ◌*◌, ◌<◌, ◌++◌, ◌∷◌, [], false, length, IfOk, IsTrue, OnOk};
+ghost use Rattle.std.specs.Prelude.{Contains, List, Some, slice_get, slice_index, slice_set};
 ghost use Rattle.aig_parts.specs.declared.gate.Gate as gate;
 ghost use Rattle.aig_parts.specs.Literal as literal;
 ghost use Rattle.aig_base.specs.Levels.{AreLevels};
 ghost use Rattle.aig_base.specs.state.Marks.{IsMarked};
+ghost use Rattle.aig_bench.specs.state.Buckets.{AreQueues, CanBeQueued, LinksIn};
 ghost use Rattle.aig_bench.specs.state.Waiting.{idle, HaveSides, Sides};
 
+use crate::propagate::level_set::LevelSet;
+use crate::propagate::link::link_all;
 use aig_base::{Circuit, Levels, Lit, Memory};
 use std::alloc::Global;
 use std::marker::Model;
 
 /// Stands for a variable that does not wait, in place of the next one of its chain.
-const IDLE: u32 = 0xffff_ffff;
+pub const IDLE: u32 = 0xffff_ffff;
 
 /// What an event looks at of a variable, 16 bytes.
 #[derive(Clone, Copy, Debug)]
@@ -69,19 +72,13 @@ pub struct Waiting {
 }
 
 impl Model for Waiting {
-    ghost use Rattle.std.specs.Prelude.{map, nat_lt, vec_len};
+    ghost use Rattle.std.specs.Prelude.{nat_lt, vec_len};
     ghost use Rattle.std.specs.Vec.{vec_capacity};
-    ghost use Rattle.aig_bench.specs.state.Waiting.{WaitingVariables, marks_of};
+    ghost use Rattle.aig_bench.specs.state.Waiting.{WaitingVariables, view_of};
 
     ghost Value = { WaitingVariables };
 
-    ghost view = { λ a. record {
-      items = marks_of (map (λ s. s.next) a.slots.items);
-      next = map (λ s. s.next) a.slots.items;
-      levels = map (λ s. s.level) a.slots.items;
-      sides = map (λ s. record { rhs0 = s.rhs0; rhs1 = s.rhs1 }) a.slots.items;
-      room = nat_lt (vec_len a.slots) (vec_capacity a.slots);
-    } };
+    ghost view = { λ a. view_of a.slots.items (nat_lt (vec_len a.slots) (vec_capacity a.slots)) };
 }
 
 impl Waiting {
@@ -127,33 +124,15 @@ impl Waiting {
         self.slots.push_reserved(slot);
     }
 
-    /// Whether a variable waits.
-    pub fn waits(&self, variable: u32) -> bool
-        requires { variable < length self.now.next }
-        ensures { result ≡ slice_index_or self.now.items variable result }
+    /// Lets these variables wait.
+    pub fn link_all(&mut self, head: &mut [u32], occupied: &mut LevelSet, variables: &[u32])
+        requires { (levels : List ℕ) × AreQueues levels head.old self.old occupied.old
+            × ((v : ℕ) → Contains variables.now v → CanBeQueued levels (length head.old) v) }
+        ensures queues { (levels : List ℕ) → AreQueues levels head.old self.old occupied.old
+            → AreQueues levels head.new self.new occupied.new }
+        ensures links { LinksIn (Contains variables.now) head.old self.old head.new self.new }
     {
-        self.slots[variable as usize].next != IDLE
-    }
-
-    /// The level of a variable.
-    pub fn level(&self, variable: u32) -> u32
-        requires { variable < length self.now.next }
-        ensures { slice_get self.now.levels variable ≡ Some result }
-    {
-        self.slots[variable as usize].level
-    }
-
-    /// Lets a variable wait, before this one in its chain; 0 stands for none.
-    pub fn enter(&mut self, variable: u32, second: u32)
-        requires inside { variable < length self.old.next }
-        requires second { second ≢ idle }
-        ensures next { self.new.next ≡ slice_set self.old.next variable second }
-        ensures marks { self.new.items ≡ slice_set self.old.items variable true }
-        ensures levels { self.new.levels ≡ self.old.levels }
-        ensures sides { self.new.sides ≡ self.old.sides }
-    {
-        let slot = &mut self.slots[variable as usize];
-        slot.next = second;
+        link_all(&mut self.slots, head, occupied, variables);
     }
 
     /// Lets a variable wait no more, and returns what its slot was.

@@ -1,4 +1,4 @@
-use Rattle.std.proofs.Common.{◌<◌, ℕ, List, length, subst, arith}
+use Rattle.std.proofs.Common.{◌<◌, ℕ, List, subst, arith}
 use Rattle.aig_bench.specs.state.Buckets.{IsFirst}
 use Rattle.aig_bench.specs.state.Engine.{EngineState}
 use Rattle.aig_bench.specs.state.Sweep.{queued_count}

@@ -1,35 +1,16 @@
-use Rattle.std.proofs.Common.{get_or, sym, subst, arith}
-use Rattle.std.proofs.lemmas.Option.{slice_get-get_or}
-use Rattle.aig_bench.specs.state.Buckets.{CanBeQueued}
-use Rattle.aig_bench.proofs.queues.Linked.{contains_at, links_none, links_more, links_all}
+use Rattle.std.proofs.Common.{◌∙◌}
+use Rattle.std.proofs.lemmas.List.{with_items_is}
 use Rattle.aig_bench.proofs.propagate.buckets.Buckets.link_all.Goals as goal
 
-pub loop-variable-init : goal.loop-variable-init
-loop-variable-init c = record { buckets = λ levels h. h; links = links_none c.args.variables.now c.args.self.now }
+pub link_all-requires : goal.link_all-requires
+link_all-requires c = rw c.deref_mut.ensures.value c.requires
 
-pub link-requires : goal.link-requires
-link-requires c =
-    let (levels, h, fit) = c.requires in
-    let x = get_or c.args.variables.now c.loop-variable.variable-index 0 in (
-      levels,
-      c.loop-variable.invariant.buckets levels h,
-      subst (λ n. CanBeQueued levels n x) (sym c.loop-variable.invariant.links.heads)
-          (fit x (contains_at c.args.variables.now c.loop-variable.variable-index x
-          (slice_get-get_or c.args.variables.now c.loop-variable.variable-index 0 c.loop-variable-test.true))),
-    )
+pub returns-clause-buckets : goal.returns-clause-buckets
+returns-clause-buckets c levels h =
+    let same = with_items_is c.args.self.now.head c.link_all.new.head (c.link_all.ensures.links.heads ∙ c.deref_mut.ensures.len) in
+    rw same (c.link_all.ensures.queues levels (rw c.deref_mut.ensures.value h))
 
-pub loop-variable-preserved : goal.loop-variable-preserved
-loop-variable-preserved c = record {
-  buckets = λ levels h. c.link.ensures.buckets levels (c.loop-variable.invariant.buckets levels h);
-  links = links_more c.args.variables.now c.loop-variable.variable-index _ c.args.self.now c.loop-variable.self c.link.new.self
-      (slice_get-get_or c.args.variables.now c.loop-variable.variable-index 0 c.loop-variable-test.true)
-      c.loop-variable.invariant.links c.link.ensures.links;
-}
-
-pub returns : goal.returns
-returns c = record {
-  buckets = c.loop-variable.invariant.buckets;
-  links = links_all c.args.variables.now c.loop-variable.variable-index c.args.self.now c.loop-variable.self
-      (omega (arith, c.loop-variable-test.false, c.loop-variable.auto.variable-index-end))
-      c.loop-variable.invariant.links;
-}
+pub returns-clause-links : goal.returns-clause-links
+returns-clause-links c =
+    let same = with_items_is c.args.self.now.head c.link_all.new.head (c.link_all.ensures.links.heads ∙ c.deref_mut.ensures.len) in
+    rw same (rw c.deref_mut.ensures.value at c.link_all.ensures.links)

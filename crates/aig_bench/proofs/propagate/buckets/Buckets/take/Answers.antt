@@ -1,4 +1,4 @@
-use Rattle.std.proofs.Common.{ℕ, ◌∙◌, refl, ap, length, set, sym, false, arith, get_or-set_same}
+use Rattle.std.proofs.Common.{◌∙◌, refl, ap, length, set, sym, false, arith, get_or-set_same}
 use Rattle.std.proofs.lemmas.List.{get_or_default, length-set}
 use Rattle.aig_bench.specs.state.Waiting.{idle}
 use Rattle.aig_bench.proofs.queues.Chained.{first_queued, first_level, first_inside, taken_queued, taken, next_freed}

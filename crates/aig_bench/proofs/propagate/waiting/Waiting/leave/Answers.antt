@@ -1,8 +1,7 @@
 use Rattle.std.proofs.Common.{◌∙◌, ap, map, set, false}
 use Rattle.std.proofs.Math.Seq.{map-set_same}
 use Rattle.std.proofs.lemmas.List.{map-set}
-use Rattle.aig_bench.specs.state.Waiting.{WaitingVariables, idle, marks_of}
-use Rattle.aig_bench.proofs.queues.Slots.{level_of, next_of, sides_in}
+use Rattle.aig_bench.specs.state.Waiting.{WaitingVariables, idle, level_of, marks_of, next_of, sides_in}
 use Rattle.aig_bench.proofs.queues.WaitingMarks.{marks_left}
 use Rattle.aig_bench.proofs.propagate.waiting.Waiting.leave.Goals as goal
 
