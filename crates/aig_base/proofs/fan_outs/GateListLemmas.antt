@@ -8,7 +8,7 @@ use Rattle.std.proofs.lemmas.List.{get_or-set_same, get_or-set_other, get_or_app
 use Rattle.std.proofs.lemmas.List.{length-map}
 use Rattle.std.proofs.lemmas.Option.{slice_get_read, slice_get_within, slice_get-get_or, none-some, same_Some}
 use Rattle.smallvec.specs.SmallVec.{SmallVec}
-use Rattle.aig_base.specs.declared.readers.gate_lists.Slot.{Slot}
+use Rattle.aig_base.specs.declared.readers.slot_table.Slot.{Slot}
 use Rattle.aig_base.specs.Readers.{GateList}
 use Rattle.aig_base.specs.state.GateLists.{AreSlots, GetsRoom, IsFar, far_list, near_list, position, slot_list}
 use Rattle.aig_base.specs.state.ReaderSlots.{capacity_at, items_at, no_list, with_items_at}

@@ -1,8 +1,8 @@
 -- Lists of gates as the code keeps them: short ones in place, and the far ones in a second table.
-use Rattle.std.specs.Prelude.{◌≡◌, ◌≢◌, ℕ, ◌*◌, ◌<◌, ◌≤◌, max, List, length, take, cond, nat_eq, Some}
-use Rattle.std.specs.Prelude.{slice_get, slice_index_or, slice_set}
+use Rattle.std.specs.Prelude.{◌≡◌, ◌≢◌, ℕ, ◌*◌, ◌<◌, ◌≤◌, max, List, [], ◌∷◌, length, take, replicate, cond, nat_eq}
+use Rattle.std.specs.Prelude.{Some, slice_get, slice_index_or, slice_set}
 use Rattle.smallvec.specs.SmallVec.{SmallVec}
-use Rattle.aig_base.specs.declared.readers.gate_lists.Slot.{Slot}
+use Rattle.aig_base.specs.declared.readers.slot_table.Slot.{Slot}
 use Rattle.aig_base.specs.Readers.{GateList}
 use Rattle.aig_base.specs.state.ReaderSlots.{capacity_at, items_at, no_list}
 
@@ -10,6 +10,21 @@ use Rattle.aig_base.specs.state.ReaderSlots.{capacity_at, items_at, no_list}
 pub record RoomyLists : Type 0 where
   pub slots : List GateList
   pub fitting : ℕ
+
+-- the slots of all variables, and for how many variables there is memory
+pub record Slots : Type 0 where
+  pub slots : List Slot
+  pub fitting : ℕ
+
+-- the slots with these counts and gates
+abbrev pub slots_of : List ℕ → List (List ℕ) → List Slot
+slots_of [] gates = []
+slots_of (c ∷ counts) [] = []
+slots_of (c ∷ counts) (g ∷ gates) = record { count = c; gates = g } ∷ slots_of counts gates
+
+-- the slot of a variable that has no gates
+abbrev pub no_gates : Slot
+no_gates = record { count = 0; gates = replicate 4 0 }
 
 -- a far list
 abbrev pub far_list : SmallVec ℕ → GateList

@@ -1,98 +1,36 @@
 //! For each variable a list of gates. Four gates are in place; a list that needs room for more is in a second table,
 //! among the far lists.
 ghost use Rattle.std.specs.Prelude.{◌≡◌, ◌+◌, ◌*◌, ◌<◌, ◌≤◌, [], ◌∷◌, ◌++◌, max, length, map, replicate, swap_remove};
-ghost use Rattle.std.specs.Prelude.{IfOk, IsTrue, ◌↔◌, OnOk, OnErr};
-ghost use Rattle.std.specs.Vec.{vec_capacity};
-ghost use Rattle.aig_base.specs.state.GateLists.{GetsRoom, far_list, near_list, position};
+ghost use Rattle.std.specs.Prelude.{IfOk, OnOk, OnErr};
+ghost use Rattle.aig_base.specs.state.GateLists.{GetsRoom, far_list, position};
 ghost use Rattle.aig_base.specs.state.ReaderSlots.{FitsOneReader, items_at, with_items_at};
 
+use crate::readers::slot_table::{FAR, NEAR, Slot, SlotTable};
 use aig_bytes::Memory;
 use smallvec::SmallVec;
 use std::alloc::Global;
 use std::marker::Model;
 
-/// How many gates a list has in place.
-const NEAR: usize = 4;
-
-/// In place of a count: the list is far.
-const FAR: u32 = 5;
-
-/// The list of a variable, or where it is.
-#[derive(Clone, Copy)]
-pub(crate) struct Slot {
-    // How many gates the list has, or `FAR`.
-    count: u32,
-    // The gates; of a far list, first its position among the far lists.
-    gates: [u32; NEAR],
-}
-
-impl Slot {
-    // Whether the list is far.
-    fn is_far(&self) -> bool
-        ensures far { IsTrue result ↔ (self.now.count ≡ 5) }
-        ensures places { length self.now.gates ≡ 4 }
-    {
-        self.count == FAR
-    }
-
-    // Where a far list is among the far lists.
-    fn position(&self) -> usize
-        ensures { result ≡ position self.now }
-    {
-        self.gates[0] as usize
-    }
-
-    // The gates that are in place.
-    fn near(&self) -> &[u32]
-        requires { self.now.count ≤ 4 }
-        ensures { result.now ≡ (near_list self.now).items }
-    {
-        &self.gates[..self.count as usize]
-    }
-
-    // Adds a gate after those in place.
-    fn push(&mut self, gate: u32)
-        requires { self.old.count < 4 }
-        ensures items { (near_list self.new).items ≡ (near_list self.old).items ++ gate ∷ [] }
-        ensures count { self.new.count ≡ self.old.count + 1 }
-    {
-        self.gates[self.count as usize] = gate;
-        self.count += 1;
-    }
-
-    // Takes out the gate at a place; the last one moves there.
-    fn swap_remove(&mut self, place: usize)
-        requires few { self.old.count ≤ 4 }
-        requires within { place < self.old.count }
-        ensures items { (near_list self.new).items ≡ swap_remove (near_list self.old).items place 0 }
-        ensures count { self.new.count + 1 ≡ self.old.count }
-    {
-        self.count -= 1;
-        self.gates[place] = self.gates[self.count as usize];
-    }
-}
-
 /// For each variable a list of gates.
 #[derive(Drop)]
 pub(crate) struct GateLists {
-    slots: Vec<Slot>,
+    slots: SlotTable,
     // Of five to eight gates they take no memory of their own.
     far: Vec<SmallVec<u32, 8>>,
 }
 
 impl Model for GateLists {
     ghost use Rattle.std.specs.Prelude.{map};
-    ghost use Rattle.std.specs.Vec.{vec_capacity};
     ghost use Rattle.aig_base.specs.state.GateLists.{AreSlots, RoomyLists, far_list, slot_list};
 
     ghost Value = { RoomyLists };
 
     ghost view = { λ a. record {
-      slots = map (slot_list (map far_list a.far.items)) a.slots.items;
-      fitting = vec_capacity a.slots;
+      slots = map (slot_list (map far_list a.far.items)) a.slots.slots;
+      fitting = a.slots.fitting;
     } };
 
-    ghost invariant = { λ a. AreSlots (map far_list a.far.items) a.slots.items };
+    ghost invariant = { λ a. AreSlots (map far_list a.far.items) a.slots.slots };
 }
 
 // Makes room for one more in a list, which doubles if it is full.
@@ -144,11 +82,7 @@ impl GateLists {
     pub(crate) fn new(alloc: Global, variables: usize) -> Result<GateLists, Memory>
         ensures { IfOk result (λ lists. lists.slots ≡ replicate variables (record { items = []; capacity = 4 })) }
     {
-        let none = Slot {
-            count: 0,
-            gates: [0; NEAR],
-        };
-        let slots = vec![in alloc; none; variables]?;
+        let slots = SlotTable::new(alloc, variables)?;
         let far = Vec::new(alloc);
         Ok(GateLists { slots, far })
     }
@@ -165,11 +99,11 @@ impl GateLists {
         requires { variable < length self.now.slots }
         ensures { result.now ≡ items_at self.now.slots variable }
     {
-        let slot = &self.slots[variable as usize];
+        let slot = self.slots.get(variable);
         if slot.is_far() {
             return self.far[slot.position()].as_slice();
         }
-        slot.near()
+        self.slots.near(variable, slot.count)
     }
 
     /// Adds a gate to the list of a variable, which has room.
@@ -179,11 +113,12 @@ impl GateLists {
             ≡ with_items_at self.old.slots variable (items_at self.old.slots variable ++ gate ∷ []) }
         ensures fitting { self.new.fitting ≡ self.old.fitting }
     {
-        let slot = &self.slots[variable as usize];
+        let mut slot = self.slots.get(variable);
         if slot.is_far() {
             self.far[slot.position()].push_reserved(gate);
         } else {
-            self.slots[variable as usize].push(gate);
+            slot.push(gate);
+            self.slots.set(variable, slot);
         }
     }
 
@@ -194,11 +129,12 @@ impl GateLists {
             ≡ with_items_at self.old.slots variable (swap_remove (items_at self.old.slots variable) place 0) }
         ensures fitting { self.new.fitting ≡ self.old.fitting }
     {
-        let slot = &self.slots[variable as usize];
+        let mut slot = self.slots.get(variable);
         if slot.is_far() {
             let _ = self.far[slot.position()].swap_remove(place);
         } else {
-            self.slots[variable as usize].swap_remove(place);
+            slot.swap_remove(place);
+            self.slots.set(variable, slot);
         }
     }
 
@@ -210,15 +146,15 @@ impl GateLists {
         ensures refused { OnErr result (4 ≤ length (items_at self.old.slots variable)) }
         ensures fitting { self.new.fitting ≡ self.old.fitting }
     {
-        let slot = self.slots[variable as usize];
+        let slot = self.slots.get(variable);
         if slot.is_far() {
             return double_full(&mut self.far[slot.position()]);
         }
-        if slot.count < NEAR as u32 {
+        if slot.count < NEAR as u8 {
             return Ok(());
         }
-        let alloc = *self.slots.allocator();
-        self.slots[variable as usize] = keep_far(alloc, &slot.gates, &mut self.far)?;
+        let moved = keep_far(self.slots.allocator(), &slot.gates, &mut self.far)?;
+        self.slots.set(variable, moved);
         Ok(())
     }
 
@@ -227,8 +163,7 @@ impl GateLists {
         ensures slots { self.new.slots ≡ self.old.slots }
         ensures fitting { OnOk result (length self.new.slots < self.new.fitting) }
     {
-        self.slots.reserve(1)?;
-        Ok(())
+        self.slots.reserve()
     }
 
     /// Adds an empty list; there is room.
@@ -237,9 +172,6 @@ impl GateLists {
         ensures slots { self.new.slots ≡ self.old.slots ++ (record { items = []; capacity = 4 }) ∷ [] }
         ensures fitting { self.new.fitting ≡ self.old.fitting }
     {
-        self.slots.push_reserved(Slot {
-            count: 0,
-            gates: [0; NEAR],
-        });
+        self.slots.push_none();
     }
 }

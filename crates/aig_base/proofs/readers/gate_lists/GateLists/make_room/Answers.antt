@@ -12,11 +12,11 @@ use Rattle.aig_base.proofs.readers.gate_lists.GateLists.make_room.Goals as goal
 pub double_full-requires : goal.double_full-requires
 double_full-requires c =
     let far = map far_list c.self.inside.far.items in
-    let slots = c.self.inside.slots.items in
+    let slots = c.self.inside.slots.slots in
     let v = c.args.variable in
     let lt = subst (λ (r : RoomyLists). c.args.variable < length r.slots) (sym c.self.view_is) c.requires in
-    let s = c.index.result.now in
-    let at = slot_at far slots v s lt c.index.ensures in
+    let s = c.get-slot.result in
+    let at = slot_at far slots v s lt c.get-slot.ensures in
     let count = c.is_far.ensures.far.0 c.if-is_far.true in
     vec_roomy c.self.inside.far.items slots v c.position.result s c.index_mut.result.now c.index_mut.result.now at count
     c.position.ensures c.index_mut.ensures.value c.self.invariant
@@ -24,11 +24,11 @@ double_full-requires c =
 pub invariant_of-self : goal.invariant_of-self
 invariant_of-self c =
     let far = map far_list c.self.inside.far.items in
-    let slots = c.self.inside.slots.items in
+    let slots = c.self.inside.slots.slots in
     let v = c.args.variable in
     let lt = subst (λ (r : RoomyLists). c.args.variable < length r.slots) (sym c.self.view_is) c.requires in
-    let s = c.index.result.now in
-    let at = slot_at far slots v s lt c.index.ensures in
+    let s = c.get-slot.result in
+    let at = slot_at far slots v s lt c.get-slot.ensures in
     let count = c.is_far.ensures.far.0 c.if-is_far.true in
     written_kept c.self.inside.far.items slots v c.position.result s c.index_mut.result.now
     c.double_full.new.list at count c.position.ensures c.index_mut.ensures.value c.self.invariant
@@ -37,11 +37,11 @@ invariant_of-self c =
 pub returns-then-is_far-clause-gets : goal.returns-then-is_far-clause-gets
 returns-then-is_far-clause-gets c =
     let far = map far_list c.self.inside.far.items in
-    let slots = c.self.inside.slots.items in
+    let slots = c.self.inside.slots.slots in
     let v = c.args.variable in
     let lt = subst (λ (r : RoomyLists). c.args.variable < length r.slots) (sym c.self.view_is) c.requires in
-    let s = c.index.result.now in
-    let at = slot_at far slots v s lt c.index.ensures in
+    let s = c.get-slot.result in
+    let at = slot_at far slots v s lt c.get-slot.ensures in
     let count = c.is_far.ensures.far.0 c.if-is_far.true in
     rw (← c.self.view_is)
     (written_room c.self.inside.far.items slots v c.position.result s c.index_mut.result.now
@@ -51,11 +51,11 @@ returns-then-is_far-clause-gets c =
 pub returns-then-is_far-clause-ok : goal.returns-then-is_far-clause-ok
 returns-then-is_far-clause-ok c =
     let far = map far_list c.self.inside.far.items in
-    let slots = c.self.inside.slots.items in
+    let slots = c.self.inside.slots.slots in
     let v = c.args.variable in
     let lt = subst (λ (r : RoomyLists). c.args.variable < length r.slots) (sym c.self.view_is) c.requires in
-    let s = c.index.result.now in
-    let at = slot_at far slots v s lt c.index.ensures in
+    let s = c.get-slot.result in
+    let at = slot_at far slots v s lt c.get-slot.ensures in
     let count = c.is_far.ensures.far.0 c.if-is_far.true in
     on_ok_weaker c.double_full.result
     (λ room. fits_set (map (slot_list far) slots) _ v (far_list c.double_full.new.list) lt
@@ -66,11 +66,11 @@ returns-then-is_far-clause-ok c =
 pub returns-then-is_far-clause-refused : goal.returns-then-is_far-clause-refused
 returns-then-is_far-clause-refused c =
     let far = map far_list c.self.inside.far.items in
-    let slots = c.self.inside.slots.items in
+    let slots = c.self.inside.slots.slots in
     let v = c.args.variable in
     let lt = subst (λ (r : RoomyLists). c.args.variable < length r.slots) (sym c.self.view_is) c.requires in
-    let s = c.index.result.now in
-    let at = slot_at far slots v s lt c.index.ensures in
+    let s = c.get-slot.result in
+    let at = slot_at far slots v s lt c.get-slot.ensures in
     let count = c.is_far.ensures.far.0 c.if-is_far.true in
     rw (← c.self.view_is)
     (subst (λ (l : GateList). OnErr c.double_full.result (4 ≤ length l.items)) (sym (list_was c.self.inside.far.items slots v c.position.result s c.index_mut.result.now
@@ -80,56 +80,65 @@ returns-then-is_far-clause-refused c =
 pub returns-then-slot-clause-gets : goal.returns-then-slot-clause-gets
 returns-then-slot-clause-gets c = gets_none c.args.self.now.slots c.args.variable
 
-pub returns-in_err-self-inside-clause-gets : goal.returns-in_err-self-inside-clause-gets
-returns-in_err-self-inside-clause-gets c =
-    rw (c.in_err-self-inside.ensures.kept, ← c.self.view_is) (gets_none _ c.args.variable)
+pub returns-in_err-moved-clause-gets : goal.returns-in_err-moved-clause-gets
+returns-in_err-moved-clause-gets c =
+    rw (c.in_err-moved.ensures.kept, ← c.self.view_is) (gets_none _ c.args.variable)
+
+pub set-requires : goal.set-requires
+set-requires c =
+    let far = map far_list c.self.inside.far.items in
+    let slots = c.self.inside.slots.slots in
+    let lt = subst (λ (r : RoomyLists). c.args.variable < length r.slots) (sym c.self.view_is) c.requires in
+    let size = length-map slots (slot_list far) in
+    omega (arith, lt)
 
 pub invariant_of-self-2 : goal.invariant_of-self-2
 invariant_of-self-2 c =
     let far = map far_list c.self.inside.far.items in
-    let slots = c.self.inside.slots.items in
+    let slots = c.self.inside.slots.slots in
     let v = c.args.variable in
     let lt = subst (λ (r : RoomyLists). c.args.variable < length r.slots) (sym c.self.view_is) c.requires in
-    let s = c.index.result.now in
-    let t = c.in_ok-self-inside.field-0 in
-    let at = slot_at far slots v s lt c.index.ensures in
+    let s = c.get-slot.result in
+    let t = c.in_ok-moved.moved in
+    let at = slot_at far slots v s lt c.get-slot.ensures in
     let few = slot_few far slots v s at c.self.invariant
     (λ e. (let z : ⊥ = grind (arith, c.is_far.ensures.far.1 e, c.if-is_far.false) in z)) in
-    let last = c.in_ok-self-inside.ensures.slot.1 ∙ sym (length-map c.self.inside.far.items far_list) in
+    let last = c.in_ok-moved.ensures.slot.1 ∙ sym (length-map c.self.inside.far.items far_list) in
     let new = listed s.gates 8 in
-    rw c.in_ok-self-inside.ensures.far (moved_kept far slots v s t at c.self.invariant new c.in_ok-self-inside.ensures.slot.0 last (omega arith))
+    rw (c.in_ok-moved.ensures.far, c.set.ensures.slots)
+    (moved_kept far slots v s t at c.self.invariant new c.in_ok-moved.ensures.slot.0 last (omega arith))
 
 pub returns-clause-gets : goal.returns-clause-gets
 returns-clause-gets c =
     let far = map far_list c.self.inside.far.items in
-    let slots = c.self.inside.slots.items in
+    let slots = c.self.inside.slots.slots in
     let v = c.args.variable in
     let lt = subst (λ (r : RoomyLists). c.args.variable < length r.slots) (sym c.self.view_is) c.requires in
-    let s = c.index.result.now in
-    let t = c.in_ok-self-inside.field-0 in
-    let at = slot_at far slots v s lt c.index.ensures in
+    let s = c.get-slot.result in
+    let t = c.in_ok-moved.moved in
+    let at = slot_at far slots v s lt c.get-slot.ensures in
     let few = slot_few far slots v s at c.self.invariant
     (λ e. (let z : ⊥ = grind (arith, c.is_far.ensures.far.1 e, c.if-is_far.false) in z)) in
-    let last = c.in_ok-self-inside.ensures.slot.1 ∙ sym (length-map c.self.inside.far.items far_list) in
+    let last = c.in_ok-moved.ensures.slot.1 ∙ sym (length-map c.self.inside.far.items far_list) in
     let new = listed s.gates 8 in
     let full = c.if-slot.false in
-    rw (c.in_ok-self-inside.ensures.far, ← c.self.view_is)
-    (moved_room far slots v s t at c.self.invariant new c.in_ok-self-inside.ensures.slot.0 last (omega arith) (omega arith) c.is_far.ensures.places refl)
+    rw (c.in_ok-moved.ensures.far, c.set.ensures.slots, ← c.self.view_is)
+    (moved_room far slots v s t at c.self.invariant new c.in_ok-moved.ensures.slot.0 last (omega arith) (omega arith) c.is_far.ensures.places refl)
 
 pub returns-clause-ok : goal.returns-clause-ok
 returns-clause-ok c =
     let far = map far_list c.self.inside.far.items in
-    let slots = c.self.inside.slots.items in
+    let slots = c.self.inside.slots.slots in
     let v = c.args.variable in
     let lt = subst (λ (r : RoomyLists). c.args.variable < length r.slots) (sym c.self.view_is) c.requires in
-    let s = c.index.result.now in
-    let t = c.in_ok-self-inside.field-0 in
-    let at = slot_at far slots v s lt c.index.ensures in
+    let s = c.get-slot.result in
+    let t = c.in_ok-moved.moved in
+    let at = slot_at far slots v s lt c.get-slot.ensures in
     let few = slot_few far slots v s at c.self.invariant
     (λ e. (let z : ⊥ = grind (arith, c.is_far.ensures.far.1 e, c.if-is_far.false) in z)) in
-    let last = c.in_ok-self-inside.ensures.slot.1 ∙ sym (length-map c.self.inside.far.items far_list) in
+    let last = c.in_ok-moved.ensures.slot.1 ∙ sym (length-map c.self.inside.far.items far_list) in
     let new = listed s.gates 8 in
     let four = c.is_far.ensures.places in
-    rw c.in_ok-self-inside.ensures.far
-    (fits_set (map (slot_list far) slots) _ v new lt (moved_lists far slots v s t at c.self.invariant new c.in_ok-self-inside.ensures.slot.0 last (omega arith))
+    rw (c.in_ok-moved.ensures.far, c.set.ensures.slots)
+    (fits_set (map (slot_list far) slots) _ v new lt (moved_lists far slots v s t at c.self.invariant new c.in_ok-moved.ensures.slot.0 last (omega arith))
     (omega arith))
