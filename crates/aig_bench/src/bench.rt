@@ -12,6 +12,7 @@ ghost use Rattle.aig_unroll.specs.Answers.{AnswersUnrolling};
 
 mod edits;
 pub(crate) mod fault;
+mod rows;
 pub(crate) mod sizes;
 mod trace;
 mod value;

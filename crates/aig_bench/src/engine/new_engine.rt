@@ -17,8 +17,8 @@ use aig_values::Grid;
 use std::alloc::Global;
 
 impl<G: Grid> Engine<G> {
-    // Writes the values of all frames.
-    fn fill_all(&mut self)
+    /// Writes the values of all frames.
+    pub fn fill_all(&mut self)
         requires known { IsKnownOrder self.old.way }
         ensures fills { FillsCells self.old self.new }
         ensures current { AreCurrent self.old.pair (length self.old.pair.rows) self.new.cells }
