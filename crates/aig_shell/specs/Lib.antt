@@ -15,3 +15,4 @@ pub mod Standing
 pub mod State
 pub mod Tables
 pub mod Talking
+pub mod Written

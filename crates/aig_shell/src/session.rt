@@ -14,6 +14,7 @@ ghost use Rattle.aig_shell.specs.Standing.{StartsRight};
 ghost use Rattle.aig_shell.specs.Conversation.{RefusesRows};
 ghost use Rattle.aig_shell.specs.Session.{BeginsAt, IsIn, IsSession, KeepsRun, first_state, own_circuit};
 
+pub(crate) mod at_once;
 pub(crate) mod edits;
 pub(crate) mod frames;
 pub(crate) mod requests;

@@ -17,6 +17,12 @@ drop_allowed p a fault.Empty h =
     absurd (omega (arith, a, none))
 drop_allowed p a _ h = h
 
+pub bit_allowed : (p : CircuitAndRows) (t i : ℕ) (w : Tern) → t < length p.rows → i < length p.circuit.inputs
+    → NoneApplies (Forbids p (set_bit t i w))
+bit_allowed p t i w a b fault.NoFrame h = omega (arith, a, h)
+bit_allowed p t i w a b fault.NoInput h = omega (arith, b, h)
+bit_allowed p t i w a b _ h = h
+
 -- an edit that fails for anything else is not possible
 pub refused : (p new q : CircuitAndRows) (e : Edit) (f : EditFault) → (IsLeastFault (Forbids p e) f ⊎ LacksMemory p e f) × (new ≡ p)
     → f ≢ fault.Memory → Leads p (e ∷ []) q → ⊥

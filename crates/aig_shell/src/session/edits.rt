@@ -14,6 +14,7 @@ ghost use Rattle.aig_shell.specs.State.{Leads, drop_edits, row_edits, set_edits,
 
 use crate::refusal::{Refusal, Wanted};
 use crate::session::Session;
+use crate::session::at_once::set_at_once;
 use aig_base::{Circuit, Kind, Lit, Tern};
 use aig_bench::{Bench, EditFault};
 use aig_prompt::{ValueFault, value_of};
@@ -23,6 +24,9 @@ use std::alloc::Global;
 
 /// The most cells of a bench: a cell for each variable at each frame.
 const CELLS: u64 = 67_108_864;
+
+/// How many values a line sets one by one.
+const FEW: usize = 64;
 
 /// The value that a word is, of so many bits.
 fn bits_of(alloc: Global, word: &[u8], bits: usize) -> Result<Vec<Tern>, Refusal<'_>>
@@ -81,8 +85,8 @@ fn set_inputs(bench: &mut Bench<PlaneGrid>, frame: u32, positions: &[u32], value
     }
 }
 
-/// Gives inputs their values at the frames from the first up to the end, which is none of them.
-fn set_frames(
+/// Gives inputs their values at the frames from the first up to the end, which is none of them, one by one.
+fn set_one_by_one(
     bench: &mut Bench<PlaneGrid>,
     first: u32,
     end: u32,
@@ -98,6 +102,36 @@ fn set_frames(
     for frame in first..end {
         set_inputs(bench, frame, positions, values);
     }
+}
+
+/// Whether so many values at so many frames are set at once. One by one, each might evaluate all frames.
+fn are_many(values: usize, frames: u32) -> bool {
+    values.saturating_mul(frames as usize) > FEW
+}
+
+/// Gives inputs their values at the frames from the first up to the end, which is none of them.
+fn set_frames(
+    alloc: Global,
+    bench: &mut Bench<PlaneGrid>,
+    first: u32,
+    end: u32,
+    positions: &[u32],
+    values: &[Tern],
+)
+    requires order { first ≤ end }
+    requires within { end ≤ length bench.old.pair.rows }
+    requires positions { All (λ p. p < length bench.old.pair.circuit.inputs) positions.now }
+    requires size { length values.now ≡ length positions.now }
+    ensures { Leads bench.old.pair (set_edits first (end - first) positions.now values.now) bench.new.pair }
+{
+    if are_many(values.len(), end - first) {
+        match set_at_once(alloc, bench, first, end, positions, values) {
+            Ok(()) => return,
+            // Without memory for a copy of the rows it takes longer.
+            Err(_) => {}
+        }
+    }
+    set_one_by_one(bench, first, end, positions, values);
 }
 
 /// Lets a latch start at a value.
@@ -215,6 +249,7 @@ impl Session {
         self.circuit().facts();
         let values = bits_of(self.alloc, value, positions.len())?;
         set_frames(
+            self.alloc,
             &mut self.run.bench,
             frames.first,
             frames.last + 1,

@@ -126,7 +126,7 @@ impl Drop for KeptRun {
 }
 
 /// A copy of rows.
-fn copy_of(alloc: Global, rows: &Stimulus) -> Result<Stimulus, Memory>
+pub(crate) fn copy_of(alloc: Global, rows: &Stimulus) -> Result<Stimulus, Memory>
     ensures { IfOk result (λ copy. copy ≡ rows.now) }
 {
     let mut copy = Stimulus::new(alloc, rows.width());

@@ -1,7 +1,7 @@
 use Rattle.std.proofs.Common.{◌≡◌, ◌-◌, length}
 use Rattle.aig_bench.specs.BenchState.{CircuitAndRows}
 use Rattle.aig_shell.specs.State.{Leads, set_edits}
-use Rattle.aig_shell.proofs.session.edits.set_frames.Given as goal
+use Rattle.aig_shell.proofs.session.edits.set_one_by_one.Given as goal
 
 abbrev pub invariant-loop-frame : goal.invariant-loop-frame
 invariant-loop-frame l = record {

@@ -2,7 +2,7 @@ use Rattle.std.proofs.Common.{◌<◌, All, length, arith, refl, sym, subst, ◌
 use Rattle.aig_parts.specs.declared.raw.Raw.{Raw}
 use Rattle.aig_shell.specs.State.{row_edits}
 use Rattle.aig_shell.proofs.editing.Leading.{leads_some, leads_none, frames_next, frames_end}
-use Rattle.aig_shell.proofs.session.edits.set_frames.Goals as goal
+use Rattle.aig_shell.proofs.session.edits.set_one_by_one.Goals as goal
 
 pub loop-frame-init : goal.loop-frame-init
 loop-frame-init c = record { leads = λ q h. h; frames = refl; circuit = refl }
