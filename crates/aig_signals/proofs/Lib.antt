@@ -14,3 +14,4 @@ pub mod SeenLemmas
 pub mod SignalLemmas
 pub mod TableLemmas
 pub mod ValueLemmas
+pub mod WantedLemmas

@@ -1,7 +1,7 @@
 -- Names of vectors that were seen once, or more often.
 use Rattle.std.proofs.Common.{◌≡◌, ℕ, zero, suc, ◌+◌, ◌<◌, Bool, true, false, List, length, get_or, take, Option, None}
 use Rattle.std.proofs.Common.{Some, inl, inr, refl, sym, ap, ◌∙◌, arith, add-one}
-use Rattle.std.specs.Prelude.{◌==◌, not, is_some}
+use Rattle.std.specs.Prelude.{◌==◌, not, is_some, if◌then◌else◌}
 use Rattle.std.specs.List.{count_by}
 use Rattle.std.specs.Map.{lookup, IsKeyTest, AreApart, KeepsOthers}
 use Rattle.std.proofs.lemmas.List.Sums.{count_by_more_no, count_by_more_yes}
@@ -65,4 +65,19 @@ module _ {K : Type 0} (items : K → List ℕ) (eq : K → K → Bool) (eq_is : 
     | inr fails ↦
         others (at x) (key_test x) (apart test name x is fails)
         ∙ ap (λ (b : Bool). noted b (lookup (at x) old)) (sym fails)
+  ]
+
+  -- the same of any value
+  pub put_step : {V : Type 0} (test : K → Bool) (name x : List ℕ) (old new : List (K × V)) (v : V) → ((q : K) → test q ≡ at name q)
+      → lookup test new ≡ Some v → KeepsOthers eq test old new
+      → lookup (at x) new ≡ (if bytes_eq x name then Some v else lookup (at x) old)
+  unfolding KeepsOthers
+  put_step test name x old new v is there others = elim (cases_Bool (bytes_eq x name)) [
+    | inl holds ↦
+        let same : x ≡ name = same_bytes x name holds in
+        ap (λ (y : List ℕ). lookup (at y) new) same ∙ ap (λ (t : K → Bool). lookup t new) (sym (by_name test name is)) ∙ there
+        ∙ ap (λ (b : Bool). if b then Some v else lookup (at x) old) (sym holds)
+    | inr fails ↦
+        others (at x) (key_test x) (apart test name x is fails)
+        ∙ ap (λ (b : Bool). if b then Some v else lookup (at x) old) (sym fails)
   ]

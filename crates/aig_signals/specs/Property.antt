@@ -42,3 +42,8 @@ IsPosition raw section text p = IsNumbered section text p ⊎ IsUnnumbered secti
 -- why it names none
 abbrev pub RefusesProperty : Raw → PropertySection → List ℕ → PropertyFault → Type 0
 RefusesProperty raw section text fault = IsUnnumbered section text × RefusesName raw section text fault
+
+-- the names of a section of a circuit, as contracts see a table of them
+pub record NamesOf : Type 0 where
+  pub circuit : Raw
+  pub section : PropertySection

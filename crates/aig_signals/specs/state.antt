@@ -3,3 +3,4 @@ pub mod NameHash
 pub mod Naming
 pub mod PropertyNaming
 pub mod Seen
+pub mod Wanted

@@ -21,6 +21,7 @@ pub use property::fault::{NamesFault, PropertyFault};
 pub use property::lookup::position_of;
 pub use property::naming::named;
 pub use property::number::{decimal_of, number_of};
+pub use property::wanted::PropertyNames;
 pub use run::{Run, runs_of};
 pub use section::{SECTIONS, count_of, literal_at};
 pub use signal::{Signal, signals_of};

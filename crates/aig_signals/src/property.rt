@@ -3,3 +3,4 @@ pub(crate) mod fault;
 pub(crate) mod lookup;
 pub(crate) mod naming;
 pub(crate) mod number;
+pub(crate) mod wanted;

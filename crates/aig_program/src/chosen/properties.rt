@@ -13,7 +13,7 @@ use aig_cli::{has_flag, text_of, texts_of};
 use aig_command::{RunFault, position_in, read_circuit};
 use aig_commands::question::Question;
 use aig_files::{Exit, Part, Source, Terminal, Tracked};
-use aig_signals::{number_of as number_in, position_of};
+use aig_signals::{PropertyNames, number_of as number_in};
 use clap::ArgMatches;
 use std::alloc::Global;
 use std::fs::Files;
@@ -156,9 +156,10 @@ fn positions_in(
         AreEach (IsPositionIn file.now section) (map (λ text. text.now) texts.now) positions.items) }
 {
     let circuit = read_circuit(alloc, file)?;
+    let names = PropertyNames::among(alloc, &circuit, section, texts)?;
     let mut positions = Vec::new(alloc);
     for text in texts {
-        let position = position_of(&circuit, section, text.as_bytes())?;
+        let position = names.position_of(text.as_bytes())?;
         if positions.push(position).is_err() {
             return Err(RunFault::Memory);
         }

@@ -11,8 +11,8 @@ use crate::property::number::number_of;
 use aig_base::{Circuit, Kind, PropertySection};
 
 /// The positions that have a name, as far as they were looked at: the two least.
-#[derive(Clone, Copy)]
-enum Found {
+#[derive(Clone, Copy, Drop)]
+pub(crate) enum Found {
     Nothing,
     One(u32),
     Two(u32, u32),
@@ -20,7 +20,7 @@ enum Found {
 
 impl Found {
     /// One more position.
-    fn with(self, position: u32) -> Found
+    pub(crate) fn with(self, position: u32) -> Found
         ensures { Adds self position result }
     {
         match self {
@@ -42,7 +42,7 @@ fn is_named(section: PropertySection, kind: Kind, other: &[u8], name: &[u8]) -> 
 }
 
 /// The position of the only property of a section that has this name.
-fn position_named(
+pub(crate) fn position_named(
     circuit: &Circuit,
     section: PropertySection,
     name: &[u8],

@@ -1,4 +1,5 @@
 use Rattle.std.proofs.Common.{◌≡◌, ℕ, List, [], ◌∷◌, ◌++◌, subst, arith}
+use Rattle.aig_signals.specs.Property.{IsPosition, NamesOf}
 use Rattle.aig_command.specs.Position.{IsPositionIn}
 use Rattle.aig_program.proofs.TextPositions.{first_all, first_more, pushed}
 use Rattle.aig_program.proofs.chosen.properties.positions_in.Goals as goal
@@ -12,7 +13,8 @@ loop-text-preserved c =
     let found : IsPositionIn c.args.file.now c.args.section c.as_bytes.result.now position = (
       c.in_ok-circuit.circuit,
       c.in_ok-circuit.ensures.circuit,
-      c.in_ok-position.ensures.position,
+      subst (λ (names : NamesOf). IsPosition names.circuit names.section c.as_bytes.result.now position) c.in_ok-names.ensures
+          c.in_ok-position.ensures.position,
     ) in
     let named = subst (λ (text : List ℕ). IsPositionIn c.args.file.now c.args.section text position) c.as_bytes.ensures.value
     found in
