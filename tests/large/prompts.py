@@ -1,12 +1,15 @@
-"""Lines at the prompt that ask for the name that is nearest to a word, among 100,000. If each name took a table of the
-distances between all parts of it and of the word, they would take half a minute."""
+"""Lines at the prompt and arguments that ask for many things at once: a value at 65,536 frames, the name that is nearest to
+a word among 100,000, and 16,000 properties by their names. If each frame of a line cost all later frames, or each name of
+the arguments a walk over all names, they would take minutes."""
 
 import resource
 
 from library.runs import Ended, write
 
 SECONDS = 15  # of processor time, for each run
+FRAMES = 65_536
 NAMES = 100_000
+PROPERTIES = 16_000
 
 
 def prompts(program, tally, _):
@@ -20,7 +23,43 @@ def prompts(program, tally, _):
 
 def runs():
     """The words, the lines and what is written, by name."""
+    yield "a value at 65,536 frames", at_all_frames()
+    yield "a value of 4,096 inputs at 650 frames", of_a_vector()
     yield "the name that is nearest, of 100,000", nearest()
+    yield "16,000 properties by their names", named_properties()
+
+
+def at_all_frames():
+    """A latch that flips where the input is 1, and another that flips where the first is 1: so each frame depends on all
+    before it. At frame t the first is t modulo 2, and the second is the half of t, rounded down, modulo 2."""
+    write("circuit", "aag 9 1 2 1 6\n2\n4 15\n6 19\n6\n10 2 5\n12 3 4\n14 11 13\n8 4 7\n16 5 6\n18 9 17\n")
+    write("rows", "0\n" * FRAMES)
+    last = FRAMES - 1
+    lines = f"set 0-{last} i0 1\nshow i0 l0 l1 @{last - 1}-{last}\nset 9-{last} i0 0\nshow i0 l0 l1 @{last}\n" + LEAVE
+    wide = "".join(f"{name:<5} {one:>5} {other:>5}\n" for name, one, other in (
+        ("frame", last - 1, last), ("i0", 1, 1), ("l0", 0, 1), ("l1", 1, 1)))
+    narrow = "".join(f"{name:<5} {value:>5}\n" for name, value in (("frame", last), ("i0", 0), ("l0", 1), ("l1", 0)))
+    return ("shell", "circuit", "rows"), lines, wide + narrow + LEFT
+
+
+def of_a_vector():
+    """Latches that each flip where an input of a vector is 1."""
+    count, frames = 4096, 650
+    inputs = [2 * (1 + place) for place in range(count)]
+    latches = [inputs[-1] + 2 * (1 + place) for place in range(count)]
+    gates, following = [], []
+    top = latches[-1]
+    for one, other in zip(inputs, latches):
+        gates += [f"{top + 2} {one} {other ^ 1}\n", f"{top + 4} {one ^ 1} {other}\n", f"{top + 6} {top + 3} {top + 5}\n"]
+        following.append(top + 7)
+        top += 6
+    head = f"aag {top // 2} {count} {count} 0 {len(gates)}\n"
+    lines = [*(f"{literal}\n" for literal in inputs), *(f"{at} {after}\n" for at, after in zip(latches, following))]
+    write("circuit", head + "".join(lines + gates) + "".join(f"i{place} v[{place}]\n" for place in range(count)))
+    write("rows", ("0" * count + "\n") * frames)
+    lines = f"set 0-{frames - 1} v {'f' * (count // 4)}\nshow l0 l4095 @{frames - 2}-{frames - 1}\n" + LEAVE
+    table = f"frame {frames - 2} {frames - 1}\nl0      0   1\nl4095   0   1\n"
+    return ("shell", "circuit", "rows"), lines, table + LEFT
 
 
 def nearest():
@@ -33,6 +72,20 @@ def nearest():
     lines = f"show {word}\nshow {far}\n" * 10
     near = f"no: no name {word}; do you mean {names[50_000]}?\nno: no name {far}\n"
     return ("shell", "circuit", "rows"), lines, near * 10
+
+
+def named_properties():
+    names = [f"p{at:05}x" for at in range(PROPERTIES)]
+    write("circuit", f"aag 1 1 0 0 0 {PROPERTIES}\n2\n" + "2\n" * PROPERTIES
+          + "".join(f"b{at} {name}\n" for at, name in enumerate(names)))
+    words = [word for name in reversed(names) for word in ("--property", name)]
+    written = f"aag 1 1 0 0 0 {PROPERTIES}\n2\n" + "2\n" * PROPERTIES
+    written += "".join(f"b{PROPERTIES - 1 - at} {name}\n" for at, name in enumerate(names))
+    return ("select", "--to", "aag", *words, "circuit"), "", written
+
+
+LEAVE = "quit\nquit\n"
+LEFT = "unsaved: run; quit again to leave\n"
 
 
 def limited():
