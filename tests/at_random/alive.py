@@ -1,6 +1,6 @@
-"""Whether some run of a small random circuit keeps all constraints (`aig cnf --alive`, `aig refute --alive`), beside a
-search of all runs: the formula is satisfied exactly where the run does, and a proof of all cases is accepted exactly
-where no run does."""
+"""Whether some run of a small random circuit keeps all constraints (`aig cnf --alive`, `aig refute --alive`, `aig witness
+--alive`, `aig check --alive`), beside a search of all runs: the formula is satisfied exactly where the run does, a proof
+of all cases is accepted exactly where no run does, and a run is written and checked exactly where it does."""
 
 import itertools
 
@@ -10,7 +10,7 @@ from at_random.replays import started
 from library.broken import circuit
 from library.families import propagated
 from library.reference import Parts, literal, values
-from library.runs import Ended, write
+from library.runs import Ended, refused, write
 
 
 def small_circuit(rng, frames):
@@ -30,6 +30,47 @@ def kept_frames(text, parts, start, rows):
         held = held and all(literal(known, l) == "1" for l in parts.constraints)
         kept.append(held)
     return kept
+
+
+def broken_at(text, parts, start, rows, frames):
+    """What `check --alive` prints of a run: the first reason why it does not keep all constraints for so many frames."""
+    for position, (value, latch) in enumerate(zip(start, parts.latches)):
+        if latch[2] in (0, 1) and value != str(latch[2]):
+            return f"initial {position}\n"
+    for frame, known in enumerate(values(started(text, start), rows)):
+        if frame < frames:
+            for position, l in enumerate(parts.constraints):
+                if literal(known, l) != "1":
+                    return f"constraint {frame} {position}\n"
+    return "alive\n" if len(rows) >= frames else f"frames {len(rows)}\n"
+
+
+def runs(program, rng, text, parts, formula, frames, true):
+    """A model whole, and some of it: the run that it names, written and checked; then a run with other values."""
+    for literals in (true, [l for l in true if rng.randrange(4)]):
+        named = set(literals)
+
+        def value(variable):
+            return "1" if variable in named else "0" if -variable in named else "x"
+
+        start = [value(formula.starts[p]) if p in formula.starts else str(latch[2]) for p, latch in enumerate(parts.latches)]
+        rows = [[value(formula.inputs[t, p]) for p in range(len(parts.inputs))] for t in range(frames)]
+        wanted = broken_at(text, parts, start, rows, frames)
+        write("model", " ".join(map(str, [*literals, 0])) + "\n")
+        got = program.run("witness", "--alive", "--model", "model", "--frames", str(frames), "circuit")
+        lines = "".join("".join(row) + "\n" for row in [start, *rows])
+        if got != (Ended(0, f"1\nb0\n{lines}.\n".encode(), b"") if wanted == "alive\n" else refused("witness: no run", b"")):
+            raise Wrong(f"{got} of {literals}, wanted {wanted}")
+        rows = [[rng.choice("01x") if rng.randrange(8) == 0 else v for v in row] for row in rows]
+        start = [rng.choice("01x") if rng.randrange(8) == 0 else v for v in start]
+        lines = "".join("".join(row) + "\n" for row in [start, *rows])
+        write("run", f"1\nb{rng.randrange(3)}\n{lines}.\n")
+        asked = rng.choice((None, 0, 1, frames, frames + 1))
+        words = [] if asked is None else ["--frames", str(asked)]
+        wanted = broken_at(text, parts, start, rows, frames if asked is None else asked)
+        got = program.run("check", "--alive", *words, "circuit", "run")
+        if got != Ended(0 if wanted == "alive\n" else 1, wanted.encode(), b""):
+            raise Wrong(f"{got} of {words} and {lines}, wanted {wanted}")
 
 
 def proof_of(variables):
@@ -67,6 +108,8 @@ def case(program, rng):
         if propagated(formula.clauses, true)[1] == wanted[-1]:
             raise Wrong(f"satisfied or not at {true}, wanted {wanted[-1]}")
         alive = alive or wanted[-1]
+        if rng.randrange(4) == 0:
+            runs(program, rng, text, parts, formula, frames, true)
     write("proof", proof_of(variables))
     got = program.run("refute", "--alive", "--frames", str(frames), "circuit", "proof")
     if alive and (got.status != 1 or not got.err.startswith(b"aig: proof: ") or got.out):

@@ -49,6 +49,43 @@ VERDICTS = (
     (UNFOLDED, "1/b0//1/./", "confirmed"),
 )
 
+KEPT_LATCH = "aag 1 0 1 0 0 0 1/2 2 2/2/"
+TWO_LATCHES = "aag 4 2 2 0 0 1 2/2/4/6 6/8 8/2/2/4/"
+
+# A circuit, the frames that are asked for, a witness, and whether its run keeps the constraints.
+ALIVE = (
+    (CONSTRAINED, "", "1/b0//11/01/./", "alive"),
+    (CONSTRAINED, "2", "1/b0//11/01/./", "alive"),
+    (CONSTRAINED, "1", "1/b0//01/00/./", "alive"),
+    (CONSTRAINED, "1", "1/b0//x1/xx/./", "alive"),
+    (CONSTRAINED, "2", "1/b0//01/00/./", "constraint 1 0"),
+    (CONSTRAINED, "", "1/b0//01/00/./", "constraint 1 0"),
+    (CONSTRAINED, "2", "1/b0//01/0x/./", "constraint 1 0"),
+    (CONSTRAINED, "", "1/b0//1x/./", "constraint 0 0"),
+    (CONSTRAINED, "3", "1/b0//01/01/./", "frames 2"),
+    (CONSTRAINED, "3", "1/b0//01/0x/./", "constraint 1 0"),
+    (CONSTRAINED, "4294967295", "1/b0//01/./", "frames 1"),
+    (CONSTRAINED, "0", "1/b0//00/./", "alive"),
+    (CONSTRAINED, "", "1/b7//x1/./", "alive"),
+    (CONSTRAINED, "", "1/b99999999999999999999//x1/./", "alive"),
+    (CONSTRAINED_TWICE, "", "1/b0//011/001/./", "constraint 1 0"),
+    (CONSTRAINED_TWICE, "", "1/b0//011/010/./", "constraint 1 1"),
+    (CONSTRAINED_TWICE, "2", "1/b0//011/011/000/./", "alive"),
+    (TWO_LATCHES, "", "1/b0/01/11/./", "initial 1"),
+    (TWO_LATCHES, "", "1/b0/0x/11/./", "initial 1"),
+    (TWO_LATCHES, "5", "1/b0/11/00/./", "initial 0"),
+    (TWO_LATCHES, "", "1/b0/00/11/./", "alive"),
+    (CONSTRAINED_LATCH.format(3), "", "1/b0/01x//./", "alive"),
+    (CONSTRAINED_LATCH.format(2), "", "1/b0/01x//./", "constraint 0 0"),
+    (KEPT_LATCH, "", "1/b0/1//./", "alive"),
+    (KEPT_LATCH, "", "1/b0/0//./", "constraint 0 0"),
+    (KEPT_LATCH, "", "1/b0/x//./", "constraint 0 0"),
+    (TOGGLED, "", "1/b0/0//./", "alive"),
+    (TOGGLED, "2", "1/b0/0//./", "frames 1"),
+    ("aag 1 1 0 0 0 0 1/2/2/", "1", "1/b0//1/./", "alive"),
+    ("aag 1 1 0 0 0 0 1/2/0/", "", "1/b0//1/./", "constraint 0 0"),
+)
+
 # Witnesses of the toggled latch that are refused.
 REFUSALS = (
     ("1/b1/0//./", "property"),
@@ -98,6 +135,7 @@ def check(program, tally, _):
     for witness, text in REFUSALS:
         texts = {"circuit": TOGGLED.replace("/", "\n"), "witness": witness.replace("/", "\n")}
         rows.refuses(f"{TOGGLED} {witness}", "check circuit witness", f"witness: {text}", **texts)
+    alive(rows)
     examples(rows)
     limits(rows)
     properties(rows)
@@ -106,6 +144,27 @@ def check(program, tally, _):
     for part, runs in FAILURES:
         for files in runs:
             rows.fails(f"the {part}'s file is told of {files}", f"check {files}", part)
+
+
+def alive(rows):
+    """`--alive`: whether the run of a witness keeps all constraints, whatever the properties are."""
+    for circuit, frames, witness, verdict in ALIVE:
+        texts = {"circuit": circuit.replace("/", "\n"), "witness": witness.replace("/", "\n")}
+        words = f"check --alive --frames {frames} circuit witness" if frames else "check --alive circuit witness"
+        rows.gives(f"{circuit} {frames} {witness}", words, verdict + "\n", 0 if verdict == "alive" else 1, **texts)
+    for witness, text in REFUSALS:
+        if text == "text":
+            texts = {"circuit": TOGGLED.replace("/", "\n"), "witness": witness.replace("/", "\n")}
+            rows.refuses(f"--alive {TOGGLED} {witness}", "check --alive circuit witness", "witness: text", **texts)
+    words = "check --alive bad_input witness"
+    rows.gives("the greatest run that may be alive", words, "alive\n", witness=frames_of(0, 65536) + ".\n")
+    rows.refuses("a run that is too long to be alive", words, "witness: limit", witness=frames_of(1, 65537) + ".\n")
+    rows.refuses("a circuit wins over a run", "check --alive cycle witness", "circuit: cycle 2")
+    rows.fails("no file of a run", "check --alive bad_input nowhere", "witness")
+    for words in ("--alive --trace", "--alive --property 0", "--frames 1", "--frames 1 --trace", "--alive --frames -1",
+                  "--alive --frames 01", "--alive --frames 4294967296", "--alive --frames"):
+        got = rows.run("check", *words.split(" "), "bad_input", "witness")
+        rows.tally.check(f"check: {words}", got.status == 2 and not got.out, got)
 
 
 def examples(rows):
@@ -118,17 +177,17 @@ def examples(rows):
     rows.refuses("a circuit wins over a witness", "check cycle bad_input", "circuit: cycle 2")
 
 
-def frames(of, count):
+def frames_of(of, count):
     """The beginning of a witness of a property, with so many frames."""
     return f"1\nb{of}\n\n" + "1\n" * count
 
 
 def limits(rows):
     words = "check bad_input witness"
-    rows.gives("as many frames as a witness may have", words, "confirmed\n", witness=frames(0, 65536) + ".\n")
-    rows.refuses("more frames than a witness may have", words, "witness: limit", witness=frames(0, 65537) + ".\n")
-    rows.refuses("a property wins over the frames", words, "witness: property", witness=frames(1, 65537) + ".\n")
-    rows.refuses("a text wins over a property", words, "witness: text", witness=frames(1, 65537))
+    rows.gives("as many frames as a witness may have", words, "confirmed\n", witness=frames_of(0, 65536) + ".\n")
+    rows.refuses("more frames than a witness may have", words, "witness: limit", witness=frames_of(0, 65537) + ".\n")
+    rows.refuses("a property wins over the frames", words, "witness: property", witness=frames_of(1, 65537) + ".\n")
+    rows.refuses("a text wins over a property", words, "witness: text", witness=frames_of(1, 65537))
 
 
 def properties(rows):
@@ -157,7 +216,7 @@ def properties(rows):
     rows.refuses("a circuit wins over the property", "check --property 1 cycle witness", "circuit: cycle 2",
                  witness=HELD.format(0))
     rows.refuses("the frames win over the property", "check --property 1 bad_input witness", "witness: limit",
-                 witness=frames(0, 65537) + ".\n")
+                 witness=frames_of(0, 65537) + ".\n")
     rows.refuses("the property wins over the run", "check --property 1 named witness", "witness: of b0, not b1",
                  witness="1\nb0\n\n0x\n.\n")
     explained(rows)

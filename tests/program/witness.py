@@ -127,6 +127,37 @@ STEP_MODELS = (
     ("a step that reaches the property at once", "--frames 1", DELAY, "4 0", "1\nb0\n1\nx\n.\n", "initial 0"),
 )
 
+# The constraint is the input; the latch, which keeps any value; one of two inputs; the input and a latch that starts at 1.
+KEEPS_INPUT = "aag 1 1 0 0 0 0 1\n2\n2\n"
+KEEPS_LATCH = "aag 1 0 1 0 0 0 1\n2 2 2\n2\n"
+KEEPS_SECOND = "aag 2 2 0 0 0 1 1\n2\n4\n2\n4\n"
+KEEPS_BOTH = "aag 3 1 2 0 0 1 2\n2\n4 4 1\n6 2 6\n2\n2\n4\n"
+
+# A name of the row, the frames, the circuit, a solver's model of the formula of cnf --alive, and what is written.
+ALIVE_MODELS = (
+    ("a run of one frame", 1, KEEPS_INPUT, "s SATISFIABLE\nv -1 2 0\n", "1\nb0\n\n1\n.\n"),
+    ("a run of two frames", 2, KEEPS_INPUT, "2 3 0", "1\nb0\n\n1\n1\n.\n"),
+    ("inputs that are not named", 2, KEEPS_SECOND, "3 5 -4 0", "1\nb0\n\nx1\n01\n.\n"),
+    ("a start that the model names", 2, KEEPS_LATCH, "2 0", "1\nb0\n1\n\n\n.\n"),
+    ("a start by the resets", 2, KEEPS_BOTH, "2 3 -4 0", "1\nb0\n10\n1\n1\n.\n"),
+    ("no constraint", 3, "bad_input", "0\n", "1\nb0\n\nx\nx\nx\n.\n"),
+)
+
+# Models whose run breaks a constraint.
+BROKEN_MODELS = (
+    ("a constraint that is 0", 2, KEEPS_INPUT, "2 -3 0"),
+    ("a constraint that is x", 2, KEEPS_INPUT, "3 0"),
+    ("a start that is 0", 1, KEEPS_LATCH, "-2 0"),
+    ("a start that is x", 1, KEEPS_LATCH, "0\n"),
+    ("a constraint that no run keeps", 1, "aag 0 0 0 0 0 0 1\n0\n", "0\n"),
+)
+
+ALIVE_REFUSALS = (
+    ("a run of no frames", "--frames 0 bad_input", "cnf: no frames"),
+    ("a run of too many frames", "--frames 65537 bad_input", "cnf: limit"),
+    ("a run of a refused circuit", "--frames 0 cycle", "circuit: cycle 2"),
+)
+
 STEP_REFUSALS = (
     ("a step of no frames", "--frames 0 --property 7 bad_input", "cnf: no frames"),
     ("a step of no property", "--frames 65536 --property 1 bad_input", "cnf: property"),
@@ -155,6 +186,34 @@ def step_models(rows):
     write("model", "-2 0\n")
     for name, words, fault in STEP_REFUSALS:
         rows.refuses(name, f"witness --step --model model {words}", fault)
+
+
+def alive_models(rows):
+    """Models of the formula that a run keeps all constraints."""
+    for name, frames, circuit, model, text in ALIVE_MODELS:
+        file = circuit
+        if circuit.startswith("aag"):
+            file = "circuit"
+            write(file, circuit)
+        write("model", model)
+        rows.gives(name, f"witness --alive --model model --frames {frames} {file}", text)
+        write("found", text)
+        rows.gives(f"{name}, checked", f"check --alive --frames {frames} {file} found", "alive\n")
+    for name, frames, circuit, model in BROKEN_MODELS:
+        write("circuit", circuit)
+        write("model", model)
+        rows.refuses(name, f"witness --alive --model model --frames {frames} circuit", "witness: no run")
+    for name, model, fault in BAD_MODELS:
+        write("model", model)
+        rows.refuses(f"{name}, of a run", "witness --alive --frames 2 --model model bad_input", f"model: {fault}")
+    for name, words, fault in ALIVE_REFUSALS:
+        rows.refuses(name, f"witness --alive --model model {words}", fault)
+    for words in ("--alive", "--alive --model model", "--alive --frames 1", "--alive --model model --frames 1 --property 0",
+                  "--alive --model model --frames 1 --step", "--alive --model model --certificate bad_input"):
+        got = rows.run("witness", *words.split(" "), "bad_input")
+        rows.tally.check(f"witness: {words}", got.status == 2 and not got.out, got)
+    got = rows.run("witness", "--alive", "bad_input", "rows")
+    rows.tally.check("witness: --alive with a stimulus", got.status == 2 and not got.out, got)
 
 
 def models(rows):
@@ -223,5 +282,6 @@ def witness(program, tally, _):
     rows.fails("no circuit", "witness missing missing", "circuit")
     models(rows)
     step_models(rows)
+    alive_models(rows)
     write("rows", "1\n" * 9)
     rows.gives("an example", f"witness {EXAMPLES}/wraps.aag rows", contents(f"{EXAMPLES}/wraps.wit"))

@@ -14,6 +14,7 @@ use Rattle.aig_command.specs.Command.{OfCircuit, OfFile, OfReader}
 use Rattle.aig_command.specs.declared.run_fault.RunFault.{RunFault}
 use Rattle.aig_command.specs.declared.run_fault.RunFault.TheVariants as run_faults
 use Rattle.aig_commands.specs.Alive.{WritesAlive}
+use Rattle.aig_commands.specs.AliveWitness.{WritesAliveModel, WritesKept}
 use Rattle.aig_commands.specs.Certified.{OfCertified}
 use Rattle.aig_commands.specs.Check.{Checks, RefusesWitness}
 use Rattle.aig_commands.specs.Cnf.{WritesAsked}
@@ -128,9 +129,19 @@ model query text raw fault bytes (no_model why has refused) = refl
 model query text raw fault bytes (names values answer bytes' has is m) =
     named (depth query) query.property values (subject query.goal raw) fault bytes m
 
+kept : (k : ℕ) (values : List Tern) (raw : Raw) → Silent (WritesKept k values raw)
+kept k values raw (run_faults.Reach reaches.NoRun) bytes m = m.1
+kept k values raw (run_faults.Reach reaches.Memory) bytes m = m
+kept k values raw fault bytes m = absurd m
+
+alive_model : (k : ℕ) (text : List ℕ) (raw : Raw) → Silent (WritesAliveModel k text raw)
+alive_model k text raw fault bytes (WritesAliveModel.no_formula why refused) = refl
+alive_model k text raw fault bytes (WritesAliveModel.no_model why has refused) = refl
+alive_model k text raw fault bytes (WritesAliveModel.names values answer bytes' has is m) = kept k values raw fault bytes m
+
 names_for : (asked : Heading) (text : List ℕ) (raw : Raw) → Silent (NamesFor asked text raw)
 names_for (headings.Runs query) text raw = model query text raw
-names_for (headings.Alive k) text raw = λ fault bytes m. m.1
+names_for (headings.Alive k) text raw = alive_model k text raw
 names_for (headings.Certified p) text raw = model (induction 1 0) text raw
 
 pub names_run : (asked : Asked) (text file : List ℕ) → Silent (NamesQuestion asked text file)

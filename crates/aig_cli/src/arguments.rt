@@ -91,7 +91,7 @@ pub const ROWS: Argument = Argument {
     name: "STIM",
     help: "File of the stimulus: one line per frame,\none 0, 1 or x (unknown) per input",
     kind: Kind::Text,
-    need: Need::Without("model", &["model", "K", "step", "certificate"]),
+    need: Need::Without("model", &["model", "K", "step", "certificate", "alive"]),
 };
 
 pub const RUN: Argument = Argument {
@@ -141,6 +141,29 @@ pub const ALIVE: Argument = Argument {
     help: "Ask instead whether a run keeps all constraints\nfor K frames",
     kind: Kind::Flag,
     need: Need::But(&["P", "step", "certificate"]),
+};
+
+/// The flag of `witness --model`.
+pub const MODEL_ALIVE: Argument = Argument {
+    name: "alive",
+    help: "MODEL is of the formula of cnf --alive",
+    kind: Kind::Flag,
+    need: Need::With("model", &["P", "step", "certificate"]),
+};
+
+/// The flag of `check`.
+pub const CHECKS_ALIVE: Argument = Argument {
+    name: "alive",
+    help: "Check instead that the run keeps all constraints",
+    kind: Kind::Flag,
+    need: Need::But(&["P", "trace"]),
+};
+
+pub const CHECKED_FRAMES: Argument = Argument {
+    name: "K",
+    help: "With --alive, for how many frames (default: all of\nthe witness)",
+    kind: Kind::Number("frames"),
+    need: Need::With("alive", &[]),
 };
 
 pub const FRAMES: Argument = Argument {

@@ -119,6 +119,8 @@ static WITNESSES: [Subcommand; 4] = [
         arguments: &[
             arguments::TRACE,
             arguments::CHECKED,
+            arguments::CHECKS_ALIVE,
+            arguments::CHECKED_FRAMES,
             arguments::CIRCUIT,
             arguments::WITNESS,
         ],
@@ -133,6 +135,7 @@ static WITNESSES: [Subcommand; 4] = [
             arguments::MODEL_FRAMES,
             arguments::MODEL_STEP,
             arguments::MODEL_CERTIFICATE,
+            arguments::MODEL_ALIVE,
             arguments::REACHED,
             arguments::CIRCUIT,
             arguments::ROWS,

@@ -1,3 +1,4 @@
+pub mod AliveRuns
 pub mod Asked
 pub mod Certificates
 pub mod EntryLines

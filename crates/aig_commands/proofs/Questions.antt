@@ -27,6 +27,7 @@ use Rattle.aig_command.specs.declared.run_fault.RunFault.TheVariants as run_faul
 use Rattle.aig_command.proofs.Files.{MeansNoFault, answered, of_file}
 use Rattle.aig_command.proofs.Written.{ends_map, got_none}
 use Rattle.aig_sat.specs.declared.proof.fault.ProofFault.{ProofFault}
+use Rattle.aig_commands.specs.AliveWitness.{WritesAliveModel}
 use Rattle.aig_commands.specs.Certified.{IsCertified, RefusesCertified, apart, no_certificate, no_circuit, strengthening_fault}
 use Rattle.aig_commands.specs.Questions.{Asked, ChecksFor, NamesFor, OfSubject, RefutesFor, RefutesQuestion, Says, WritesFor}
 use Rattle.aig_commands.specs.Questions.{asked_of, certificate_of, heading_of, query_of, question_map}
@@ -137,7 +138,7 @@ writes_no_fault (Certified p) raw fault bytes h = h
 pub names_no_fault : (asked : Heading) (model : List ℕ) (raw : Raw) (fault : Fault) (bytes : List ℕ)
     → NamesFor asked model raw (Err (run_faults.Circuit fault)) bytes → ⊥
 names_no_fault (Runs query) model raw fault bytes h = no_circuit_fault query model raw fault bytes h
-names_no_fault (Alive k) model raw fault bytes (is, none) = let no : ⊥ = cc in no
+names_no_fault (Alive k) model raw fault bytes (WritesAliveModel.names values answer text has is m) = m
 names_no_fault (Certified p) model raw fault bytes h = no_circuit_fault (induction 1 0) model raw fault bytes h
 
 -- ---- the check of its proof

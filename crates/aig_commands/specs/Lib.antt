@@ -1,6 +1,8 @@
 pub mod Alive
+pub mod AliveWitness
 pub mod Certified
 pub mod Check
+pub mod CheckAlive
 pub mod Cnf
 pub mod GoesWell
 pub mod Info

@@ -5,14 +5,13 @@ use Rattle.std.specs.Prelude.{◌≡◌, ℕ, List, [], Option, None, Some, Resu
 use Rattle.std.specs.Borrow.{Bor}
 use Rattle.aig_parts.specs.declared.raw.Raw.{Raw}
 use Rattle.aig_cnf.specs.Query.{induction, last, step, within}
-use Rattle.aig_cnf.specs.declared.fault.CnfFault.TheVariants as formulas
 use Rattle.aig_cnf.specs.declared.heading.Heading.{Heading}
 use Rattle.aig_cnf.specs.declared.heading.Heading.TheVariants.{Runs, Alive, Certified}
 use Rattle.aig_cnf.specs.declared.query.Query.{Query}
 use Rattle.aig_command.specs.Command.{OfFile}
 use Rattle.aig_command.specs.declared.run_fault.RunFault.{RunFault}
-use Rattle.aig_command.specs.declared.run_fault.RunFault.TheVariants as run_faults
 use Rattle.aig_commands.specs.Alive.{ChecksAlive, IsFileWithoutRun, RefutesAlive, WritesAlive}
+use Rattle.aig_commands.specs.AliveWitness.{WritesAliveModel}
 use Rattle.aig_commands.specs.Certified.{OfCertified}
 use Rattle.aig_commands.specs.Cnf.{WritesCertified, WritesFormula}
 use Rattle.aig_commands.specs.ModelWitness.{WritesModel}
@@ -73,11 +72,10 @@ WritesFor (Certified p) = WritesCertified p
 abbrev pub WritesQuestion : Asked → List ℕ → Result (Unit {0}) RunFault → List ℕ → Type 0
 WritesQuestion asked file = OfSubject (certificate_of asked) file (WritesFor (heading_of asked))
 
--- What `witness` writes for a model of the formula, of that circuit and of the file. A witness is of a property, so
--- there is none where it is asked whether some run keeps all constraints.
+-- what `witness` writes for a model of the formula, of that circuit and of the file
 abbrev pub NamesFor : Heading → List ℕ → Raw → Result (Unit {0}) RunFault → List ℕ → Type 0
 NamesFor (Runs query) model = WritesModel query model
-NamesFor (Alive k) model = λ raw answer text. (answer ≡ Err (run_faults.Cnf formulas.Property)) × (text ≡ [])
+NamesFor (Alive k) model = WritesAliveModel k model
 NamesFor (Certified p) model = WritesModel (induction 1 0) model
 
 abbrev pub NamesQuestion : Asked → List ℕ → List ℕ → Result (Unit {0}) RunFault → List ℕ → Type 0

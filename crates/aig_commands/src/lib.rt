@@ -1,6 +1,8 @@
 //! The commands, from bytes to bytes: a module each, with the call that has its name.
 #![tactic(auto)]
 
+pub mod alive;
+mod alive_witness;
 pub mod certified;
 pub mod check;
 pub mod cnf;

@@ -11,6 +11,7 @@ ghost use Rattle.aig_commands.specs.ModelWitness.{RefusesModel, WritesModel, Wri
 ghost use Rattle.aig_commands.specs.Questions.{NamesFor, NamesQuestion, asked_of, heading_of};
 ghost use Rattle.aig_sat.specs.model.ModelText.{IsModelOf};
 
+use crate::alive_witness;
 use crate::named_run::NamedRun;
 use crate::question::{INDUCTION, Question, circuit_of, heading_of};
 use aig_base::{Circuit, Write};
@@ -44,7 +45,11 @@ fn size_of(alloc: Global, circuit: &mut Circuit, query: Query) -> Result<Size, C
 }
 
 /// Reads a model of a formula.
-fn read_values(alloc: Global, model: &[u8], variables: u32) -> Result<Assignment, ModelFault>
+pub(crate) fn read_values(
+    alloc: Global,
+    model: &[u8],
+    variables: u32,
+) -> Result<Assignment, ModelFault>
     requires { variables ≤ 2147483648 }
     ensures values { IfOk result (IsModelOf variables model.now) }
     ensures refused { IfErr result (RefusesModel variables model.now) }
@@ -103,7 +108,9 @@ fn answer<W: Write>(
 {
     match heading_of(question) {
         Heading::Runs(query) => read_model_and_write(alloc, circuit, query, model, out),
-        Heading::Alive(_) => Err(RunFault::Cnf(CnfFault::Property)),
+        Heading::Alive(frames) => {
+            alive_witness::read_model_and_write(alloc, circuit, frames, model, out)
+        }
         Heading::Certified(_) => read_model_and_write(alloc, circuit, INDUCTION, model, out),
     }
 }

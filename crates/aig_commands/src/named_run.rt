@@ -29,7 +29,11 @@ fn split_first(values: &[Tern]) -> (Tern, &[Tern])
 }
 
 /// A start: the uninitialised latches take the values in turn, the others start by their resets.
-fn fill_start(alloc: Global, latches: &[Latch], values: &[Tern]) -> Result<Vec<Tern>, Memory>
+pub(crate) fn fill_start(
+    alloc: Global,
+    latches: &[Latch],
+    values: &[Tern],
+) -> Result<Vec<Tern>, Memory>
     ensures { IfOk result (λ start. start.items ≡ filled latches.now values.now) }
 {
     let mut start = Vec::with_capacity(alloc, latches.len())?;
@@ -47,7 +51,12 @@ fn fill_start(alloc: Global, latches: &[Latch], values: &[Tern]) -> Result<Vec<T
 }
 
 /// The values, cut into rows of a width, one after the other.
-fn cut_rows(alloc: Global, values: &[Tern], width: u32, frames: u32) -> Result<Stimulus, Memory>
+pub(crate) fn cut_rows(
+    alloc: Global,
+    values: &[Tern],
+    width: u32,
+    frames: u32,
+) -> Result<Stimulus, Memory>
     requires frames { frames ≤ frame_limit }
     requires enough { frames * width ≤ length values.now }
     ensures width { IfOk result (λ rows. rows.width ≡ width) }
@@ -64,7 +73,7 @@ fn cut_rows(alloc: Global, values: &[Tern], width: u32, frames: u32) -> Result<S
 }
 
 /// How many inputs the circuit has that is unrolled for so many frames.
-fn unrolled_inputs(circuit: &Circuit, frames: u32) -> usize
+pub(crate) fn unrolled_inputs(circuit: &Circuit, frames: u32) -> usize
     requires circuit { IsCircuit circuit.now }
     requires frames { frames ≤ frame_limit }
     ensures { result ≡ input_count circuit.now frames }

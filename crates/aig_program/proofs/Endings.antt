@@ -8,6 +8,8 @@ use Rattle.aig_bytes.specs.Flow.{Flow, flow}
 use Rattle.aig_bytes.proofs.WriteLemmas.{after-nil}
 use Rattle.aig_parts.specs.declared.fault.Fault.TheVariants as circuits
 use Rattle.aig_parts.specs.declared.raw.Raw.{Raw}
+use Rattle.aig_commands.specs.CheckAlive.{ChecksRun}
+use Rattle.aig_sim.specs.declared.witness.breaks.Break.{Break}
 use Rattle.aig_sim.specs.declared.witness.verdict.Verdict.{Verdict}
 use Rattle.aig_sim.specs.declared.witness.verdict.Verdict.TheVariants.{Initial, Constraint, NotBad, Confirmed}
 use Rattle.aig_command.specs.Command.{BreaksOff, CommandEnds, EndsReading, Gave, Got, OfFile, OfReader, Text}
@@ -19,6 +21,7 @@ use Rattle.aig_files.specs.declared.exit.Exit.TheVariants as exits
 use Rattle.aig_files.specs.Known.{still_known}
 use Rattle.aig_files.specs.declared.part.Part.{Part}
 use Rattle.aig_files.specs.declared.part.Part.TheVariants as parts
+use Rattle.aig_program.specs.Ends.{AreAlive, end_of_alive}
 use Rattle.aig_program.specs.Ends.{AreConfirmed, ChecksWitness, Completes, Ends, EndsFlushed, EndsKeeping, IsReadOf, IsUnwritten, OfText, Seen}
 use Rattle.aig_program.specs.Ends.{as_meant, end_of, end_of_streamed, end_of_verdict, not_begun, not_kept, seen, unread, unwritten}
 
@@ -327,6 +330,25 @@ confirmed_end out fault trace asked file text (Err e) (unwritten broken is) = tt
 confirmed_end out fault trace asked file text (Ok done) (unwritten broken is) = let no : ⊥ = cc in absurd no
 confirmed_end out fault trace asked file text (Err e) (unread exit is why none) = tt
 confirmed_end out fault trace asked file text (Ok done) (unread exit is why none) = let no : ⊥ = cc in absurd no
+
+-- a good end of a check of the constraints is that of a run that keeps them
+alive_file : (out : Flow Seen) (fault : RunFault) (asked : Option ℕ) (file text : List ℕ)
+    (answer : Result (Option Break) RunFault) (r : Result (Unit {0}) Exit)
+    → CommandEnds out fault (OfFile file (ChecksRun asked text)) answer → r ≡ end_of_alive answer
+    → OnOk r (AreAlive asked file text)
+alive_file out fault asked file text answer (Err e) a is = tt
+alive_file out fault asked file text (Err why) (Ok done) a is = cc
+alive_file out fault asked file text (Ok (Some reason)) (Ok done) a is = cc
+alive_file out fault asked file text (Ok None) (Ok done) (CommandEnds.writes_all bytes (raw, is_file, means) got) is =
+    (raw, is_file, means.0)
+
+pub alive_end : (out : Flow Seen) (fault : RunFault) (asked : Option ℕ) (file text : List ℕ) (r : Result (Unit {0}) Exit)
+    → Ends out fault end_of_alive (OfFile file (ChecksRun asked text)) r → OnOk r (AreAlive asked file text)
+alive_end out fault asked file text r (as_meant answer said is) = alive_file out fault asked file text answer r said is
+alive_end out fault asked file text (Err e) (unwritten broken is) = tt
+alive_end out fault asked file text (Ok done) (unwritten broken is) = let no : ⊥ = cc in absurd no
+alive_end out fault asked file text (Err e) (unread exit is why none) = tt
+alive_end out fault asked file text (Ok done) (unread exit is why none) = let no : ⊥ = cc in absurd no
 
 -- what holds of a good end, of bytes that were read
 pub ok_whole : (r : Result (Unit {0}) Exit) (left : Option (List ℕ)) (bytes : List ℕ) → IfSome left (λ xs. bytes ≡ xs)

@@ -128,7 +128,10 @@ HoldsOptions matches (commands.UnrollAndMap it) =
     HoldsNumber matches (codes "K") (Some it.frames) × HoldsFormat matches it.to
     × (first_value (found_of matches) (codes "map") ≡ Some it.map.now)
 HoldsOptions matches (commands.Check it) =
-    HoldsFlag matches (codes "trace") it.with_trace × HoldsReached matches it.circuit it.property
+    HoldsFlag matches (codes "alive") false × HoldsFlag matches (codes "trace") it.with_trace
+    × HoldsReached matches it.circuit it.property
+HoldsOptions matches (commands.CheckAlive it) =
+    HoldsFlag matches (codes "alive") true × HoldsNumber matches (codes "K") it.frames
 HoldsOptions matches (commands.Cnf it) = HoldsQuestion matches it.circuit it.question
 HoldsOptions matches (commands.Info it) = HoldsFlag matches (codes "names") false
 HoldsOptions matches (commands.InfoNames it) = HoldsFlag matches (codes "names") true
@@ -158,6 +161,7 @@ command_name (commands.Bench it) = codes "bench"
 command_name (commands.Unroll it) = codes "unroll"
 command_name (commands.UnrollAndMap it) = codes "unroll"
 command_name (commands.Check it) = codes "check"
+command_name (commands.CheckAlive it) = codes "check"
 command_name (commands.Cnf it) = codes "cnf"
 command_name (commands.Info it) = codes "info"
 command_name (commands.InfoNames it) = codes "info"

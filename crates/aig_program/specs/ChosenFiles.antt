@@ -62,6 +62,8 @@ HoldsFiles matches (commands.Unroll it) = IsCircuitOf matches it.circuit
 HoldsFiles matches (commands.UnrollAndMap it) = IsCircuitOf matches it.circuit
 HoldsFiles matches (commands.Check it) =
     IsCircuitOf matches it.circuit × IsNamedBy matches (codes "WITNESS") it.witness
+HoldsFiles matches (commands.CheckAlive it) =
+    IsCircuitOf matches it.circuit × IsNamedBy matches (codes "WITNESS") it.witness
 HoldsFiles matches (commands.Cnf it) = IsCircuitOf matches it.circuit × HoldsClaimed matches it.question
 HoldsFiles matches (commands.Info it) = IsCircuitOf matches it.circuit
 HoldsFiles matches (commands.InfoNames it) = IsCircuitOf matches it.circuit

@@ -8,6 +8,7 @@ use Rattle.aig_command.specs.declared.run_fault.RunFault.TheVariants as run_faul
 use Rattle.aig_command.specs.declared.script_fault.ScriptFault.TheVariants as scripts
 use Rattle.aig_script.specs.Bench.{LeavesBench}
 use Rattle.aig_commands.specs.Certified.{OfCertified}
+use Rattle.aig_commands.specs.CheckAlive.{ChecksRun}
 use Rattle.aig_commands.specs.declared.certified.Purpose.TheVariants as purposes
 use Rattle.aig_commands.specs.Info.{ListsFacts}
 use Rattle.aig_commands.specs.Names.{ListsNames}
@@ -21,7 +22,8 @@ use Rattle.aig_commands.specs.Wave.{DumpsRun, WritesWave}
 use Rattle.aig_commands.specs.Witness.{WritesWitness}
 use Rattle.aig_why.specs.Why.{WritesWhy}
 use Rattle.aig_files.specs.declared.exit.Exit.{Exit}
-use Rattle.aig_program.specs.Ends.{ChecksWitness, Completes, Ends, EndsKeeping, EndsSelectingNamed, OfText, Seen, end_of, end_of_verdict}
+use Rattle.aig_program.specs.Ends.{ChecksWitness, Completes, Ends, EndsKeeping, EndsSelectingNamed, OfText, Seen, end_of}
+use Rattle.aig_program.specs.Ends.{end_of_alive, end_of_verdict}
 use Rattle.aig_program.specs.GivenFiles.{given_left}
 use Rattle.aig_program.specs.Questions.{asked_by, claims_left}
 use Rattle.aig_program.specs.declared.command.Command.{Command}
@@ -51,6 +53,9 @@ EndsAsMeant out left (commands.UnrollAndMap it) result =
 EndsAsMeant out left (commands.Check it) result =
     IfSome (left it.circuit) (λ file. IfSome (left it.witness) (λ text.
     Ends out run_faults.Output end_of_verdict (OfFile file (ChecksWitness it.with_trace it.property text)) result))
+EndsAsMeant out left (commands.CheckAlive it) result =
+    IfSome (left it.circuit) (λ file. IfSome (left it.witness) (λ text.
+    Ends out run_faults.Output end_of_alive (OfFile file (ChecksRun it.frames text)) result))
 EndsAsMeant out left (commands.Cnf it) result =
     IfSome (left it.circuit) (λ file. IfSome (claims_left left it.question) (λ claims.
     Ends out run_faults.Output end_of (WritesQuestion (asked_by it.question (λ certificate. claims)) file) result))

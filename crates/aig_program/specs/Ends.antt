@@ -1,11 +1,12 @@
 -- How the program takes a command's answer, and which bytes its writer gets. That this writer is standard output, and
 -- what reaches that, no clause says.
 -- Examples: `bench` with a faulty stimulus ends with the stimulus's fault; `not bad` ends as `NotConfirmed`.
-use Rattle.std.specs.Prelude.{◌≡◌, ◌⊎◌, ℕ, List, [], Bool, true, false, IsTrue, Option, Result, Ok, Err, IfSome}
+use Rattle.std.specs.Prelude.{◌≡◌, ◌⊎◌, ℕ, List, [], Bool, true, false, IsTrue, Option, None, Some, Result, Ok, Err, IfSome}
 use Rattle.aig_bytes.specs.Bytes.{IsBeginning}
 use Rattle.aig_bytes.specs.Flow.{Flow, flow}
 use Rattle.aig_parts.specs.declared.fault.Fault.TheVariants as circuits
 use Rattle.aig_parts.specs.declared.raw.Raw.{Raw}
+use Rattle.aig_sim.specs.declared.witness.breaks.Break.{Break}
 use Rattle.aig_sim.specs.declared.witness.verdict.Verdict.{Verdict}
 use Rattle.aig_sim.specs.declared.witness.verdict.Verdict.TheVariants.{Initial, Constraint, NotBad, Confirmed}
 use Rattle.aig_sim.specs.WitnessText.{IsWitnessOf}
@@ -20,6 +21,7 @@ use Rattle.aig_files.specs.declared.exit.Exit.TheVariants as exits
 use Rattle.aig_files.specs.declared.part.Part.{Part}
 use Rattle.aig_files.specs.declared.part.Part.TheVariants as parts
 use Rattle.aig_commands.specs.Check.{Checks, ChecksAndTraces, OfProperty, ShowsVerdict}
+use Rattle.aig_commands.specs.CheckAlive.{ShowsRun}
 use Rattle.aig_commands.specs.Select.{SelectsNamed}
 use Rattle.aig_commands.specs.declared.select.NamedSelection.{NamedSelection}
 
@@ -61,6 +63,12 @@ end_of_verdict (Ok (Constraint frame constraint)) = Err exits.NotConfirmed
 end_of_verdict (Ok NotBad) = Err exits.NotConfirmed
 end_of_verdict (Ok Confirmed) = Ok tt
 end_of_verdict (Err fault) = Err (exits.Run fault)
+
+-- How it ends for a run that should keep its constraints: as a success if nothing breaks it.
+abbrev pub end_of_alive : Result (Option Break) RunFault → Result (Unit {0}) Exit
+end_of_alive (Ok None) = Ok tt
+end_of_alive (Ok (Some reason)) = Err exits.NotConfirmed
+end_of_alive (Err fault) = Err (exits.Run fault)
 
 -- how it ends for an answer whose writer is flushed then: where that fails, for this fault
 abbrev pub EndsFlushed : {X T : Type 0} → Flow X → RunFault → (Result T RunFault → Result (Unit {0}) Exit)
@@ -104,6 +112,11 @@ abbrev pub AreConfirmed : Option ℕ → List ℕ → List ℕ → Type 0
 AreConfirmed asked file text =
     (raw : Raw) × IsFileOf file raw × ShowsVerdict raw text Confirmed
     × IfSome asked (λ property. IsWitnessOf property raw text)
+
+-- the files are a circuit and a witness of it whose run keeps all constraints for the frames that are asked for, or for
+-- all that it has
+abbrev pub AreAlive : Option ℕ → List ℕ → List ℕ → Type 0
+AreAlive asked file text = (raw : Raw) × IsFileOf file raw × ShowsRun raw asked text None
 
 -- `select --names` ends as it means for these positions and the text of names, and the bytes of the circuit's file
 abbrev pub EndsSelectingNamed : Flow Seen → PropertySection → PropertySection → List ℕ → List ℕ → Format → List ℕ

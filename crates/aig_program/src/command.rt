@@ -2,6 +2,7 @@
 ghost use Rattle.aig_program.specs.Commands.{EndsAsMeant};
 ghost use Rattle.aig_program.specs.Ends.{seen};
 
+use crate::alive::check_alive;
 use crate::certificates::strengthen;
 use crate::circuits::{info, info_names, select, select_named, toaig, unroll, unroll_and_map};
 use crate::simulations::{bench, sim, wave};
@@ -111,6 +112,14 @@ pub struct Check<F> {
     pub witness: F,
 }
 
+/// `check --alive`: whether the run of a witness keeps all constraints for some frames, or for all that it has.
+#[derive(Drop)]
+pub struct CheckAlive<F> {
+    pub frames: Option<u32>,
+    pub circuit: F,
+    pub witness: F,
+}
+
 /// `cnf`: the formula of a question.
 #[derive(Drop)]
 pub struct Cnf<F> {
@@ -208,6 +217,7 @@ pub enum Command<'a, F> {
     Unroll(Unroll<F>),
     UnrollAndMap(UnrollAndMap<'a, F>),
     Check(Check<F>),
+    CheckAlive(CheckAlive<F>),
     Cnf(Cnf<F>),
     Info(Info<F>),
     InfoNames(InfoNames<F>),
@@ -242,6 +252,7 @@ impl<F: Read + Drop> Command<'_, F> {
             Command::Unroll(it) => unroll(alloc, it, out),
             Command::UnrollAndMap(it) => unroll_and_map(terminal, it, out),
             Command::Check(it) => check(alloc, it, out),
+            Command::CheckAlive(it) => check_alive(alloc, it, out),
             Command::Cnf(it) => cnf(alloc, it, out),
             Command::Info(it) => info(alloc, it, out),
             Command::InfoNames(it) => info_names(alloc, it, out),

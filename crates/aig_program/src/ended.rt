@@ -1,12 +1,13 @@
 //! How the program ends for a command's answer. What the command wrote is flushed first.
 ghost use Rattle.std.specs.Prelude.{◌≡◌, IfErr};
 ghost use Rattle.aig_bytes.specs.Flow.{flow};
-ghost use Rattle.aig_program.specs.Ends.{EndsFlushed, IsUnwritten, end_of, end_of_streamed, end_of_verdict};
+ghost use Rattle.aig_program.specs.Ends.{EndsFlushed, IsUnwritten, end_of, end_of_alive, end_of_streamed};
+ghost use Rattle.aig_program.specs.Ends.{end_of_verdict};
 
 use aig_base::{Fault, Write};
 use aig_command::{RunFault, flushed};
 use aig_files::{Exit, OUTPUT, Part, Unwritten};
-use aig_sim::Verdict;
+use aig_sim::{Break, Verdict};
 
 /// Without a fault it ends well. If the flush fails, it ends with `part`.
 pub fn ended<T: Drop, W: Write>(
@@ -55,6 +56,21 @@ pub(crate) fn confirmed<W: Write>(
         Ok(Verdict::Initial(_) | Verdict::Constraint(..) | Verdict::NotBad) => {
             Err(Exit::NotConfirmed)
         }
+        Err(fault) => Err(Exit::Run(fault)),
+    }
+}
+
+/// For a run that something breaks it ends with another status, as the reason is printed already.
+pub(crate) fn alive<W: Write>(
+    answer: Result<Option<Break>, RunFault>,
+    out: &mut W,
+) -> Result<(), Exit>
+    ensures ends { EndsFlushed (flow W.written W.failures out.old out.new) RunFault.Output end_of_alive answer result }
+    ensures flushed { W.failures out.new ≡ W.failures out.old → W.is_flushed out.new }
+{
+    match flushed(answer, out, RunFault::Output) {
+        Ok(None) => Ok(()),
+        Ok(Some(_)) => Err(Exit::NotConfirmed),
         Err(fault) => Err(Exit::Run(fault)),
     }
 }

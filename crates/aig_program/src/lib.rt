@@ -1,6 +1,7 @@
 //! What the program does with its arguments: which command they choose, which files it opens, and how it ends.
 #![tactic(auto)]
 
+mod alive;
 pub mod arguments;
 mod certificates;
 mod chosen;

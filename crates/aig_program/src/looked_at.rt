@@ -20,7 +20,7 @@ fn run_of<'a>(matches: &ArgMatches<'a>) -> Option<&'a str> {
 /// Returns which property the verdict of a command is about, if it prints one.
 fn judged_of<'a>(name: &str, matches: &ArgMatches<'a>) -> Option<Judged<'a>> {
     match name {
-        "check" => Some(Judged::OfWitness),
+        "check" if !has_flag(matches, "alive") => Some(Judged::OfWitness),
         "refute" if !has_flag(matches, "alive") => Some(Judged::Named(property_text(matches))),
         _ => None,
     }
@@ -53,7 +53,7 @@ pub fn files_of<'a>(matches: &ArgMatches<'a>) -> Option<RunFiles<'a>> {
         judged: judged_of(name, matches),
         // In other commands it is a file, or is not there.
         steps: (name == "cnf" || name == "witness") && has_flag(matches, "step"),
-        alive: matches!(name, "cnf" | "refute") && has_flag(matches, "alive"),
+        alive: matches!(name, "check" | "cnf" | "refute" | "witness") && has_flag(matches, "alive"),
         is_witness: name == "reduce" || (name == "why" && has_flag(matches, "witness")),
         of: text_of(matches, "of"),
         frame: number_in_option(matches, "T"),

@@ -1,3 +1,4 @@
+pub mod BreakLemmas
 pub mod Completions
 pub mod DumpFrames
 pub mod DumpLemmas

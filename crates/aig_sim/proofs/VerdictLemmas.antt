@@ -135,7 +135,7 @@ no_literal_after cells literals i q le before h =
 rows_text_more : (row : List Tern) (rows : List (List Tern)) → witness_rows_text (row ∷ rows) ≡ row_line row ++ witness_rows_text rows
 rows_text_more row rows = append_assoc (row_line row) (flat_map row_line rows) (46 ∷ (10 ∷ []))
 
-next_row : (rows : List (List Tern)) (t : ℕ) → t < length rows
+pub next_row : (rows : List (List Tern)) (t : ℕ) → t < length rows
     → witness_rows_text (drop t rows) ≡ row_line (get_or rows t []) ++ witness_rows_text (drop (t + 1) rows)
 next_row rows t lt =
     ap witness_rows_text (drop_more rows t [] lt) ∙ rows_text_more (get_or rows t []) (drop (t + 1) rows)

@@ -1,3 +1,4 @@
+pub mod Breaks
 pub mod Dump
 pub mod DumpHeader
 pub mod DumpRead

@@ -10,12 +10,14 @@ ghost use Rattle.aig_values.specs.Characters.{character};
 ghost use Rattle.aig_sim.specs.Verdict.{StartsWrong, IsVerdict, IsConfirmed};
 ghost use Rattle.aig_sim.specs.WitnessText.{Witness, SpellsWitness, IsAdmitted, HasWitnessFault};
 
+pub(crate) mod breaks;
 pub(crate) mod fault;
 pub(crate) mod reach_fault;
 pub(crate) mod reached;
 pub(crate) mod reader;
 pub(crate) mod replay;
 pub(crate) mod replay_fault;
+pub(crate) mod run;
 mod text;
 pub(crate) mod verdict;
 pub(crate) mod writer;

@@ -35,6 +35,8 @@ pub fn explain_model<R: Files + AllocGlobal>(
 fn unsatisfiable(files: &RunFiles<'_>) -> &'static str {
     match files.certificate {
         Some(_) => "the solver says that the certificate is right; aig refute checks its proof",
+        None if files.alive =>
+            "the solver says that no run keeps all constraints for K frames; aig refute --alive checks its proof",
         None =>
             "the solver says that no run reaches the bad state within K frames; aig refute checks its proof",
     }
@@ -45,6 +47,8 @@ fn formula_of(files: &RunFiles<'_>) -> &'static str {
     match files.certificate {
         Some(_) =>
             "it has to be of the formula of aig cnf --certificate for the same P, CERTIFICATE and CIRCUIT",
+        None if files.alive =>
+            "it has to be of the formula of aig cnf --alive for the same K and CIRCUIT",
         None => "it has to be of the formula of aig cnf for the same K, P, CIRCUIT and --step",
     }
 }

@@ -36,8 +36,8 @@ fn push_rows(rows: &mut Stimulus, row: &mut [Tern], text: &[u8], frames: u32) ->
     Ok(())
 }
 
-// The rows of a witness of so many frames.
-fn read_rows(alloc: Global, text: &[u8], width: u32, frames: u32) -> Result<Stimulus, Memory>
+/// The rows of a witness of so many frames.
+pub fn read_rows(alloc: Global, text: &[u8], width: u32, frames: u32) -> Result<Stimulus, Memory>
     requires limit { frames ≤ frame_limit }
     requires rows { (given : List (List Tern)) × (length given ≡ frames) × SpellsFrames width text.now given }
     ensures { IfOk result (λ rows. (given : List (List Tern)) → length given ≡ frames →

@@ -1,10 +1,8 @@
-use Rattle.std.proofs.Common.{[], Err, refl, subst, sym, ◌∙◌}
+use Rattle.std.proofs.Common.{subst, sym, ◌∙◌}
 use Rattle.aig_bytes.specs.Flow.{flow}
-use Rattle.aig_cnf.specs.declared.fault.CnfFault.TheVariants as formulas
 use Rattle.aig_cnf.specs.declared.heading.Heading.{Heading}
 use Rattle.aig_command.specs.Command.{CommandEnds}
 use Rattle.aig_command.specs.declared.run_fault.RunFault.TheVariants as run_faults
-use Rattle.aig_command.proofs.Written.{got_none}
 use Rattle.aig_commands.specs.Questions.{NamesFor}
 use Rattle.aig_commands.proofs.model_witness.answer.Goals as goal
 
@@ -22,6 +20,7 @@ returns-in-Certified g c =
 
 pub returns-in-Alive : goal.returns-in-Alive
 returns-in-Alive g c =
-    subst (λ (h : Heading). CommandEnds (flow g.W.Write.written g.W.Write.failures c.args.out.now c.args.out.now) run_faults.Output
-    (NamesFor h c.args.model.now c.args.circuit.now) (Err (run_faults.Cnf formulas.Property))) (sym c.in-Alive.is ∙ c.heading_of.ensures)
-    (CommandEnds.writes_all [] (refl, refl) (got_none g.W.Write.written g.W.Write.failures c.args.out.now))
+    subst (λ (h : Heading). CommandEnds
+    (flow g.W.Write.written g.W.Write.failures c.args.out.now c.read_model_and_write-in-Alive.new.out) run_faults.Output
+    (NamesFor h c.args.model.now c.args.circuit.now) c.read_model_and_write-in-Alive.result)
+    (sym c.in-Alive.is ∙ c.heading_of.ensures) c.read_model_and_write-in-Alive.ensures

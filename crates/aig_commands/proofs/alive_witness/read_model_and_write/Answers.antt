@@ -1,0 +1,45 @@
+use Rattle.std.proofs.Common.{[], List, sym, subst}
+use Rattle.aig_parts.specs.declared.ternary.Tern.{Tern}
+use Rattle.aig_bytes.specs.Flow.{flow}
+use Rattle.aig_command.proofs.Files.{answered}
+use Rattle.aig_command.proofs.Written.{ends_map, got_none}
+use Rattle.aig_command.specs.Command.{CommandEnds}
+use Rattle.aig_command.specs.declared.run_fault.RunFault.TheVariants as run_faults
+use Rattle.aig_sat.specs.model.ModelText.{IsModelOf}
+use Rattle.aig_commands.specs.AliveWitness.{WritesAliveModel, WritesKept}
+use Rattle.aig_commands.specs.ModelWitness.{RefusesModel, variable_count}
+use Rattle.aig_commands.proofs.alive_witness.read_model_and_write.Goals as goal
+
+pub returns : goal.returns
+returns g c =
+    let raw = c.args.circuit.now in
+    let k = c.args.frames in
+    let model' = c.args.model.now in
+    let values' = c.as_slice.result.now in
+    let e = c.in_ok-variables.ensures in
+    let is : IsModelOf (variable_count raw k) model' values' =
+    subst (λ (values : List Tern). IsModelOf (variable_count raw k) model' values) (sym c.as_slice.ensures)
+    (subst (λ n. IsModelOf n model' c.in_ok-values.values) e.count c.in_ok-values.ensures.values) in
+    ends_map (flow g.W.Write.written g.W.Write.failures c.args.out.now c.find_and_write.new.out) run_faults.Output
+    (WritesKept k values' raw) (WritesAliveModel k model' raw)
+    (λ answer text m. WritesAliveModel.names values' answer text e.accepted is m) c.find_and_write.result c.find_and_write.ensures
+
+pub returns-in_err-variables : goal.returns-in_err-variables
+returns-in_err-variables g c =
+    answered c.from_residual.result (run_faults.Cnf c.in_err-variables.field-0.0)
+    (CommandEnds (flow g.W.Write.written g.W.Write.failures c.args.out.now c.args.out.now) run_faults.Output
+    (WritesAliveModel c.args.frames c.args.model.now c.args.circuit.now))
+    c.from_residual.ensures.1
+    (CommandEnds.writes_all [] (WritesAliveModel.no_formula c.in_err-variables.field-0.0 c.in_err-variables.ensures.refused)
+    (got_none g.W.Write.written g.W.Write.failures c.args.out.now))
+
+pub returns-in_err-values : goal.returns-in_err-values
+returns-in_err-values g c =
+    answered c.from_residual-in_err-values.result (run_faults.Model c.in_err-values.field-0.0)
+    (CommandEnds (flow g.W.Write.written g.W.Write.failures c.args.out.now c.args.out.now) run_faults.Output
+    (WritesAliveModel c.args.frames c.args.model.now c.args.circuit.now))
+    c.from_residual-in_err-values.ensures.1
+    (CommandEnds.writes_all [] (WritesAliveModel.no_model c.in_err-values.field-0.0 c.in_ok-variables.ensures.accepted
+    (subst (λ n. RefusesModel n c.args.model.now c.in_err-values.field-0.0) c.in_ok-variables.ensures.count
+    c.in_err-values.ensures.refused))
+    (got_none g.W.Write.written g.W.Write.failures c.args.out.now))
