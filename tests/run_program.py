@@ -18,6 +18,7 @@ from program.explain import explain
 from program.explain_option import explain_option
 from program.helps import helps
 from program.info import info
+from program.json_lines import json_lines
 from program.kept import kept
 from program.large_proofs import large_proofs
 from program.large_saves import large_saves
@@ -49,7 +50,8 @@ PARTS = {"bench": bench, "kept": kept, "owners": owners, "descriptors": descript
          "wave": wave, "check": check, "replays": replays, "toaig": toaig, "unroll": unroll, "cnf": cnf,
          "info": info, "select": select, "witness": witness, "refute": refute, "proofs": proofs,
          "large_proofs": large_proofs, "definitions": definitions, "certificates": certificates, "properties": properties,
-         "names": names, "ample": ample, "reduce": reduce, "why": why, "help": helps,
+         "names": names, "ample": ample, "reduce": reduce, "why": why,
+         "json_lines": json_lines, "help": helps,
          "pages": pages, "completions": completions, "diagnostics": diagnostics, "explain": explain,
          "explain_option": explain_option, "needs": needs, "talks": talks, "progress": progress, "terminals": terminals,
          "shell": shell, "large_session": large_session,

@@ -76,7 +76,7 @@ SPLIT = (
     (["refute", "--step", "ro"], ["rows.stim"]),
     (["reduce", "--"], ["--explain", "--help", "--progress"]),
     (["reduce", "a.aag", "ro"], ["rows.stim"]),
-    (["why", "--"], ["--depth", "--explain", "--frame", "--help", "--of", "--progress", "--witness"]),
+    (["why", "--"], ["--depth", "--explain", "--frame", "--help", "--json", "--of", "--progress", "--witness"]),
     (["why", "--of", "o0", "a.aag", "ro"], ["rows.stim"]),
     (["refute", "--frames", "3", "a.aag", "ro"], ["rows.stim"]),
     (["sim", "a.aag", ""], ["a.aag", "b.aig", "notes", "rows.stim", "sub", "with space.aag"]),

@@ -44,6 +44,7 @@ REFUSALS = (
     ("nothing to explain of a stimulus", ["why", "two_gates", "rows"]),
     ("no run to explain", ["why", "--of", "i0", "two_gates"]),
     ("a frame with a sign", ["why", "--of", "i0", "--frame", "+1", "two_gates", "rows"]),
+    ("facts as JSON", ["info", "--json", "two_gates"]),
     ("a depth with a leading zero", ["why", "--of", "i0", "--depth", "01", "two_gates", "rows"]),
 )
 

@@ -76,7 +76,7 @@ property = worded (codes "property") (codes "P")
 
 abbrev pub on_files : List Shape
 on_files = command (codes "toaig") (format ∷ circuit ∷ [])
-    ∷ command (codes "info") (flag (codes "names") ∷ circuit ∷ [])
+    ∷ command (codes "info") (flag (codes "names") ∷ bound (flag (codes "json")) ∷ circuit ∷ [])
     ∷ command (codes "select") (format ∷ chosen (codes "from") (codes "from") ∷ chosen (codes "as") (codes "as")
     ∷ each (codes "property") (codes "P") ∷ named (codes "names") ∷ circuit ∷ [])
     ∷ command (codes "unroll") (needed (number (codes "frames") (codes "K")) ∷ format ∷ named (codes "map") ∷ circuit
@@ -105,7 +105,7 @@ on_witnesses = command (codes "check") (flag (codes "trace") ∷ property ∷ bo
     ∷ bound (place (codes "STIM")) ∷ [])
     ∷ command (codes "reduce") (circuit ∷ witness ∷ [])
     ∷ command (codes "why") (bound (named (codes "of")) ∷ number (codes "frame") (codes "T")
-    ∷ number (codes "depth") (codes "D") ∷ flag (codes "witness") ∷ circuit ∷ stimulus ∷ [])
+    ∷ number (codes "depth") (codes "D") ∷ flag (codes "witness") ∷ flag (codes "json") ∷ circuit ∷ stimulus ∷ [])
     ∷ []
 
 abbrev pub on_proofs : List Shape

@@ -337,6 +337,22 @@ pub const NAMES: Argument = Argument {
     need: Need::Never,
 };
 
+/// The form of the names of `info`, which prints facts without `--names`.
+pub const NAMES_JSON: Argument = Argument {
+    name: "json",
+    help: "Print each entry as an object of JSON",
+    kind: Kind::Flag,
+    need: Need::With("names", &[]),
+};
+
+/// The form of the lines of `why`.
+pub const JSON: Argument = Argument {
+    name: "json",
+    help: "Print each line as an object of JSON",
+    kind: Kind::Flag,
+    need: Need::Never,
+};
+
 pub const NAMES_FILE: Argument = Argument {
     name: "names",
     help: "Name the properties that are written, by the\nlines of FILE: one name per line, in their order",

@@ -240,6 +240,10 @@ and fairness constraints. A line is LETTER POSITION LITERAL NAME:
   LITERAL   the literal; - for a justice property, which has several
   NAME      the symbol; nothing if there is none, after the space
 
+With --json, each line is an object of JSON instead, with the members letter,
+position, literal and name. The name is null if there is none, and the array of
+its bytes if it is not UTF-8. The literal of a justice property is null.
+
 Example: aig info examples/counter.aag
 Example: aig info --names examples/fifo.aag
 See also: man aig, man 5 aig-formats";
@@ -320,6 +324,8 @@ Latches that only keep their values have no line. NAME is the first word of a
 symbol, a vector such as q for q[0] and q[1], another word of a symbol, an entry
 such as l3, or a literal; ! before it negates it. VALUE is as in Verilog, with ?
 for a bit that is not named.
+
+With --json, each line is an object of JSON instead: see the manual page.
 
 Use aig reduce first: a run with fewer values has a shorter explanation.
 

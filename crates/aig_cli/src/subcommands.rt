@@ -39,7 +39,7 @@ static FILES: [Subcommand; 4] = [
         about: "Print facts about a circuit, one per line",
         help: help::INFO,
         usage: None,
-        arguments: &[arguments::NAMES, arguments::CIRCUIT],
+        arguments: &[arguments::NAMES, arguments::NAMES_JSON, arguments::CIRCUIT],
     },
     Subcommand {
         name: "select",
@@ -158,6 +158,7 @@ static WITNESSES: [Subcommand; 4] = [
             arguments::FRAME,
             arguments::DEPTH,
             arguments::EXPLAINS_WITNESS,
+            arguments::JSON,
             arguments::CIRCUIT,
             arguments::RUN,
         ],

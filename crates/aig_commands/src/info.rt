@@ -9,7 +9,7 @@ ghost use Rattle.aig_command.specs.Command.{CommandEnds};
 ghost use Rattle.aig_commands.specs.Info.{AreFacts, ListsFacts, comment_size, fact_line, format_name};
 ghost use Rattle.aig_commands.specs.Info.{info_text, fact_number_line, number_lines, yes_or_no};
 ghost use Rattle.aig_commands.specs.Info.{is_constant, is_impossible, starts_at_one};
-ghost use Rattle.aig_commands.specs.Names.{ListsNames, entries_text};
+ghost use Rattle.aig_commands.specs.Names.{ListsNames, ListsNamesAs};
 ghost use Rattle.aig_command.specs.Command.{OfReader};
 
 use crate::entries::write_entries;
@@ -19,6 +19,7 @@ use aig_base::{
 };
 use aig_command::RunFault;
 use aig_format::{Format, read_from, read_with_format};
+use aig_signals::Form;
 use aig_unroll::uninitialised;
 use itoa::Buffer;
 use std::alloc::Global;
@@ -199,10 +200,11 @@ pub fn info<R: Read, W: Write>(alloc: Global, circuit: &mut R, out: &mut W) -> R
 }
 
 /// Writes the names of a circuit's entries.
-fn list_names<W: Write>(circuit: &Circuit, out: &mut W) -> Result<(), RunFault>
-    ensures { CommandEnds (flow W.written W.failures out.old out.new) RunFault.Output (ListsNames circuit.now) result }
+fn list_names<W: Write>(circuit: &Circuit, form: Form, out: &mut W) -> Result<(), RunFault>
+    ensures { CommandEnds (flow W.written W.failures out.old out.new) RunFault.Output
+        (ListsNamesAs form circuit.now) result }
 {
-    match write_entries(circuit, out) {
+    match write_entries(circuit, form, out) {
         Ok(()) => Ok(()),
         Err(Io) => Err(RunFault::Output),
     }
@@ -211,8 +213,24 @@ fn list_names<W: Write>(circuit: &Circuit, out: &mut W) -> Result<(), RunFault>
 /// The command `info --names`: reads a circuit and writes a line for each entry, section by section in the order of a
 /// file: `LETTER POSITION LITERAL NAME`. LETTER is that of the entry's symbol (AIGER 1.0, symbol table; AIGER 1.9), and
 /// POSITION counts from 0. LITERAL is `-` for a justice property. NAME is the symbol, and nothing where there is none.
-/// The file is never held whole, and memory is taken for its circuit alone. Where the file is refused, nothing is
-/// written.
+/// As JSON, a line is an object with these four members. The file is never held whole, and memory is taken for its
+/// circuit alone. Where the file is refused, nothing is written.
+pub fn info_names_as<R: Read, W: Write>(
+    alloc: Global,
+    circuit: &mut R,
+    form: Form,
+    out: &mut W,
+) -> Result<(), RunFault>
+    ensures ends { CommandEnds (flow W.written W.failures out.old out.new) RunFault.Output
+        (OfReader (flow R.left R.failures circuit.old circuit.new) (ListsNamesAs form)) result }
+{
+    match read_from(alloc, circuit) {
+        Ok(circuit) => list_names(&circuit, form, out),
+        Err(fault) => Err(RunFault::Circuit(fault)),
+    }
+}
+
+/// The same as text.
 pub fn info_names<R: Read, W: Write>(
     alloc: Global,
     circuit: &mut R,
@@ -221,8 +239,5 @@ pub fn info_names<R: Read, W: Write>(
     ensures ends { CommandEnds (flow W.written W.failures out.old out.new) RunFault.Output
         (OfReader (flow R.left R.failures circuit.old circuit.new) ListsNames) result }
 {
-    match read_from(alloc, circuit) {
-        Ok(circuit) => list_names(&circuit, out),
-        Err(fault) => Err(RunFault::Circuit(fault)),
-    }
+    info_names_as(alloc, circuit, Form::Text, out)
 }

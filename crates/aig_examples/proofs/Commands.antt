@@ -47,6 +47,7 @@ use Rattle.aig_refute.specs.Unreachable.{HasNoRun, IsUnreachable, IsUnreachableW
 use Rattle.aig_script.specs.BenchFiles.{circuit_text, stimulus_rows_text}
 use Rattle.aig_commands.specs.Check.{Checks, ChecksAndTraces, ShowsVerdict}
 use Rattle.aig_commands.specs.Cnf.{WritesFormula}
+use Rattle.aig_signals.specs.declared.form.Form.TheVariants.{Json, Text}
 use Rattle.aig_commands.specs.Names.{entries_text, entry_line, entry_lines}
 use Rattle.aig_commands.specs.Select.{Selects}
 use Rattle.aig_commands.specs.Sim.{WritesSimulation}
@@ -117,10 +118,17 @@ formula_of_no_property : WritesFormula (within 1 1) bad_input (Err (runs.Cnf for
 formula_of_no_property = ((omega arith, omega arith), refl)
 
 -- `aag 1 1 0 0 0 1/2/3/b0 stuck/`: `i 0 2 /b 0 3 stuck/`
-named_entries : entries_text (record one_input { bad = 3 ∷ []; symbols = ((Bad, 0), codes "stuck") ∷ [] })
+named_entries : entries_text Text (record one_input { bad = 3 ∷ []; symbols = ((Bad, 0), codes "stuck") ∷ [] })
     ≡ codes "i 0 2 \nb 0 3 stuck\n"
 unfolding digits entries_text entry_line entry_lines symbol_name_at
 named_entries = refl
+
+-- as JSON; the byte 255 is no UTF-8
+json_entries : entries_text Json (record one_input { bad = 3 ∷ []; symbols = ((Bad, 0), 104 ∷ 255 ∷ []) ∷ [] })
+    ≡ codes "{\"letter\":\"i\",\"position\":0,\"literal\":2,\"name\":null}\n"
+    ++ codes "{\"letter\":\"b\",\"position\":0,\"literal\":3,\"name\":[104,255]}\n"
+unfolding digits entries_text entry_line entry_lines symbol_name_at
+json_entries = refl
 
 -- `aag 1 1 0 1 0/2/3/` from outputs: `aag 1 1 0 0 0 1/2/3/`
 selected_output : Selects sections.Outputs sections.Bad [] Ascii (record one_input { outputs = 3 ∷ [] }) (Ok tt)

@@ -9,6 +9,8 @@ use Rattle.aig_base.specs.declared.select.PropertySection.{PropertySection}
 use Rattle.aig_base.specs.declared.select.PropertySection.TheVariants.{Bad, Outputs}
 use Rattle.aig_format.specs.declared.reader.header.Format.{Format}
 use Rattle.aig_format.specs.declared.reader.header.Format.TheVariants.{Ascii, Binary}
+use Rattle.aig_signals.specs.declared.form.Form.{Form}
+use Rattle.aig_signals.specs.declared.form.Form.TheVariants.{Json, Text}
 use Rattle.aig_signals.specs.Property.{IsNumbered}
 use Rattle.aig_command.specs.Position.{IsPositionIn}
 use Rattle.aig_files.specs.Source.{source_remaining}
@@ -117,6 +119,11 @@ HoldsQuestion matches circuit question =
 abbrev pub HoldsSpan : ArgMatches → Span → Type 0
 HoldsSpan matches span = HoldsNumber matches (codes "T") span.frame × HoldsNumber matches (codes "D") span.depth
 
+-- lines are JSON exactly if that flag is given
+abbrev pub HoldsForm : ArgMatches → Form → Type 0
+HoldsForm matches Text = HoldsFlag matches (codes "json") false
+HoldsForm matches Json = HoldsFlag matches (codes "json") true
+
 -- The numbers of a command are those that the matches hold, and its form is the one that its options and flags choose.
 abbrev pub HoldsOptions : {F : Type 0} → ArgMatches → Command (Source F) → Type 0
 HoldsOptions matches (commands.Toaig it) = HoldsFormat matches it.to
@@ -134,7 +141,7 @@ HoldsOptions matches (commands.CheckAlive it) =
     HoldsFlag matches (codes "alive") true × HoldsNumber matches (codes "K") it.frames
 HoldsOptions matches (commands.Cnf it) = HoldsQuestion matches it.circuit it.question
 HoldsOptions matches (commands.Info it) = HoldsFlag matches (codes "names") false
-HoldsOptions matches (commands.InfoNames it) = HoldsFlag matches (codes "names") true
+HoldsOptions matches (commands.InfoNames it) = HoldsFlag matches (codes "names") true × HoldsForm matches it.form
 HoldsOptions matches (commands.Select it) =
     HoldsSelection matches it.circuit it.selection × HoldsFormat matches it.to × (is_given matches (codes "names") ≡ false)
 HoldsOptions matches (commands.SelectNamed it) =
@@ -148,7 +155,7 @@ HoldsOptions matches (commands.Refute it) =
 HoldsOptions matches (commands.Strengthen it) = HoldsProperty matches it.circuit it.property × HoldsFormat matches it.to
 HoldsOptions matches (commands.Why it) =
     (option_map (λ text. text.now) it.name ≡ first_value (found_of matches) (codes "of")) × HoldsSpan matches it.span
-    × (it.name ≡ None → IsWitness it.given)
+    × HoldsForm matches it.form × (it.name ≡ None → IsWitness it.given)
 HoldsOptions matches _ = ⊤
 
 -- the word by which a command is chosen

@@ -11,7 +11,7 @@ use Rattle.aig_commands.specs.Certified.{OfCertified}
 use Rattle.aig_commands.specs.CheckAlive.{ChecksRun}
 use Rattle.aig_commands.specs.declared.certified.Purpose.TheVariants as purposes
 use Rattle.aig_commands.specs.Info.{ListsFacts}
-use Rattle.aig_commands.specs.Names.{ListsNames}
+use Rattle.aig_commands.specs.Names.{ListsNamesAs}
 use Rattle.aig_commands.specs.Questions.{NamesQuestion, RefutesQuestion, WritesQuestion}
 use Rattle.aig_commands.specs.Reduce.{Reduces}
 use Rattle.aig_commands.specs.Select.{Selects}
@@ -62,7 +62,7 @@ EndsAsMeant out left (commands.Cnf it) result =
 EndsAsMeant out left (commands.Info it) result =
     IfSome (left it.circuit) (λ file. Ends out run_faults.Output end_of (OfFile file (ListsFacts (Some file))) result)
 EndsAsMeant out left (commands.InfoNames it) result =
-    IfSome (left it.circuit) (λ file. Ends out run_faults.Output end_of (OfFile file ListsNames) result)
+    IfSome (left it.circuit) (λ file. Ends out run_faults.Output end_of (OfFile file (ListsNamesAs it.form)) result)
 EndsAsMeant out left (commands.Select it) result =
     IfSome (left it.circuit) (λ file. Ends out run_faults.Output end_of
     (OfFile file (Selects it.selection.from it.selection.into it.selection.positions.items it.to)) result)
@@ -83,7 +83,7 @@ EndsAsMeant out left (commands.Strengthen it) result =
     Ends out run_faults.Output end_of (OfCertified purposes.Circuit file it.property claims (Converts it.to)) result))
 EndsAsMeant out left (commands.Why it) result =
     IfSome (left it.circuit) (λ file. IfSome (given_left left it.given) (λ run.
-    Ends out run_faults.Output end_of (OfFile file (WritesWhy run (option_copied it.name) it.span)) result))
+    Ends out run_faults.Output end_of (OfFile file (WritesWhy it.form run (option_copied it.name) it.span)) result))
 EndsAsMeant out left (commands.Reduce it) result =
     IfSome (left it.circuit) (λ file. IfSome (left it.witness)
     (λ text. Ends out run_faults.Output end_of_verdict (OfFile file (Reduces text)) result))

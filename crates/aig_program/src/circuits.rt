@@ -2,7 +2,7 @@
 ghost use Rattle.std.specs.Prelude.{Some, IfSome, OnOk};
 ghost use Rattle.aig_command.specs.Command.{OfFile};
 ghost use Rattle.aig_commands.specs.Info.{ListsFacts};
-ghost use Rattle.aig_commands.specs.Names.{ListsNames};
+ghost use Rattle.aig_commands.specs.Names.{ListsNamesAs};
 ghost use Rattle.aig_commands.specs.Select.{Selects};
 ghost use Rattle.aig_commands.specs.Toaig.{Converts};
 ghost use Rattle.aig_commands.specs.Unroll.{UnrollsKept};
@@ -106,10 +106,11 @@ pub fn info_names<F: Read + Drop, W: Write>(
     out: &mut W,
 ) -> Result<(), Exit>
     ensures ends { IfSome (F.remaining it.circuit) (λ file.
-        Ends (seen W.written W.failures out.old out.new) RunFault.Output end_of (OfFile file ListsNames) result) }
+        Ends (seen W.written W.failures out.old out.new) RunFault.Output end_of (OfFile file (ListsNamesAs it.form))
+        result) }
 {
     let mut circuit = Known::new(it.circuit);
-    let done = info::info_names(alloc, &mut circuit, out);
+    let done = info::info_names_as(alloc, &mut circuit, it.form, out);
     streamed(done, out, RunFault::Output)
 }
 

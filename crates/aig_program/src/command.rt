@@ -14,6 +14,7 @@ use aig_command::Given;
 use aig_commands::question::Question;
 use aig_files::{Exit, Kept, Terminal};
 use aig_format::Format;
+use aig_signals::Form;
 use aig_why::Span;
 use std::fs::{Files, Metadata};
 use std::io::Read;
@@ -136,6 +137,7 @@ pub struct Info<F> {
 /// `info --names`: its entries.
 #[derive(Drop)]
 pub struct InfoNames<F> {
+    pub form: Form,
     pub circuit: F,
 }
 
@@ -194,6 +196,7 @@ pub struct Reduce<F> {
 pub struct Why<'a, F> {
     pub name: Option<&'a str>,
     pub span: Span,
+    pub form: Form,
     pub circuit: F,
     pub given: Given<F>,
 }

@@ -20,7 +20,7 @@ use std::io::Read;
 pub fn why<F: Read + Drop, W: Write>(alloc: Global, it: Why<'_, F>, out: &mut W) -> Result<(), Exit>
     ensures ends { IfSome (F.remaining it.entry.circuit) (λ file. IfSome (given_left F.remaining it.entry.given) (λ run.
         Ends (seen W.written W.failures out.old out.new) RunFault.Output end_of
-        (OfFile file (WritesWhy run (option_copied it.entry.name) it.entry.span)) result)) }
+        (OfFile file (WritesWhy it.entry.form run (option_copied it.entry.name) it.entry.span)) result)) }
 {
     let circuit = read_whole(alloc, it.circuit, Part::Circuit)?;
     let given = read_given_file(alloc, it.given)?;
@@ -29,6 +29,7 @@ pub fn why<F: Read + Drop, W: Write>(alloc: Global, it: Why<'_, F>, out: &mut W)
     let asked = Asked {
         name: bytes_of(it.name),
         span: it.span,
+        form: it.form,
     };
     let done = aig_why::why(alloc, file, run, asked, out);
     ended(done, out, RunFault::Output)

@@ -5,6 +5,7 @@ use Rattle.std.specs.Prelude.{decimal, All, Option, None, Some}
 use Rattle.std.specs.List.{AllZip}
 use Rattle.aig_parts.specs.declared.raw.Raw.{Raw}
 use Rattle.aig_prompt.specs.Folded.{text_words}
+use Rattle.aig_signals.specs.declared.form.Form.TheVariants.{Text}
 use Rattle.aig_why.specs.Why.{IsExplanation, Run}
 use Rattle.aig_shell.specs.Edits.{IsFrame}
 
@@ -46,7 +47,7 @@ pub record ShowsLines (last : ℕ) (full text : List ℕ) : Type 0 where
 -- the text shows lines that explain the literals at frame t, from there on down
 abbrev pub Explains : Raw → Run → List ℕ → List ℕ → ℕ → List ℕ → Type 0
 Explains raw run name literals t text =
-    (last : ℕ) × (full : List ℕ) × IsExplanation raw run name literals t last full × ShowsLines last full text
+    (last : ℕ) × (full : List ℕ) × IsExplanation Text raw run name literals t last full × ShowsLines last full text
 
 -- the first 40 lines of a text are added, folded; all, where there are fewer
 pub record AddsLines (full old new : List ℕ) : Type 0 where

@@ -1,6 +1,7 @@
 pub mod BitLemmas
 pub mod Defined
 pub mod EntryLemmas
+pub mod JsonLemmas
 pub mod Lines
 pub mod Lookups
 pub mod Meaning

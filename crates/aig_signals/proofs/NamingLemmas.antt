@@ -25,7 +25,7 @@ use Rattle.aig_parts.specs.declared.ternary.Tern.{Tern}
 use Rattle.aig_signals.specs.declared.run.Run.{Run}
 use Rattle.aig_signals.specs.declared.signal.Signal.{Signal}
 use Rattle.aig_signals.specs.Names.{literals_of}
-use Rattle.aig_signals.specs.Naming.{is_named, section_words, signal_bits, signal_word}
+use Rattle.aig_signals.specs.Naming.{is_named, signal_bits}
 use Rattle.aig_signals.specs.Signals.{goes_on, put_entry, runs_from, runs_of, section_signals, signal_of}
 use Rattle.aig_signals.specs.state.Naming.{AreNamed, AreNeighbours, IsEntryOf, IsNaming, IsValued, is_repeated}
 
@@ -305,13 +305,14 @@ end_of named (suc k) = suc (get_or named k 0)
 
 -- the words that were written when the numbers up to index i were looked at: those of the signals up to the last of
 -- them
-abbrev pub WordsSoFar : List Signal → List (Option Tern) → List ℕ → List ℕ → ℕ → List ℕ → Type 0
-WordsSoFar signals values named old i text =
-    text ≡ old ++ flat_map (λ s. 32 ∷ signal_word values s) (filter (is_named values) (take (end_of named i) signals))
+abbrev pub WordsSoFar : (Signal → List ℕ) → List Signal → List (Option Tern) → List ℕ → List ℕ → ℕ → List ℕ → Type 0
+WordsSoFar word signals values named old i text =
+    text ≡ old ++ flat_map word (filter (is_named values) (take (end_of named i) signals))
 
-pub words_start : (signals : List Signal) (values : List (Option Tern)) (named old : List ℕ) → WordsSoFar signals values named old 0 old
+pub words_start : (word : Signal → List ℕ) (signals : List Signal) (values : List (Option Tern)) (named old : List ℕ)
+    → WordsSoFar word signals values named old 0 old
 unfolding end_of
-words_start signals values named old = sym (append-nil old)
+words_start word signals values named old = sym (append-nil old)
 
 module _ (signals : List Signal) (values : List (Option Tern)) (named : List ℕ) (near : AreNeighbours 0 signals (length values))
     (h : AreNamed signals values named) where
@@ -386,20 +387,19 @@ module _ (signals : List Signal) (values : List (Option Tern)) (named : List ℕ
   end_within zero le = omega arith
   end_within (suc n) le = number_within (get_or named n 0) (Contains-get_or named n 0 (omega (arith, le)))
 
-  module _ (sorted : IsSorted nat_cmp named) (old : List ℕ) (i : ℕ) (text : List ℕ) (so_far : WordsSoFar signals values named old i text) where
-    pub words_skipped : is_repeated named i ≡ true → WordsSoFar signals values named old (i + 1) text
+  module _ (sorted : IsSorted nat_cmp named) (word : Signal → List ℕ) (old : List ℕ) (i : ℕ) (text : List ℕ)
+      (so_far : WordsSoFar word signals values named old i text) where
+    pub words_skipped : is_repeated named i ≡ true → WordsSoFar word signals values named old (i + 1) text
     words_skipped same =
         let e : end_of named i ≡ end_of named (i + 1) = sym (repeated_end i same) ∙ ap (end_of named) (sym (add-one i)) in
-        so_far ∙ ap (λ (n : ℕ). old ++ flat_map (λ s. 32 ∷ signal_word values s) (filter (is_named values) (take n signals))) e
+        so_far ∙ ap (λ (n : ℕ). old ++ flat_map word (filter (is_named values) (take n signals))) e
 
     pub words_written : (s : Signal) (k : ℕ) (new : List ℕ) → i < length named → k ≡ get_or named i 0 → is_repeated named i ≡ false
-        → slice_get signals k ≡ Some s → new ≡ text ++ (32 ∷ signal_word values s)
-        → WordsSoFar signals values named old (i + 1) new
+        → slice_get signals k ≡ Some s → new ≡ text ++ word s → WordsSoFar word signals values named old (i + 1) new
     unfolding end_of
     words_written s k new lt k_is other here pushed =
         let among : Contains named k = subst (Contains named) (sym k_is) (Contains-get_or named i 0 lt) in
         let within : k < length signals = number_within k among in
-        let word : Signal → List ℕ = λ s. 32 ∷ signal_word values s in
         let above : end_of named i ≤ k = omega (arith, k_is, other_end sorted i lt other) in
         let gap = words_gap i (end_of named i) k above (omega (arith, within)) (λ j less is. before sorted i j (omega (arith, lt)) less)
         (λ j late is. omega (arith, k_is, sorted_le named i j sorted late is)) in
@@ -413,11 +413,10 @@ module _ (signals : List Signal) (values : List (Option Tern)) (named : List ℕ
         ∙ sym (flat_map-append word (filter (is_named values) (take (end_of named i) signals)) (s ∷ [])) ∙ ap (flat_map word) (sym more)
         ∙ ap (λ (n : ℕ). flat_map word (filter (is_named values) (take n signals))) e)
 
-    pub words_done : i ≡ length named → text ≡ old ++ section_words (record { signals = signals; values = values })
-    unfolding section_words
+    pub words_done : i ≡ length named → text ≡ old ++ flat_map word (filter (is_named values) signals)
     words_done all =
         so_far
-        ∙ ap (λ (ss : List Signal). old ++ flat_map (λ s. 32 ∷ signal_word values s) ss)
+        ∙ ap (λ (ss : List Signal). old ++ flat_map word ss)
         (sym (words_gap i (end_of named i) (length signals) (end_within i (omega (arith, all))) (omega arith)
         (λ j less is. before sorted i j (omega (arith, all)) less) (λ j late is. absurd (omega (arith, late, is, all))))
         ∙ ap (filter (is_named values)) (take_all (length signals) signals (omega arith)))

@@ -1,4 +1,6 @@
 pub mod Bits
+pub mod Form
+pub mod Json
 pub mod Lookup
 pub mod Named
 pub mod Names

@@ -1,4 +1,5 @@
 pub mod Found
+pub mod Json
 pub mod NameHash
 pub mod Naming
 pub mod PropertyNaming

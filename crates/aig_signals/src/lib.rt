@@ -3,7 +3,9 @@
 #![tactic(auto)]
 
 mod bits;
+mod form;
 mod hash;
+mod json;
 mod lookup;
 mod names;
 mod naming;
@@ -14,6 +16,8 @@ mod signal;
 mod text;
 mod value;
 
+pub use form::Form;
+pub use json::write_name;
 pub use lookup::{entry_named, look_up};
 pub use names::{push_first_name, push_readable};
 pub use naming::SectionNaming;

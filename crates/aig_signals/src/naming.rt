@@ -8,6 +8,8 @@ ghost use Rattle.aig_signals.specs.Signals as signals_spec;
 ghost use Rattle.aig_signals.specs.Naming.{section_words, signal_bits, signal_word, unnamed};
 ghost use Rattle.aig_signals.specs.state.Naming.{AreNamed, AreNeighbours, IsEntryOf, is_repeated};
 
+mod objects;
+
 use crate::section::count_of;
 use crate::signal::{Signal, section_signals};
 use crate::value::push_value;

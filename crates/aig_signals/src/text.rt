@@ -31,7 +31,7 @@ impl Drop for Naming {
 }
 
 /// Adds a number.
-fn push_number(text: &mut Vec<u8>, number: u32) -> Result<(), Memory>
+pub(crate) fn push_number(text: &mut Vec<u8>, number: u32) -> Result<(), Memory>
     ensures { OnOk result (text.new.items ≡ text.old.items ++ decimal number) }
 {
     let mut buffer = Buffer::new();

@@ -71,7 +71,7 @@ fn digit_at(bits: &[Option<Tern>], place: usize) -> u8
 }
 
 /// Adds the letters of bits, the last bit first.
-fn push_binary(text: &mut Vec<u8>, bits: &[Option<Tern>]) -> Result<(), Memory>
+pub(crate) fn push_binary(text: &mut Vec<u8>, bits: &[Option<Tern>]) -> Result<(), Memory>
     ensures { OnOk result (text.new.items ≡ text.old.items ++ binary bits.now) }
 {
     let mut place = bits.len();

@@ -15,18 +15,19 @@ use Rattle.aig_signals.specs.declared.text.Naming.{Naming}
 use Rattle.aig_signals.specs.declared.text.Origin.{Origin}
 use Rattle.aig_signals.specs.state.Naming.{AreNeighbours}
 use Rattle.aig_signals.proofs.NamingLemmas.{section_neighbours, signal_between}
+use Rattle.aig_signals.specs.declared.form.Form.{Form}
 use Rattle.aig_why.specs.Lines.{AreFrameTexts, AreLineTexts, AreNamed, IsOriginText}
 use Rattle.aig_why.specs.Named.{IsNamingOf}
 use Rattle.aig_why.specs.state.Naming.{HasSameSignals}
 
 -- one frame more, below the others
-pub frame_more : (raw : Raw) (p : CircuitAndRows) (f below : ℕ) (lines : List LineState) (frames : List (List LineState))
-    (above here : List ℕ) → below + 1 ≡ f → AreFrameTexts raw (moment p f) frames above
-    → AreLineTexts raw (moment p below) lines here → AreFrameTexts raw (moment p below) (lines ∷ frames) (above ++ here)
+pub frame_more : (form : Form) (raw : Raw) (p : CircuitAndRows) (f below : ℕ) (lines : List LineState) (frames : List (List LineState))
+    (above here : List ℕ) → below + 1 ≡ f → AreFrameTexts form raw (moment p f) frames above
+    → AreLineTexts form raw (moment p below) lines here → AreFrameTexts form raw (moment p below) (lines ∷ frames) (above ++ here)
 unfolding AreFrameTexts
-frame_more raw p f below lines frames above here e h k =
+frame_more form raw p f below lines frames above here e h k =
     let same : f ≡ suc below = omega (arith, e) in
-    (above, here, subst (λ (n : ℕ). AreFrameTexts raw (moment p n) frames above) same h, k, refl)
+    (above, here, subst (λ (n : ℕ). AreFrameTexts form raw (moment p n) frames above) same h, k, refl)
 
 -- a list without elements
 pub none_there : (xs : List ℕ) → ((q : ℕ) → Contains xs q → ⊥) → xs ≡ []
@@ -42,12 +43,12 @@ named_same raw m literals ps qs values same h = record {
   others = λ p lt no. h.others p lt (λ has. no ((same p).0 has));
 }
 
-pub origin_same : (raw : Raw) (m : Moment) (o : Origin) (ps qs : List ℕ) (text : List ℕ) → ((q : ℕ) → Contains ps q ↔ Contains qs q)
-    → IsOriginText raw m o ps text → IsOriginText raw m o qs text
-origin_same raw m o [] [] text same h = h
-origin_same raw m o [] (q ∷ qs) text same h = let no = (same q).1 (0, omega arith, refl) in absurd (omega (arith, no.1))
-origin_same raw m o (p ∷ ps) [] text same h = let no = (same p).0 (0, omega arith, refl) in absurd (omega (arith, no.1))
-origin_same raw m o (p ∷ ps) (q ∷ qs) text same h =
+pub origin_same : (form : Form) (raw : Raw) (m : Moment) (o : Origin) (ps qs : List ℕ) (text : List ℕ) → ((q : ℕ) → Contains ps q ↔ Contains qs q)
+    → IsOriginText form raw m o ps text → IsOriginText form raw m o qs text
+origin_same form raw m o [] [] text same h = h
+origin_same form raw m o [] (q ∷ qs) text same h = let no = (same q).1 (0, omega arith, refl) in absurd (omega (arith, no.1))
+origin_same form raw m o (p ∷ ps) [] text same h = let no = (same p).0 (0, omega arith, refl) in absurd (omega (arith, no.1))
+origin_same form raw m o (p ∷ ps) (q ∷ qs) text same h =
     let (n, is, e) = h in (
       n,
       record {

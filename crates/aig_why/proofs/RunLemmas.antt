@@ -25,6 +25,7 @@ use Rattle.aig_command.specs.declared.run_fault.RunFault.TheVariants as run_faul
 use Rattle.aig_signals.specs.Names.{literals_of}
 use Rattle.aig_signals.specs.declared.text.Naming.{Naming}
 use Rattle.aig_why.proofs.TextLemmas.{latch_literals}
+use Rattle.aig_signals.specs.declared.form.Form.{Form}
 use Rattle.aig_why.specs.Why.{IsFrame, least_frame, RefusesRun, Run, run_of, WritesWhy}
 use Rattle.aig_why.specs.declared.command.Span.{Span}
 use Rattle.aig_why.specs.declared.question.Question.{Question}
@@ -59,10 +60,10 @@ module _ (raw other : Raw) (r : HasOtherResets raw other) where
   asked_with (Some q) h = defined_with q.literals h
 
 -- it returns no fault of a circuit file where there is a circuit
-pub why_no_circuit : (raw : Raw) (given : Given (List ℕ)) (name : Option (List ℕ)) (span : Span)
-    → MeansNoFault (WritesWhy given name span) raw
-why_no_circuit raw given name span fault bytes (inl h, none) = given_no_circuit raw given fault h
-why_no_circuit raw given name span fault bytes (inr (run, is, h), none) = h
+pub why_no_circuit : (form : Form) (raw : Raw) (given : Given (List ℕ)) (name : Option (List ℕ)) (span : Span)
+    → MeansNoFault (WritesWhy form given name span) raw
+why_no_circuit form raw given name span fault bytes (inl h, none) = given_no_circuit raw given fault h
+why_no_circuit form raw given name span fault bytes (inr (run, is, h), none) = h
 
 -- the cells of a run on a bench
 module _ (raw : Raw) (pair : CircuitAndRows) (n : Naming) (of : IsNamingOf raw pair n) where

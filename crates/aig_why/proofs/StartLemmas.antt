@@ -20,6 +20,7 @@ use Rattle.aig_causes.specs.Explanation.{AreNamedBetween, IsNamed}
 use Rattle.aig_base.specs.Resets.{HasOtherResets}
 use Rattle.aig_base.proofs.values.Resets.{other_resets_back, value_with}
 use Rattle.aig_signals.specs.declared.text.Origin.TheVariants as origin
+use Rattle.aig_signals.specs.declared.form.Form.{Form}
 use Rattle.aig_why.specs.Lines.{AreLastTexts, IsOriginText, IsResetValue, StartsByReset}
 use Rattle.aig_why.specs.state.Naming.{Adds, StartsBy}
 use Rattle.aig_why.proofs.FrameLemmas.{origin_same}
@@ -150,15 +151,15 @@ named_latches named latches lines h is q = (
       h.each q (omega arith) (slice_get_within named q true so) so,
 )
 
-pub last_open : (raw : Raw) (pair : CircuitAndRows) (f : ℕ) (latches named old new : List ℕ) → 0 < f
+pub last_open : (form : Form) (raw : Raw) (pair : CircuitAndRows) (f : ℕ) (latches named old new : List ℕ) → 0 < f
     → ((q : ℕ) → Contains latches q ↔ Contains named q)
-    → Adds (IsOriginText raw (moment pair f) (origin.NotExplained f) latches) old new
-    → Adds (AreLastTexts raw (moment pair f) named) old new
-last_open raw pair f latches named old new lt same h =
+    → Adds (IsOriginText form raw (moment pair f) (origin.NotExplained f) latches) old new
+    → Adds (AreLastTexts form raw (moment pair f) named) old new
+last_open form raw pair f latches named old new lt same h =
     let (added, is, e) = h in (
       added,
       record {
-        unexplained = λ some. origin_same raw (moment pair f) (origin.NotExplained f) latches named added same is;
+        unexplained = λ some. origin_same form raw (moment pair f) (origin.NotExplained f) latches named added same is;
         at_start = λ none. absurd (omega (arith, lt, none));
       },
       e,
@@ -182,12 +183,12 @@ module _ (raw : Raw) (pair : CircuitAndRows) (r : HasOtherResets raw pair.circui
         λ has. (h p).1 ((same p).1 has.0, (λ so. absurd (has.1 (starts_so.0 so)), λ (no : IsTrue false). cc)),
       )
 
-  pub last_at_start : (reset other old middle new : List ℕ) → AreFound (StartsBy pair resets) true latches reset
+  pub last_at_start : (form : Form) (reset other old middle new : List ℕ) → AreFound (StartsBy pair resets) true latches reset
       → AreFound (StartsBy pair resets) false latches other
-      → Adds (IsOriginText raw (moment pair 0) origin.Reset reset) old middle
-      → Adds (IsOriginText raw (moment pair 0) origin.Start other) middle new
-      → Adds (AreLastTexts raw (moment pair 0) named) old new
-  last_at_start reset other old middle new are_reset are_other h k =
+      → Adds (IsOriginText form raw (moment pair 0) origin.Reset reset) old middle
+      → Adds (IsOriginText form raw (moment pair 0) origin.Start other) middle new
+      → Adds (AreLastTexts form raw (moment pair 0) named) old new
+  last_at_start form reset other old middle new are_reset are_other h k =
       let (first, is_first, e) = h in
       let (second, is_second, d) = k in (
         first ++ second,

@@ -17,8 +17,10 @@ use Rattle.aig_base.proofs.values.Resets.{other_resets_back, value_with}
 use Rattle.aig_signals.specs.declared.text.Naming.{Naming}
 use Rattle.aig_signals.specs.declared.text.Origin.{Origin}
 use Rattle.aig_signals.specs.declared.signal.Signal.{Signal}
-use Rattle.aig_signals.specs.Naming.{SectionNamed, signal_word}
-use Rattle.aig_signals.specs.Text.{asked_head, latches_head, line, named_words, names_none, origin_head}
+use Rattle.aig_signals.specs.Naming.{SectionNamed}
+use Rattle.aig_signals.specs.Form.{asked_by, end_by, latches_by, line_by, origin_by}
+use Rattle.aig_signals.specs.Text.{names_none}
+use Rattle.aig_signals.specs.declared.form.Form.{Form}
 use Rattle.aig_why.specs.Lines.{AreBits, AreLineTexts, AreNamed, IsAskedText, IsLineText, IsOriginText, Names}
 use Rattle.aig_why.specs.Lines.{ShowsLine, latches_alone}
 use Rattle.aig_why.specs.Named.{IsNamingOf, NamesNothing}
@@ -71,11 +73,10 @@ names raw pair m s n new of same h = record {
 }
 
 -- the head and then the rest of a line
-pub line_added : (old head middle new : List ℕ) (n : Naming) → middle ≡ old ++ head
-    → new ≡ middle ++ (58 ∷ (named_words n ++ 10 ∷ [])) → new ≡ old ++ line head n
-line_added old head middle new n e f =
-    f ∙ ap (λ (t : List ℕ). t ++ (58 ∷ (named_words n ++ 10 ∷ []))) e
-    ∙ append_assoc old head (58 ∷ (named_words n ++ 10 ∷ []))
+pub line_added : (form : Form) (old head middle new : List ℕ) (n : Naming) → middle ≡ old ++ head
+    → new ≡ middle ++ end_by form n → new ≡ old ++ line_by form head n
+line_added form old head middle new n e f =
+    f ∙ ap (λ (t : List ℕ). t ++ end_by form n) e ∙ append_assoc old head (end_by form n)
 
 bits_in : (raw other : Raw) → HasOtherResets raw other → (m : Moment) (literals : List ℕ) (bits : List (Option Tern))
     → AreBits other m literals bits → AreBits raw m literals bits
@@ -87,12 +88,12 @@ bits_in raw other r m (l ∷ literals) (b ∷ bits) h =
     ((w, is, value_with other raw (other_resets_back raw other r) m.start m.rows v), bits_in raw other r m literals bits h.1)
 
 -- the line of what was asked for
-pub asked_text : (raw : Raw) (pair : CircuitAndRows) (m : Moment) (name literals : List ℕ) (bits : List (Option Tern)) (asked : Sources)
+pub asked_text : (form : Form) (raw : Raw) (pair : CircuitAndRows) (m : Moment) (name literals : List ℕ) (bits : List (Option Tern)) (asked : Sources)
     (before n : Naming) (old middle new : List ℕ) → IsNamingOf raw pair before → HasSameSignals before n
-    → NamesValues pair.circuit m asked n → AreBits pair.circuit m literals bits → middle ≡ old ++ asked_head name bits m.frame
-    → new ≡ middle ++ (58 ∷ (named_words n ++ 10 ∷ [])) → Adds (IsAskedText raw m name literals asked) old new
-asked_text raw pair m name literals bits asked before n old middle new of same values bits_are e f = (
-  line (asked_head name bits m.frame) n,
+    → NamesValues pair.circuit m asked n → AreBits pair.circuit m literals bits → middle ≡ old ++ asked_by form name bits m.frame
+    → new ≡ middle ++ end_by form n → Adds (IsAskedText form raw m name literals asked) old new
+asked_text form raw pair m name literals bits asked before n old middle new of same values bits_are e f = (
+  line_by form (asked_by form name bits m.frame) n,
   record {
     bits = bits;
     bits_are = bits_in raw pair.circuit of.resets m literals bits bits_are;
@@ -100,20 +101,20 @@ asked_text raw pair m name literals bits asked before n old middle new of same v
     names = names raw pair m asked before n of same values;
     text_is = refl;
   },
-  line_added old (asked_head name bits m.frame) middle new n e f,
+  line_added form old (asked_by form name bits m.frame) middle new n e f,
 )
 
 -- the line of latches of a signal: the frame is the one after m
-pub line_text : (raw : Raw) (pair : CircuitAndRows) (m : Moment) (x : LineState) (signal : Signal) (number : ℕ)
+pub line_text : (form : Form) (raw : Raw) (pair : CircuitAndRows) (m : Moment) (x : LineState) (signal : Signal) (number : ℕ)
     (before left right : Naming) (old middle new : List ℕ) → IsNamingOf raw pair before
     → slice_get before.latches.signals number ≡ Some signal
     → ((p : ℕ) → Contains x.latches p → (signal.first ≤ p) × (p < signal.end))
     → HasSameSignals before left → NamesValues pair.circuit (next m) (latches_alone x.latches) left
     → HasSameSignals before right → NamesValues pair.circuit m x.causes right
-    → middle ≡ old ++ latches_head (signal_word left.latches.values signal) (suc m.frame)
-    → new ≡ middle ++ (58 ∷ (named_words right ++ 10 ∷ [])) → Adds (IsLineText raw m x) old new
-line_text raw pair m x signal number before left right old middle new of at within same_left is_left same_right is_right e f = (
-  line (latches_head (signal_word left.latches.values signal) (suc m.frame)) right,
+    → middle ≡ old ++ latches_by form left.latches.values signal (suc m.frame)
+    → new ≡ middle ++ end_by form right → Adds (IsLineText form raw m x) old new
+line_text form raw pair m x signal number before left right old middle new of at within same_left is_left same_right is_right e f = (
+  line_by form (latches_by form left.latches.values signal (suc m.frame)) right,
   record {
     signal = signal;
     signal_is = subst (λ (ss : List Signal). Contains ss signal) of.latches
@@ -125,63 +126,63 @@ line_text raw pair m x signal number before left right old middle new of at with
     right_names = names raw pair m x.causes before right of same_right is_right;
     text_is = refl;
   },
-  line_added old (latches_head (signal_word left.latches.values signal) (suc m.frame)) middle new right e f,
+  line_added form old (latches_by form left.latches.values signal (suc m.frame)) middle new right e f,
 )
 
 -- lines of a frame, one after the other
-pub no_lines : (raw : Raw) (m : Moment) (text : List ℕ) → Adds (AreLineTexts raw m []) text text
+pub no_lines : (form : Form) (raw : Raw) (m : Moment) (text : List ℕ) → Adds (AreLineTexts form raw m []) text text
 unfolding AreLineTexts
-no_lines raw m text = ([], refl, sym (append-nil text))
+no_lines form raw m text = ([], refl, sym (append-nil text))
 
-pub lines_joined : (raw : Raw) (m : Moment) (xs ys : List LineState) (first second : List ℕ) → AreLineTexts raw m xs first
-    → AreLineTexts raw m ys second → AreLineTexts raw m (xs ++ ys) (first ++ second)
+pub lines_joined : (form : Form) (raw : Raw) (m : Moment) (xs ys : List LineState) (first second : List ℕ) → AreLineTexts form raw m xs first
+    → AreLineTexts form raw m ys second → AreLineTexts form raw m (xs ++ ys) (first ++ second)
 unfolding AreLineTexts
-lines_joined raw m [] ys first second h k = subst (AreLineTexts raw m ys) (sym (ap (λ (t : List ℕ). t ++ second) h)) k
-lines_joined raw m (x ∷ xs) ys first second h k =
+lines_joined form raw m [] ys first second h k = subst (AreLineTexts form raw m ys) (sym (ap (λ (t : List ℕ). t ++ second) h)) k
+lines_joined form raw m (x ∷ xs) ys first second h k =
     let (here, rest, is, more, e) = h in (
       here,
       rest ++ second,
       is,
-      lines_joined raw m xs ys rest second more k,
+      lines_joined form raw m xs ys rest second more k,
       ap (λ (t : List ℕ). t ++ second) e ∙ append_assoc here rest second,
     )
 
-pub lines_more : (raw : Raw) (m : Moment) (xs ys : List LineState) (old middle new : List ℕ)
-    → Adds (AreLineTexts raw m xs) old middle → Adds (AreLineTexts raw m ys) middle new
-    → Adds (AreLineTexts raw m (xs ++ ys)) old new
-lines_more raw m xs ys old middle new h k =
+pub lines_more : (form : Form) (raw : Raw) (m : Moment) (xs ys : List LineState) (old middle new : List ℕ)
+    → Adds (AreLineTexts form raw m xs) old middle → Adds (AreLineTexts form raw m ys) middle new
+    → Adds (AreLineTexts form raw m (xs ++ ys)) old new
+lines_more form raw m xs ys old middle new h k =
     let (first, is_first, e) = h in
     let (second, is_second, f) = k in (
       first ++ second,
-      lines_joined raw m xs ys first second is_first is_second,
+      lines_joined form raw m xs ys first second is_first is_second,
       f ∙ ap (λ (t : List ℕ). t ++ second) e ∙ append_assoc old first second,
     )
 
 -- one line, which is left out where its latches keep their values
-pub one_kept : (raw : Raw) (m : Moment) (x : LineState) (old new : List ℕ) → x.kept ≡ true → new ≡ old
-    → Adds (AreLineTexts raw m (x ∷ [])) old new
+pub one_kept : (form : Form) (raw : Raw) (m : Moment) (x : LineState) (old new : List ℕ) → x.kept ≡ true → new ≡ old
+    → Adds (AreLineTexts form raw m (x ∷ [])) old new
 unfolding AreLineTexts
-one_kept raw m x old new kept same =
-    ([], ([], [], subst (λ (b : Bool). ShowsLine b raw m x []) (sym kept) refl, refl, refl), same ∙ sym (append-nil old))
+one_kept form raw m x old new kept same =
+    ([], ([], [], subst (λ (b : Bool). ShowsLine b form raw m x []) (sym kept) refl, refl, refl), same ∙ sym (append-nil old))
 
-pub one_line : (raw : Raw) (m : Moment) (x : LineState) (old new : List ℕ) → x.kept ≡ false
-    → Adds (IsLineText raw m x) old new → Adds (AreLineTexts raw m (x ∷ [])) old new
+pub one_line : (form : Form) (raw : Raw) (m : Moment) (x : LineState) (old new : List ℕ) → x.kept ≡ false
+    → Adds (IsLineText form raw m x) old new → Adds (AreLineTexts form raw m (x ∷ [])) old new
 unfolding AreLineTexts
-one_line raw m x old new kept h =
+one_line form raw m x old new kept h =
     let (added, is, e) = h in (
       added,
-      (added, [], subst (λ (b : Bool). ShowsLine b raw m x added) (sym kept) is, refl, sym (append-nil added)),
+      (added, [], subst (λ (b : Bool). ShowsLine b form raw m x added) (sym kept) is, refl, sym (append-nil added)),
       e,
     )
 
 -- the line of latches that no line explains
-pub origin_text : (raw : Raw) (pair : CircuitAndRows) (m : Moment) (o : Origin) (latches : List ℕ) (before n : Naming)
+pub origin_text : (form : Form) (raw : Raw) (pair : CircuitAndRows) (m : Moment) (o : Origin) (latches : List ℕ) (before n : Naming)
     (old middle new : List ℕ) → latches ≢ [] → IsNamingOf raw pair before → HasSameSignals before n
-    → NamesValues pair.circuit m (latches_alone latches) n → middle ≡ old ++ origin_head o
-    → new ≡ middle ++ (58 ∷ (named_words n ++ 10 ∷ [])) → Adds (IsOriginText raw m o latches) old new
-origin_text raw pair m o [] before n old middle new some of same values e f = absurd (some refl)
-origin_text raw pair m o (p ∷ more) before n old middle new some of same values e f = (
-  line (origin_head o) n,
+    → NamesValues pair.circuit m (latches_alone latches) n → middle ≡ old ++ origin_by form o
+    → new ≡ middle ++ end_by form n → Adds (IsOriginText form raw m o latches) old new
+origin_text form raw pair m o [] before n old middle new some of same values e f = absurd (some refl)
+origin_text form raw pair m o (p ∷ more) before n old middle new some of same values e f = (
+  line_by form (origin_by form o) n,
   (n, names raw pair m (latches_alone (p ∷ more)) before n of same values, refl),
-  line_added old (origin_head o) middle new n e f,
+  line_added form old (origin_by form o) middle new n e f,
 )

@@ -1,4 +1,4 @@
--- The lines of an explanation as text (our own choice).
+-- The lines of an explanation, as text or as JSON (our own choice).
 -- Example: `full=0 at 9, by 8: count=4'b??1?`.
 use Rattle.std.specs.Prelude.{◌≡◌, ◌⊎◌, ℕ, suc, ◌<◌, ◌≤◌, ◌↔◌, Bool, true, false, List, [], ◌∷◌, ◌++◌, length, map}
 use Rattle.std.specs.Prelude.{Contains, Option, None, Some, slice_get}
@@ -15,9 +15,9 @@ use Rattle.aig_signals.specs.declared.signal.Signal.{Signal}
 use Rattle.aig_signals.specs.declared.text.Naming.{Naming}
 use Rattle.aig_signals.specs.declared.text.Origin.{Origin}
 use Rattle.aig_signals.specs.declared.text.Origin.TheVariants as origin
-use Rattle.aig_signals.specs.Naming.{signal_word}
 use Rattle.aig_signals.specs.Signals.{section_signals}
-use Rattle.aig_signals.specs.Text.{line, asked_head, latches_head, origin_head}
+use Rattle.aig_signals.specs.Form.{asked_by, latches_by, line_by, origin_by}
+use Rattle.aig_signals.specs.declared.form.Form.{Form}
 
 -- Exactly these positions are named, each with the value at m of its literal.
 pub record AreNamed (raw : Raw) (m : Moment) (literals positions : List ℕ) (values : List (Option Tern)) : Type 0 where
@@ -42,16 +42,16 @@ abbrev pub AreBits : Raw → Moment → List ℕ → List (Option Tern) → Type
 AreBits raw m literals bits = AllZip (λ l bit. (w : Tern) × (bit ≡ Some w) × Has raw m l w) literals bits
 
 -- the line of the literals that were asked for by a name; none where they are latches alone
-pub record IsAskedText (raw : Raw) (m : Moment) (name literals : List ℕ) (asked : Sources) (text : List ℕ) : Type
-    0 where
+pub record IsAskedText (form : Form) (raw : Raw) (m : Moment) (name literals : List ℕ) (asked : Sources)
+    (text : List ℕ) : Type 0 where
   pub bits : List (Option Tern)
   pub bits_are : AreBits raw m literals bits
   pub named : Naming
   pub names : Names raw m asked named
-  pub text_is : text ≡ line (asked_head name bits m.frame) named
+  pub text_is : text ≡ line_by form (asked_by form name bits m.frame) named
 
 -- the line of latches of one signal of the frame after m, by what it names at m
-pub record IsLineText (raw : Raw) (m : Moment) (x : LineState) (text : List ℕ) : Type 0 where
+pub record IsLineText (form : Form) (raw : Raw) (m : Moment) (x : LineState) (text : List ℕ) : Type 0 where
   pub signal : Signal
   pub signal_is : Contains (section_signals raw kinds.Latch) signal
   pub within : (p : ℕ) → Contains x.latches p → (signal.first ≤ p) × (p < signal.end)
@@ -59,25 +59,25 @@ pub record IsLineText (raw : Raw) (m : Moment) (x : LineState) (text : List ℕ)
   pub left_names : Names raw (next m) (latches_alone x.latches) left
   pub right : Naming
   pub right_names : Names raw m x.causes right
-  pub text_is : text ≡ line (latches_head (signal_word left.latches.values signal) (suc m.frame)) right
+  pub text_is : text ≡ line_by form (latches_by form left.latches.values signal (suc m.frame)) right
 
 -- nothing for latches that keep their values, else their line
-abbrev pub ShowsLine : Bool → Raw → Moment → LineState → List ℕ → Type 0
-ShowsLine true raw m x text = text ≡ []
-ShowsLine false raw m x text = IsLineText raw m x text
+abbrev pub ShowsLine : Bool → Form → Raw → Moment → LineState → List ℕ → Type 0
+ShowsLine true form raw m x text = text ≡ []
+ShowsLine false form raw m x text = IsLineText form raw m x text
 
 -- the lines of a frame, without those of latches that keep their values
-unfoldable pub AreLineTexts : Raw → Moment → List LineState → List ℕ → Type 0
-AreLineTexts raw m [] text = text ≡ []
-AreLineTexts raw m (x ∷ more) text =
-    (here : List ℕ) × (rest : List ℕ) × ShowsLine x.kept raw m x here × AreLineTexts raw m more rest
+unfoldable pub AreLineTexts : Form → Raw → Moment → List LineState → List ℕ → Type 0
+AreLineTexts form raw m [] text = text ≡ []
+AreLineTexts form raw m (x ∷ more) text =
+    (here : List ℕ) × (rest : List ℕ) × ShowsLine x.kept form raw m x here × AreLineTexts form raw m more rest
     × (text ≡ here ++ rest)
 
 -- the lines of the frames from m on, the lowest frame first here, and last in the text
-unfoldable pub AreFrameTexts : Raw → Moment → List (List LineState) → List ℕ → Type 0
-AreFrameTexts raw m [] text = text ≡ []
-AreFrameTexts raw m (lines ∷ frames) text =
-    (above : List ℕ) × (here : List ℕ) × AreFrameTexts raw (next m) frames above × AreLineTexts raw m lines here
+unfoldable pub AreFrameTexts : Form → Raw → Moment → List (List LineState) → List ℕ → Type 0
+AreFrameTexts form raw m [] text = text ≡ []
+AreFrameTexts form raw m (lines ∷ frames) text =
+    (above : List ℕ) × (here : List ℕ) × AreFrameTexts form raw (next m) frames above × AreLineTexts form raw m lines here
     × (text ≡ above ++ here)
 
 -- the value is that of a reset of 0 or 1
@@ -90,16 +90,16 @@ StartsByReset raw m p =
     (x : Latch) × (w : Tern) × (slice_get raw.latches p ≡ Some x) × Has raw m x.lit w × IsResetValue x.reset w
 
 -- a line of latches that no line explains; none where there are none
-abbrev pub IsOriginText : Raw → Moment → Origin → List ℕ → List ℕ → Type 0
-IsOriginText raw m o [] text = text ≡ []
-IsOriginText raw m o (p ∷ more) text =
-    (named : Naming) × Names raw m (latches_alone (p ∷ more)) named × (text ≡ line (origin_head o) named)
+abbrev pub IsOriginText : Form → Raw → Moment → Origin → List ℕ → List ℕ → Type 0
+IsOriginText form raw m o [] text = text ≡ []
+IsOriginText form raw m o (p ∷ more) text =
+    (named : Naming) × Names raw m (latches_alone (p ∷ more)) named × (text ≡ line_by form (origin_by form o) named)
 
 -- the last lines: the latches that are named at m
-pub record AreLastTexts (raw : Raw) (m : Moment) (latches : List ℕ) (text : List ℕ) : Type 0 where
-  pub unexplained : 0 < m.frame → IsOriginText raw m (origin.NotExplained m.frame) latches text
+pub record AreLastTexts (form : Form) (raw : Raw) (m : Moment) (latches : List ℕ) (text : List ℕ) : Type 0 where
+  pub unexplained : 0 < m.frame → IsOriginText form raw m (origin.NotExplained m.frame) latches text
   pub at_start : m.frame ≡ 0 → (reset : List ℕ) × (other : List ℕ) × (first : List ℕ) × (second : List ℕ)
       × ((p : ℕ) → Contains reset p ↔ (Contains latches p × StartsByReset raw m p))
       × ((p : ℕ) → Contains other p ↔ (Contains latches p × (StartsByReset raw m p → ⊥)))
-      × IsOriginText raw m origin.Reset reset first × IsOriginText raw m origin.Start other second
+      × IsOriginText form raw m origin.Reset reset first × IsOriginText form raw m origin.Start other second
       × (text ≡ first ++ second)

@@ -17,6 +17,7 @@ use Rattle.aig_command.specs.declared.given.Given.{Given}
 use Rattle.aig_command.specs.declared.run_fault.RunFault.{RunFault}
 use Rattle.aig_command.specs.declared.run_fault.RunFault.TheVariants as run_faults
 use Rattle.aig_command.specs.declared.why_fault.WhyFault.TheVariants as why_faults
+use Rattle.aig_signals.specs.declared.form.Form.{Form}
 use Rattle.aig_signals.specs.Lookup.{Means, Unknown}
 use Rattle.aig_signals.specs.Names.{first_name}
 use Rattle.aig_why.specs.Lines.{AreFrameTexts, AreLastTexts, IsAskedText}
@@ -51,7 +52,8 @@ least_frame (Some depth) t = t - depth
 
 -- A text of lines. The literals that were asked for are explained down to frame f by lines that are right, each by
 -- itself and all together; that is the least frame, or no latch is named there.
-pub record IsExplanation (raw : Raw) (run : Run) (name literals : List ℕ) (t least : ℕ) (text : List ℕ) : Type 0 where
+pub record IsExplanation (form : Form) (raw : Raw) (run : Run) (name literals : List ℕ) (t least : ℕ)
+    (text : List ℕ) : Type 0 where
   pub asked : Sources
   pub frames : List (List LineState)
   pub f : ℕ
@@ -62,9 +64,9 @@ pub record IsExplanation (raw : Raw) (run : Run) (name literals : List ℕ) (t l
   pub lines : List ℕ
   pub last : List ℕ
   pub first_alone : All (IsLatchLiteral raw) literals → first ≡ []
-  pub first_is : (All (IsLatchLiteral raw) literals → ⊥) → IsAskedText raw (at run t) name literals asked first
-  pub lines_are : AreFrameTexts raw (at run f) frames lines
-  pub last_are : AreLastTexts raw (at run f) (named_at asked frames).latches last
+  pub first_is : (All (IsLatchLiteral raw) literals → ⊥) → IsAskedText form raw (at run t) name literals asked first
+  pub lines_are : AreFrameTexts form raw (at run f) frames lines
+  pub last_are : AreLastTexts form raw (at run f) (named_at asked frames).latches last
   pub text_is : text ≡ first ++ (lines ++ last)
 
 -- What is asked for: what a name means, or, where none is given, the bad state property of the run by its first name.
@@ -98,22 +100,23 @@ RefusesRun raw run property name span run_faults.Memory = Unit {0}
 RefusesRun raw run property name span _ = ⊥
 
 -- the text explains what is asked for, at the frame that is asked for
-pub record ExplainsRun (raw : Raw) (run : Run) (property : Option ℕ) (name : Option (List ℕ)) (span : Span)
-    (text : List ℕ) : Type 0 where
+pub record ExplainsRun (form : Form) (raw : Raw) (run : Run) (property : Option ℕ) (name : Option (List ℕ))
+    (span : Span) (text : List ℕ) : Type 0 where
   pub cells : IsWithinCells raw run
   pub shown : List ℕ
   pub literals : List ℕ
   pub question : IsQuestion raw name property shown literals
   pub t : ℕ
   pub frame : IsFrame span.frame (length run.rows) t
-  pub explanation : IsExplanation raw run shown literals t (least_frame span.depth t) text
+  pub explanation : IsExplanation form raw run shown literals t (least_frame span.depth t) text
 
 -- What `aig why` returns and writes for the run that is given with a circuit: the lines; or nothing, where that run is
 -- refused, or what is asked of it.
-abbrev pub WritesWhy : Given (List ℕ) → Option (List ℕ) → Span → Raw → Result (Unit {0}) RunFault → List ℕ → Type 0
-WritesWhy given name span raw (Ok done) written =
-    (run : ReadRun) × IsGiven raw given run × ExplainsRun raw (run_read run) run.property name span written
-WritesWhy given name span raw (Err fault) written =
+abbrev pub WritesWhy : Form → Given (List ℕ) → Option (List ℕ) → Span → Raw → Result (Unit {0}) RunFault → List ℕ
+    → Type 0
+WritesWhy form given name span raw (Ok done) written =
+    (run : ReadRun) × IsGiven raw given run × ExplainsRun form raw (run_read run) run.property name span written
+WritesWhy form given name span raw (Err fault) written =
     (RefusesGiven raw given fault
     ⊎ ((run : ReadRun) × IsGiven raw given run × RefusesRun raw (run_read run) run.property name span fault))
     × (written ≡ [])

@@ -18,7 +18,7 @@ use crate::question::Question;
 use crate::run::{Frames, Run};
 use aig_base::{Circuit, Io, Write, write_all};
 use aig_command::{Given, GivenRun, RunFault, WhyFault, read_circuit, read_given};
-use aig_signals::Naming;
+use aig_signals::{Form, Naming};
 use aig_sim::PlaneGrid;
 use std::alloc::Global;
 
@@ -52,11 +52,12 @@ impl Span {
 }
 
 /// What is asked of a run: why the literals that a name means are what they are, or without a name why its property is
-/// reached, and at which frames.
+/// reached, at which frames, and in which form.
 #[derive(Clone, Copy)]
 pub struct Asked<'a> {
     pub name: Option<&'a [u8]>,
     pub span: Span,
+    pub form: Form,
 }
 
 /// The lines that explain what is asked for in a run.
@@ -66,6 +67,7 @@ fn explain_run(
     naming: Naming,
     question: Option<&Question>,
     span: Span,
+    form: Form,
 ) -> Result<Vec<u8>, RunFault>
     requires cells { (run.now.bench.pair.circuit.max_var + 1) * length run.now.bench.pair.rows ≤ cell_limit }
     requires range { IfSome (option_copied question)
@@ -77,7 +79,7 @@ fn explain_run(
     requires of { (raw : Raw) × IsNamingOf raw run.now.bench.pair naming }
     ensures text { (raw : Raw) → IsNamingOf raw run.now.bench.pair naming → raw.latches ≡ run.now.latches.items →
         (property : Option ℕ) (name : Option (List ℕ)) → IsAskedAs raw name property (option_copied question.entry) →
-        IfOk result (λ text. ExplainsRun raw (run_of run.now.bench.pair) property name span text.items) }
+        IfOk result (λ text. ExplainsRun form raw (run_of run.now.bench.pair) property name span text.items) }
     ensures fault { (raw : Raw) → IsNamingOf raw run.now.bench.pair naming →
         (property : Option ℕ) (name : Option (List ℕ)) → IsAskedAs raw name property (option_copied question.entry) →
         IfErr result (RefusesRun raw (run_of run.now.bench.pair) property name span) }
@@ -88,7 +90,7 @@ fn explain_run(
     let Some(frames) = span.frames(run.bench.frames()) else {
         return Err(RunFault::Why(WhyFault::Frame));
     };
-    Ok(text_of(alloc, run, naming, question, frames)?)
+    Ok(text_of(alloc, run, naming, question, frames, form)?)
 }
 
 /// The lines that explain what is asked for in a run that was read with its circuit.
@@ -98,6 +100,7 @@ fn explain(
     given: GivenRun,
     question: Option<&Question>,
     span: Span,
+    form: Form,
 ) -> Result<Vec<u8>, RunFault>
     requires start { length given.start.items ≡ length circuit.latches }
     requires width { given.rows.width ≡ length circuit.inputs }
@@ -105,8 +108,8 @@ fn explain(
     requires defined { IfSome (option_copied question) (λ q. All (λ l. IsDefined circuit (variable l)) q.literals) }
     ensures text { (property : Option ℕ) (name : Option (List ℕ))
         → IsAskedAs circuit name property (option_copied question.entry) →
-        IfOk result (λ text. ExplainsRun circuit (record { start = given.start.items; rows = given.rows.rows }) property
-        name span text.items) }
+        IfOk result (λ text. ExplainsRun form circuit (record { start = given.start.items; rows = given.rows.rows })
+        property name span text.items) }
     ensures fault { (property : Option ℕ) (name : Option (List ℕ))
         → IsAskedAs circuit name property (option_copied question.entry) →
         IfErr result (RefusesRun circuit (record { start = given.start.items; rows = given.rows.rows }) property name
@@ -119,7 +122,7 @@ fn explain(
     } = given;
     let naming = Naming::new(alloc, &circuit)?;
     let run = Run::new(alloc, circuit, &start, rows)?;
-    explain_run(alloc, &run, naming, question, span)
+    explain_run(alloc, &run, naming, question, span, form)
 }
 
 /// The lines for the run that is given with a circuit.
@@ -129,14 +132,21 @@ fn explain_given(
     given: Given<&[u8]>,
     asked: Asked<'_>,
 ) -> Result<Vec<u8>, RunFault>
-    ensures text { IfOk result (λ text. WritesWhy (given_text given.entry) (option_copied asked.entry.name)
-        asked.entry.span circuit (Ok tt) text.items) }
-    ensures fault { IfErr result (λ fault. WritesWhy (given_text given.entry) (option_copied asked.entry.name)
-        asked.entry.span circuit (Err fault) []) }
+    ensures text { IfOk result (λ text. WritesWhy asked.entry.form (given_text given.entry)
+        (option_copied asked.entry.name) asked.entry.span circuit (Ok tt) text.items) }
+    ensures fault { IfErr result (λ fault. WritesWhy asked.entry.form (given_text given.entry)
+        (option_copied asked.entry.name) asked.entry.span circuit (Err fault) []) }
 {
     let given = read_given(alloc, &circuit, given)?;
     let question = Question::new(alloc, &circuit, asked.name, given.property)?;
-    explain(alloc, circuit, given, question.as_ref(), asked.span)
+    explain(
+        alloc,
+        circuit,
+        given,
+        question.as_ref(),
+        asked.span,
+        asked.form,
+    )
 }
 
 /// Writes what was explained.
@@ -151,8 +161,9 @@ fn write_text<W: Write>(text: &[u8], out: &mut W) -> Result<(), RunFault>
 }
 
 /// The command `why`: writes why the literals that a name means are what they are at a frame of the run that is given,
-/// in lines of which each is right by itself. Without a name it explains the property of the witness that is given,
-/// whatever the verdict on that; without a witness nothing is asked for then, and `WhyFault::Name` is the answer.
+/// in lines of which each is right by itself, as text or as JSON. Without a name it explains the property of the
+/// witness that is given, whatever the verdict on that; without a witness nothing is asked for then, and
+/// `WhyFault::Name` is the answer.
 pub fn why<W: Write>(
     alloc: Global,
     circuit: &[u8],
@@ -161,8 +172,8 @@ pub fn why<W: Write>(
     out: &mut W,
 ) -> Result<(), RunFault>
     ensures ends { CommandEnds (flow W.written W.failures out.old out.new) RunFault.Output
-        (OfFile circuit.now (WritesWhy (given_text given.entry) (option_copied asked.entry.name) asked.entry.span))
-        result }
+        (OfFile circuit.now (WritesWhy asked.entry.form (given_text given.entry) (option_copied asked.entry.name)
+        asked.entry.span)) result }
 {
     let circuit = read_circuit(alloc, circuit)?;
     let text = explain_given(alloc, circuit, given, asked)?;

@@ -14,18 +14,19 @@ use crate::question::Question;
 use crate::run::{Frames, Run};
 use aig_base::Memory;
 use aig_causes::Explanation;
-use aig_signals::Naming;
+use aig_signals::{Form, Naming};
 use aig_values::Grid;
 use std::alloc::Global;
 use writer::Writer;
 
-/// The lines that explain literals of a run at a frame, down to another one at most.
+/// The lines that explain literals of a run at a frame, down to another one at most, in a form.
 pub fn text_of<G: Grid>(
     alloc: Global,
     run: &Run<G>,
     naming: Naming,
     question: &Question,
     frames: Frames,
+    form: Form,
 ) -> Result<Vec<u8>, Memory>
     requires frame { frames.first < length run.now.bench.pair.rows }
     requires last { frames.last ≤ frames.first }
@@ -35,15 +36,15 @@ pub fn text_of<G: Grid>(
     requires none { NamesNothing run.now.bench.pair.circuit naming }
     requires of { (raw : Raw) × IsNamingOf raw run.now.bench.pair naming }
     ensures { (raw : Raw) → IsNamingOf raw run.now.bench.pair naming → raw.latches ≡ run.now.latches.items →
-        IfOk result (λ text. IsExplanation raw (run_of run.now.bench.pair) question.now.name question.now.literals
+        IfOk result (λ text. IsExplanation form raw (run_of run.now.bench.pair) question.now.name question.now.literals
         frames.first frames.last text.items) }
 {
     let bench = &run.bench;
     let literals = question.literals.as_slice();
     let mut explanation = Explanation::new(alloc, bench, frames.first, literals)?;
     let mut writer = Writer::new(alloc, naming);
-    writer.push_asked(alloc, bench, question, &explanation)?;
-    writer.push_frames(bench, &mut explanation, frames.last)?;
-    writer.push_last(alloc, bench, &run.latches, &explanation)?;
+    writer.push_asked(alloc, bench, question, &explanation, form)?;
+    writer.push_frames(bench, &mut explanation, frames.last, form)?;
+    writer.push_last(alloc, bench, &run.latches, &explanation, form)?;
     Ok(writer.into_text())
 }

@@ -4,7 +4,7 @@ ghost use Rattle.aig_program.specs.Chosen.{HoldsOptions, command_name};
 ghost use Rattle.aig_program.specs.ChosenFiles.{HoldsFiles};
 
 use crate::chosen::named_files::open_circuit;
-use crate::chosen::options::{format_of, frames_of, section_of};
+use crate::chosen::options::{form_of, format_of, frames_of, section_of};
 use crate::chosen::properties::open_circuit_and_properties;
 use crate::command::{
     Command, Info, InfoNames, Select, SelectNamed, Selection, Toaig, Unroll, UnrollAndMap,
@@ -71,7 +71,8 @@ pub fn open_info<'m, 't, R: Files + Clock + Eprint>(
 {
     let circuit = open_circuit(terminal, matches)?;
     if has_flag(matches, "names") {
-        Ok(Command::InfoNames(InfoNames { circuit }))
+        let form = form_of(matches);
+        Ok(Command::InfoNames(InfoNames { form, circuit }))
     } else {
         Ok(Command::Info(Info { circuit }))
     }

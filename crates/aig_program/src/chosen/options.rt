@@ -1,13 +1,14 @@
 //! The options of a command, as the parser found them.
 ghost use Rattle.std.specs.Prelude.{◌≡◌, IfOk, Some, codes};
 ghost use Rattle.aig_cli.specs.Held.{HoldsNumber};
-ghost use Rattle.aig_program.specs.Chosen.{HoldsFormat, HoldsSection, HoldsSpan, property_text};
+ghost use Rattle.aig_program.specs.Chosen.{HoldsForm, HoldsFormat, HoldsSection, HoldsSpan, property_text};
 ghost use Rattle.aig_program.specs.ChosenFiles.{HoldsKept};
 
 use aig_base::PropertySection;
-use aig_cli::{number_of, text_of};
+use aig_cli::{has_flag, number_of, text_of};
 use aig_files::{Exit, Kept};
 use aig_format::Format;
+use aig_signals::Form;
 use aig_why::Span;
 use clap::ArgMatches;
 
@@ -56,6 +57,17 @@ pub fn span_of(matches: &ArgMatches<'_>) -> Span
     Span {
         frame: number_of(matches, "T"),
         depth: number_of(matches, "D"),
+    }
+}
+
+/// Returns the form of the lines: JSON if it is asked for.
+pub fn form_of(matches: &ArgMatches<'_>) -> Form
+    ensures held { HoldsForm matches.now result }
+{
+    if has_flag(matches, "json") {
+        Form::Json
+    } else {
+        Form::Text
     }
 }
 

@@ -4,7 +4,7 @@ ghost use Rattle.aig_program.specs.Chosen.{HoldsOptions, command_name};
 ghost use Rattle.aig_program.specs.ChosenFiles.{HoldsFiles, HoldsGiven, HoldsSessionFiles};
 
 use crate::chosen::named_files::{open_circuit, open_named};
-use crate::chosen::options::{kept_of, span_of};
+use crate::chosen::options::{form_of, kept_of, span_of};
 use crate::command::{Bench, Command, Shell, Sim, Wave, WaveWitness, Why};
 use crate::given_file::is_witness;
 use aig_cli::{has_flag, text_of};
@@ -90,6 +90,7 @@ pub fn open_why<'m, 't, R: Files + Clock + Eprint>(
 {
     let name = text_of(matches, "of");
     let span = span_of(matches);
+    let form = form_of(matches);
     let circuit = open_circuit(terminal, matches)?;
     let given = open_given(terminal, matches)?;
     if name.is_none() && !is_witness(&given) {
@@ -98,6 +99,7 @@ pub fn open_why<'m, 't, R: Files + Clock + Eprint>(
     Ok(Command::Why(Why {
         name,
         span,
+        form,
         circuit,
         given,
     }))

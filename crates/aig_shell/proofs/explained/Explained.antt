@@ -19,6 +19,7 @@ use Rattle.aig_signals.specs.declared.text.Naming.{Naming}
 use Rattle.aig_signals.specs.declared.text.Origin.{Origin}
 use Rattle.aig_signals.specs.declared.text.Origin.TheVariants as origin
 use Rattle.aig_signals.specs.Text.{line, named_words}
+use Rattle.aig_signals.specs.declared.form.Form.TheVariants.{Text}
 use Rattle.aig_why.specs.Lines.{AreFrameTexts, AreLastTexts, AreLineTexts, IsOriginText, ShowsLine}
 use Rattle.aig_why.specs.Why.{IsExplanation, Run, at}
 use Rattle.aig_prompt.specs.Folded.{Folds, text_words}
@@ -60,27 +61,27 @@ line_ends : (head text : List ℕ) (n : Naming) → text ≡ line head n → End
 line_ends head text n is =
     subst EndsWell (append_assoc head (58 ∷ named_words n) (10 ∷ []) ∙ sym is) (ends_last (head ++ (58 ∷ named_words n)))
 
-origin_ends : (raw : Raw) (m : Moment) (o : Origin) (latches text : List ℕ) → IsOriginText raw m o latches text → EndsWell text
+origin_ends : (raw : Raw) (m : Moment) (o : Origin) (latches text : List ℕ) → IsOriginText Text raw m o latches text → EndsWell text
 origin_ends raw m o [] text is = subst EndsWell (sym is) tt
 origin_ends raw m o (p ∷ more) text (n, names, is) = line_ends _ text n is
 
-shown_ends : (kept : Bool) (raw : Raw) (m : Moment) (x : LineState) (text : List ℕ) → ShowsLine kept raw m x text → EndsWell text
+shown_ends : (kept : Bool) (raw : Raw) (m : Moment) (x : LineState) (text : List ℕ) → ShowsLine kept Text raw m x text → EndsWell text
 shown_ends true raw m x text is = subst EndsWell (sym is) tt
 shown_ends false raw m x text h = line_ends _ text h.right h.text_is
 
-lines_end : (raw : Raw) (m : Moment) (xs : List LineState) (text : List ℕ) → AreLineTexts raw m xs text → EndsWell text
+lines_end : (raw : Raw) (m : Moment) (xs : List LineState) (text : List ℕ) → AreLineTexts Text raw m xs text → EndsWell text
 unfolding AreLineTexts
 lines_end raw m [] text is = subst EndsWell (sym is) tt
 lines_end raw m (x ∷ xs) text (here, rest, shows, are, is) =
     subst EndsWell (sym is) (ends_joined here rest (shown_ends x.kept raw m x here shows) (lines_end raw m xs rest are))
 
-frames_end : (raw : Raw) (m : Moment) (frames : List (List LineState)) (text : List ℕ) → AreFrameTexts raw m frames text → EndsWell text
+frames_end : (raw : Raw) (m : Moment) (frames : List (List LineState)) (text : List ℕ) → AreFrameTexts Text raw m frames text → EndsWell text
 unfolding AreFrameTexts
 frames_end raw m [] text is = subst EndsWell (sym is) tt
 frames_end raw m (lines ∷ frames) text (above, here, are, shows, is) =
     subst EndsWell (sym is) (ends_joined above here (frames_end raw (next m) frames above are) (lines_end raw m lines here shows))
 
-last_ends : (raw : Raw) (m : Moment) (latches text : List ℕ) (frame : ℕ) → m.frame ≡ frame → AreLastTexts raw m latches text
+last_ends : (raw : Raw) (m : Moment) (latches text : List ℕ) (frame : ℕ) → m.frame ≡ frame → AreLastTexts Text raw m latches text
     → EndsWell text
 last_ends raw m latches text zero e h =
     let (reset, other, first, second, starts, others, is_first, is_second, is) = h.at_start e in
@@ -90,7 +91,7 @@ last_ends raw m latches text (suc frame) e h =
     origin_ends raw m (origin.NotExplained m.frame) latches text (h.unexplained (omega (arith, e)))
 
 pub explanation_ends : (raw : Raw) (run : Run) (name literals : List ℕ) (t least : ℕ) (text : List ℕ)
-    → IsExplanation raw run name literals t least text → EndsWell text
+    → IsExplanation Text raw run name literals t least text → EndsWell text
 explanation_ends raw run name literals t least text h =
     subst EndsWell (sym h.text_is) (ends_joined h.first (h.lines ++ h.last) first_ends
     (ends_joined h.lines h.last (frames_end raw (at run h.f) h.frames h.lines h.lines_are)
@@ -291,7 +292,7 @@ lines_added full rest old new n h most all = record {
 
 -- the lines of an explanation that are shown explain
 pub explains_lines : (raw : Raw) (run : Run) (name literals : List ℕ) (t last : ℕ) (full old middle new : List ℕ) (count : ℕ)
-    → IsExplanation raw run name literals t last full → old ≡ [] → AddsLines full old middle → count ≡ count_by (λ y. y == 10) full
+    → IsExplanation Text raw run name literals t last full → old ≡ [] → AddsLines full old middle → count ≡ count_by (λ y. y == 10) full
     → (last ≡ 0) ⊎ (41 < count) → new ≡ middle ++ more_text last (count - 40) → Explains raw run name literals t new
 explains_lines raw run name literals t last full old middle new count h empty adds is enough e = (
   last,

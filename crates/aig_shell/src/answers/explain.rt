@@ -14,7 +14,7 @@ use crate::refusal::Refusal;
 use crate::session::Session;
 use aig_base::{List, Memory};
 use aig_prompt::push_folded;
-use aig_signals::Naming;
+use aig_signals::{Form, Naming};
 use aig_why::{Frames, Question, text_of};
 
 /// The most lines of an explanation that are shown.
@@ -78,12 +78,18 @@ impl Session {
         requires last { frames.last ≤ frames.first }
         requires range { All (λ l. variable l ≤ self.now.run.bench.pair.circuit.max_var) question.now.literals }
         requires defined { All (λ l. IsDefined self.now.run.bench.pair.circuit (variable l)) question.now.literals }
-        ensures { IfOk result (λ text. IsExplanation (own_circuit self.now) (run_of self.now.run.bench.pair)
-            question.now.name
-            question.now.literals frames.first frames.last text.items) }
+        ensures { IfOk result (λ text. IsExplanation Form.Text (own_circuit self.now)
+            (run_of self.now.run.bench.pair) question.now.name question.now.literals frames.first frames.last text.items) }
     {
         let naming = Naming::new(self.alloc, self.circuit())?;
-        text_of(self.alloc, &self.run, naming, question, frames)
+        text_of(
+            self.alloc,
+            &self.run,
+            naming,
+            question,
+            frames,
+            Form::Text,
+        )
     }
 
     /// Adds the lines that explain a question at a frame. A run can have many more lines than are shown, and each takes

@@ -17,7 +17,7 @@ use crate::question::Question;
 use aig_base::{Latch, Memory};
 use aig_bench::Bench;
 use aig_causes::{Explanation, Line};
-use aig_signals::{Naming, Origin, SectionNaming, push_asked_head, push_latches_head, push_origin};
+use aig_signals::{Form, Naming, Origin, SectionNaming};
 use aig_values::Grid;
 use std::alloc::Global;
 
@@ -72,6 +72,7 @@ impl Writer {
         bench: &Bench<G>,
         question: &Question,
         explanation: &Explanation,
+        form: Form,
     ) -> Result<(), Memory>
         requires frame { explanation.now.frame < length bench.now.pair.rows }
         requires range { All (λ l. variable l ≤ bench.now.pair.circuit.max_var) question.now.literals }
@@ -80,7 +81,7 @@ impl Writer {
         requires none { NamesNothing bench.now.pair.circuit self.old.naming }
         ensures alone { OnOk result (IsTrue explanation.now.latches_alone → self.new.text.items ≡ self.old.text.items) }
         ensures text { (raw : Raw) → IsNamingOf raw bench.now.pair self.old.naming →
-            (IsTrue explanation.now.latches_alone → ⊥) → OnOk result (Adds (IsAskedText raw
+            (IsTrue explanation.now.latches_alone → ⊥) → OnOk result (Adds (IsAskedText form raw
             (moment bench.now.pair explanation.now.frame) question.now.name question.now.literals
             explanation.now.asked) self.old.text.items self.new.text.items) }
         ensures none { OnOk result (NamesNothing bench.now.pair.circuit self.new.naming) }
@@ -91,9 +92,9 @@ impl Writer {
         }
         let frame = explanation.frame();
         let values = values_of(alloc, bench, frame, question.literals.as_slice())?;
-        push_asked_head(&mut self.text, question.name.as_slice(), &values, frame)?;
+        form.push_asked(&mut self.text, question.name.as_slice(), &values, frame)?;
         name_causes(&mut self.naming, bench, frame, explanation.asked())?;
-        self.naming.end_line(&mut self.text)?;
+        form.end_line(&mut self.text, &mut self.naming)?;
         Ok(())
     }
 
@@ -104,6 +105,7 @@ impl Writer {
         number: usize,
         frame: u32,
         line: &Line,
+        form: Form,
     ) -> Result<(), Memory>
         requires number { number < length self.old.naming.latches.signals }
         requires some { 0 < frame }
@@ -114,7 +116,7 @@ impl Writer {
             Contains line.now.latches p → (signal.first ≤ p) × (p < signal.end) }
         requires none { NamesNothing bench.now.pair.circuit self.old.naming }
         ensures text { (raw : Raw) → IsNamingOf raw bench.now.pair self.old.naming →
-            OnOk result (Adds (AreLineTexts raw (moment bench.now.pair (frame - 1)) (line.now ∷ []))
+            OnOk result (Adds (AreLineTexts form raw (moment bench.now.pair (frame - 1)) (line.now ∷ []))
             self.old.text.items self.new.text.items) }
         ensures none { OnOk result (NamesNothing bench.now.pair.circuit self.new.naming) }
         ensures signals { OnOk result (HasSameSignals self.old.naming self.new.naming) }
@@ -123,10 +125,10 @@ impl Writer {
             return Ok(());
         }
         name_latches(&mut self.naming.latches, bench, frame, line.latches())?;
-        push_latches_head(&mut self.text, &self.naming.latches, number, frame)?;
+        form.push_latches(&mut self.text, &self.naming.latches, number, frame)?;
         self.naming.latches.clear();
         name_causes(&mut self.naming, bench, frame - 1, line.causes())?;
-        self.naming.end_line(&mut self.text)?;
+        form.end_line(&mut self.text, &mut self.naming)?;
         Ok(())
     }
 
@@ -136,6 +138,7 @@ impl Writer {
         bench: &Bench<G>,
         number: usize,
         explanation: &mut Explanation,
+        form: Form,
     ) -> Result<(), Memory>
         requires bench { IsOf bench.now.pair explanation.old }
         requires some { 0 < explanation.old.frame }
@@ -148,7 +151,7 @@ impl Writer {
             HasCome bench.now.pair literals explanation.old frames lines →
             OnOk result ((more : List LineState)
             × HasCome bench.now.pair literals explanation.new frames (lines ++ more)
-            × Adds (AreLineTexts raw (moment bench.now.pair (explanation.old.frame - 1)) more)
+            × Adds (AreLineTexts form raw (moment bench.now.pair (explanation.old.frame - 1)) more)
             self.old.text.items self.new.text.items) }
         ensures end { (signal : Signal) → slice_get self.old.naming.latches.signals number ≡ Some signal →
             OnOk result (explanation.new.end ≡ signal.end) }
@@ -161,7 +164,7 @@ impl Writer {
         let end = end_of(&self.naming.latches, number);
         let frame = explanation.frame();
         match explanation.line(bench, end)? {
-            Some(line) => self.push_line(bench, number, frame, &line),
+            Some(line) => self.push_line(bench, number, frame, &line, form),
             None => Ok(()),
         }
     }
@@ -171,6 +174,7 @@ impl Writer {
         &mut self,
         bench: &Bench<G>,
         explanation: &mut Explanation,
+        form: Form,
     ) -> Result<(), Memory>
         requires bench { IsOf bench.now.pair explanation.old }
         requires some { 0 < explanation.old.frame }
@@ -181,7 +185,7 @@ impl Writer {
             (literals : List ℕ) (frames : List (List LineState)) →
             HasCome bench.now.pair literals explanation.old frames [] →
             OnOk result ((lines : List LineState) × HasCome bench.now.pair literals explanation.new (lines ∷ frames) []
-            × Adds (AreLineTexts raw (moment bench.now.pair explanation.new.frame) lines)
+            × Adds (AreLineTexts form raw (moment bench.now.pair explanation.new.frame) lines)
             self.old.text.items self.new.text.items) }
         ensures frame { OnOk result (explanation.new.frame + 1 ≡ explanation.old.frame) }
         ensures asked { OnOk result (explanation.new.asked ≡ explanation.old.asked) }
@@ -191,7 +195,7 @@ impl Writer {
         ensures signals { OnOk result (HasSameSignals self.old.naming self.new.naming) }
     {
         for number in 0..self.naming.latches.signals().len() {
-            self.push_signal(bench, number, explanation)?;
+            self.push_signal(bench, number, explanation, form)?;
         }
         explanation.descend();
         Ok(())
@@ -203,6 +207,7 @@ impl Writer {
         bench: &Bench<G>,
         explanation: &mut Explanation,
         last: u32,
+        form: Form,
     ) -> Result<(), Memory>
         requires bench { IsOf bench.now.pair explanation.old }
         requires end { explanation.old.end ≡ 0 }
@@ -213,7 +218,7 @@ impl Writer {
             HasCome bench.now.pair literals explanation.old [] [] →
             OnOk result ((frames : List (List LineState)) × HasCome bench.now.pair literals explanation.new frames []
             × (explanation.new.frame + length frames ≡ explanation.old.frame)
-            × Adds (AreFrameTexts raw (moment bench.now.pair explanation.new.frame) frames)
+            × Adds (AreFrameTexts form raw (moment bench.now.pair explanation.new.frame) frames)
             self.old.text.items self.new.text.items) }
         ensures last { OnOk result (last ≤ explanation.new.frame) }
         ensures ends { OnOk result (last < explanation.new.frame → (p : ℕ) → IsNamed explanation.new.named p → ⊥) }
@@ -223,7 +228,7 @@ impl Writer {
         ensures signals { OnOk result (HasSameSignals self.old.naming self.new.naming) }
     {
         while goes_on(explanation, last) {
-            self.push_frame(bench, explanation)?;
+            self.push_frame(bench, explanation, form)?;
         }
         Ok(())
     }
@@ -235,12 +240,13 @@ impl Writer {
         frame: u32,
         origin: Origin,
         latches: &[u32],
+        form: Form,
     ) -> Result<(), Memory>
         requires frame { frame < length bench.now.pair.rows }
         requires latches { (p : ℕ) → Contains latches.now p → p < length bench.now.pair.circuit.latches }
         requires none { NamesNothing bench.now.pair.circuit self.old.naming }
         ensures text { (raw : Raw) → IsNamingOf raw bench.now.pair self.old.naming →
-            OnOk result (Adds (IsOriginText raw (moment bench.now.pair frame) origin latches.now)
+            OnOk result (Adds (IsOriginText form raw (moment bench.now.pair frame) origin latches.now)
             self.old.text.items self.new.text.items) }
         ensures none { OnOk result (NamesNothing bench.now.pair.circuit self.new.naming) }
         ensures signals { OnOk result (HasSameSignals self.old.naming self.new.naming) }
@@ -248,9 +254,9 @@ impl Writer {
         if latches.is_empty() {
             return Ok(());
         }
-        push_origin(&mut self.text, origin)?;
+        form.push_origin(&mut self.text, origin)?;
         name_latches(&mut self.naming.latches, bench, frame, latches)?;
-        self.naming.end_line(&mut self.text)?;
+        form.end_line(&mut self.text, &mut self.naming)?;
         Ok(())
     }
 
@@ -261,6 +267,7 @@ impl Writer {
         bench: &Bench<G>,
         resets: &[Latch],
         latches: &[u32],
+        form: Form,
     ) -> Result<(), Memory>
         requires frame { 0 < length bench.now.pair.rows }
         requires latches { (p : ℕ) → Contains latches.now p → p < length bench.now.pair.circuit.latches }
@@ -268,13 +275,13 @@ impl Writer {
         requires none { NamesNothing bench.now.pair.circuit self.old.naming }
         ensures { (raw : Raw) → IsNamingOf raw bench.now.pair self.old.naming → raw.latches ≡ resets.now →
             (named : List ℕ) → ((p : ℕ) → Contains latches.now p ↔ Contains named p) →
-            OnOk result (Adds (AreLastTexts raw (moment bench.now.pair 0) named)
+            OnOk result (Adds (AreLastTexts form raw (moment bench.now.pair 0) named)
             self.old.text.items self.new.text.items) }
     {
         let reset = latches_that_start(alloc, bench, resets, latches, true)?;
         let start = latches_that_start(alloc, bench, resets, latches, false)?;
-        self.push_open_latches(bench, 0, Origin::Reset, &reset)?;
-        self.push_open_latches(bench, 0, Origin::Start, &start)
+        self.push_open_latches(bench, 0, Origin::Reset, &reset, form)?;
+        self.push_open_latches(bench, 0, Origin::Start, &start, form)
     }
 
     /// Adds the last lines: what is named at the frame where the lines end.
@@ -284,6 +291,7 @@ impl Writer {
         bench: &Bench<G>,
         resets: &[Latch],
         explanation: &Explanation,
+        form: Form,
     ) -> Result<(), Memory>
         requires bench { IsOf bench.now.pair explanation.now }
         requires size { length resets.now ≡ length bench.now.pair.circuit.latches }
@@ -291,16 +299,16 @@ impl Writer {
         ensures { (raw : Raw) → IsNamingOf raw bench.now.pair self.old.naming → raw.latches ≡ resets.now →
             (literals : List ℕ) (frames : List (List LineState)) →
             HasCome bench.now.pair literals explanation.now frames [] →
-            OnOk result (Adds (AreLastTexts raw (moment bench.now.pair explanation.now.frame)
+            OnOk result (Adds (AreLastTexts form raw (moment bench.now.pair explanation.now.frame)
             (named_at explanation.now.asked frames).latches) self.old.text.items self.new.text.items) }
     {
         let frame = explanation.frame();
         let latches = explanation.latches(alloc, bench)?;
         if frame > 0 {
             let origin = Origin::NotExplained(frame);
-            self.push_open_latches(bench, frame, origin, &latches)
+            self.push_open_latches(bench, frame, origin, &latches, form)
         } else {
-            self.push_starts(alloc, bench, resets, &latches)
+            self.push_starts(alloc, bench, resets, &latches, form)
         }
     }
 }

@@ -7,5 +7,5 @@ use Rattle.aig_commands.proofs.entries.write_literals.Given as goal
 abbrev pub invariant-loop-position : goal.invariant-loop-position
 invariant-loop-position g l =
     Partly g.W.Write.written g.W.Write.failures l.initial.out l.out
-    (entry_lines decimal l.circuit.symbols l.kind 0 l.literals)
-    (entry_lines decimal l.circuit.symbols l.kind l.position (drop l.position l.literals))
+    (entry_lines l.form decimal l.circuit.symbols l.kind 0 l.literals)
+    (entry_lines l.form decimal l.circuit.symbols l.kind l.position (drop l.position l.literals))

@@ -1,5 +1,5 @@
 use Rattle.std.proofs.Common.{◌∙◌}
-use Rattle.aig_commands.specs.Names.{ListsNames}
+use Rattle.aig_commands.specs.Names.{ListsNamesAs}
 use Rattle.aig_command.specs.Command.{OfFile}
 use Rattle.aig_command.specs.declared.run_fault.RunFault.TheVariants as run_faults
 use Rattle.aig_program.specs.Ends.{Ends, end_of, seen}
@@ -14,8 +14,8 @@ returns g c =
     let left = g.F.Read.remaining in
     let k = c.new-circuit in
     record {
-      ends = of_left (left c.args.it.circuit) (λ file. Ends out run_faults.Output end_of (OfFile file ListsNames) c.streamed.result) (λ file is.
-          streamed_ends w f _ _ _ _ ListsNames file
+      ends = of_left (left c.args.it.circuit) (λ file. Ends out run_faults.Output end_of (OfFile file (ListsNamesAs c.args.it.form)) c.streamed.result) (λ file is.
+          streamed_ends w f _ _ _ _ (ListsNamesAs c.args.it.form) file
           (known_at_first left c.args.it.circuit k.result.first k.result.inner k.ensures.first k.ensures.inner ∙ is)
-          c.info_names-done.result c.streamed.result c.info_names-done.ensures.ends c.streamed.ensures.ends);
+          c.info_names_as-done.result c.streamed.result c.info_names_as-done.ensures.ends c.streamed.ensures.ends);
     }

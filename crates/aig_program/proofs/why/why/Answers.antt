@@ -23,11 +23,11 @@ returns g c =
           of_both (g.F.Read.remaining c.args.it.circuit) (given_left g.F.Read.remaining c.args.it.given) file run
           (slice_whole (g.F.Read.remaining c.args.it.circuit) _ _ c.as_slice-file.ensures.value c.in_ok-circuit.ensures.whole)
           (slice_whole (given_left g.F.Read.remaining c.args.it.given) _ _ c.text_of_given-run.ensures.text c.in_ok-given.ensures.whole)
-          (λ file run. Ends out run_faults.Output end_of (OfFile file (WritesWhy run (option_copied c.args.it.name) c.args.it.span)) c.ended.result)
-          (command_ends w f _ _ _ run_faults.Output (OfFile file (WritesWhy run (option_copied c.args.it.name) c.args.it.span))
+          (λ file run. Ends out run_faults.Output end_of (OfFile file (WritesWhy c.args.it.form run (option_copied c.args.it.name) c.args.it.span)) c.ended.result)
+          (command_ends w f _ _ _ run_faults.Output (OfFile file (WritesWhy c.args.it.form run (option_copied c.args.it.name) c.args.it.span))
           c.why-done.result c.ended.result
           (subst
-          (λ (name : Option (List ℕ)). CommandEnds (flow w f c.args.out.now c.why-done.new.out) run_faults.Output (OfFile file (WritesWhy run name c.args.it.span)) c.why-done.result)
+          (λ (name : Option (List ℕ)). CommandEnds (flow w f c.args.out.now c.why-done.new.out) run_faults.Output (OfFile file (WritesWhy c.args.it.form run name c.args.it.span)) c.why-done.result)
           c.bytes_of.ensures c.why-done.ensures.ends)
           c.ended.ensures.ends);
     }
@@ -41,7 +41,7 @@ returns-in_err-circuit g c =
     record {
       ends =
           of_any_two (g.F.Read.remaining c.args.it.circuit) (given_left g.F.Read.remaining c.args.it.given)
-          (λ file run. Ends out run_faults.Output end_of (OfFile file (WritesWhy run (option_copied c.args.it.name) c.args.it.span)) r.result)
+          (λ file run. Ends out run_faults.Output end_of (OfFile file (WritesWhy c.args.it.form run (option_copied c.args.it.name) c.args.it.span)) r.result)
           (λ file run. ends_unread (nothing w f c.args.out.now) r.result c.in_err-circuit.field-0.0 parts.Circuit c.in_err-circuit.ensures.fails r.ensures.1);
     }
 
@@ -54,6 +54,6 @@ returns-in_err-given g c =
     record {
       ends =
           of_any_two (g.F.Read.remaining c.args.it.circuit) (given_left g.F.Read.remaining c.args.it.given)
-          (λ file run. Ends out run_faults.Output end_of (OfFile file (WritesWhy run (option_copied c.args.it.name) c.args.it.span)) r.result)
+          (λ file run. Ends out run_faults.Output end_of (OfFile file (WritesWhy c.args.it.form run (option_copied c.args.it.name) c.args.it.span)) r.result)
           (λ file run. ends_unread (nothing w f c.args.out.now) r.result c.in_err-given.field-0.0 (given_part c.args.it.given) c.in_err-given.ensures.fails r.ensures.1);
     }

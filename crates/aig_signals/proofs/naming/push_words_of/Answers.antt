@@ -1,12 +1,12 @@
 use Rattle.std.proofs.Common.{List, ℕ, [], ◌∷◌, ◌++◌, get_or, refl, sym, ap, ◌∙◌, arith, append_assoc}
 use Rattle.std.proofs.lemmas.List.Elements.{Contains-get_or}
-use Rattle.aig_signals.specs.Naming.{signal_word}
+use Rattle.aig_signals.specs.Naming.{section_words, signal_word}
 use Rattle.aig_signals.proofs.NamingLemmas.{number_within, signal_within, words_start, words_skipped, words_written}
 use Rattle.aig_signals.proofs.NamingLemmas.{words_done}
 use Rattle.aig_signals.proofs.naming.push_words_of.Goals as goal
 
 pub loop-place-init : goal.loop-place-init
-loop-place-init c = words_start c.args.signals.now c.args.values.now c.args.named.now c.args.text.now.items
+loop-place-init c = words_start (λ s. 32 ∷ signal_word c.args.values.now s) c.args.signals.now c.args.values.now c.args.named.now c.args.text.now.items
 
 pub signal_at-requires : goal.signal_at-requires
 signal_at-requires c =
@@ -24,6 +24,7 @@ push_signal_word-requires-clause-end c =
 pub loop-place-preserved-then-is_repeated : goal.loop-place-preserved-then-is_repeated
 loop-place-preserved-then-is_repeated c =
     words_skipped c.args.signals.now c.args.values.now c.args.named.now c.requires.neighbours c.requires.named c.requires.sorted
+    (λ s. 32 ∷ signal_word c.args.values.now s)
     c.args.text.now.items c.loop-place.place c.loop-place.text.items c.loop-place.invariant
     (sym c.is_repeated.ensures ∙ c.if-is_repeated.true)
 
@@ -32,6 +33,7 @@ loop-place-preserved c =
     let s = c.signal_at.result.now in
     let word = signal_word c.args.values.now s in
     words_written c.args.signals.now c.args.values.now c.args.named.now c.requires.neighbours c.requires.named c.requires.sorted
+    (λ s. 32 ∷ signal_word c.args.values.now s)
     c.args.text.now.items c.loop-place.place c.loop-place.text.items c.loop-place.invariant s
     (get_or c.args.named.now c.loop-place.place 0) _ c.loop-place-test.true refl (sym c.is_repeated.ensures ∙ c.if-is_repeated.false)
     c.signal_at.ensures
@@ -39,7 +41,9 @@ loop-place-preserved c =
     ∙ append_assoc c.loop-place.text.items (32 ∷ []) word)
 
 pub returns : goal.returns
+unfolding section_words
 returns c =
     words_done c.args.signals.now c.args.values.now c.args.named.now c.requires.neighbours c.requires.named c.requires.sorted
+    (λ s. 32 ∷ signal_word c.args.values.now s)
     c.args.text.now.items c.loop-place.place c.loop-place.text.items c.loop-place.invariant
     (omega (arith, c.loop-place-test.false, c.loop-place.auto.place-end))

@@ -18,7 +18,7 @@ returns-clause-text c = λ property name asked.
     let raw = c.args.circuit in
     let of : IsNamingOf raw c.in_ok-run.run'.bench.pair c.in_ok-naming.naming = record { resets = c.in_ok-run.ensures.resets; inputs = c.in_ok-naming.ensures.inputs; latches = c.in_ok-naming.ensures.latches } in
     IfOk-weaker c.explain_run.result _ _
-    (λ text h. subst (λ (run : Run). ExplainsRun raw run property name c.args.span text.items)
+    (λ text h. subst (λ (run : Run). ExplainsRun c.args.form raw run property name c.args.span text.items)
     (run_is c.in_ok-run.run'.bench.pair c.args.given.start.items c.args.given.rows.rows (c.in_ok-run.ensures.start ∙ c.deref.ensures.value) c.in_ok-run.ensures.rows) h)
     (c.explain_run.ensures.text raw of (sym c.in_ok-run.ensures.latches) property name asked)
 

@@ -52,11 +52,11 @@ returns-clause-fault c =
 pub returns-in_err-given-clause-fault : goal.returns-in_err-given-clause-fault
 returns-in_err-given-clause-fault c =
     known_err c.from_residual.result c.in_err-given.field-0.0
-    (λ (f : RunFault). WritesWhy (given_text c.args.given) (option_copied c.args.asked.name) c.args.asked.span c.args.circuit (Err f) [])
+    (λ (f : RunFault). WritesWhy c.args.asked.form (given_text c.args.given) (option_copied c.args.asked.name) c.args.asked.span c.args.circuit (Err f) [])
     c.from_residual.ensures.1 (inl c.in_err-given.ensures.fault, refl)
 
 pub returns-in_err-question-clause-fault : goal.returns-in_err-question-clause-fault
 returns-in_err-question-clause-fault c =
     known_err c.from_residual-in_err-question.result run_faults.Memory
-    (λ (f : RunFault). WritesWhy (given_text c.args.given) (option_copied c.args.asked.name) c.args.asked.span c.args.circuit (Err f) [])
+    (λ (f : RunFault). WritesWhy c.args.asked.form (given_text c.args.given) (option_copied c.args.asked.name) c.args.asked.span c.args.circuit (Err f) [])
     c.from_residual-in_err-question.ensures.1 (inr (read_run c.in_ok-given.given, c.in_ok-given.ensures.run, tt), refl)

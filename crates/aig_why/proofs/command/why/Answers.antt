@@ -15,12 +15,12 @@ pub returns : goal.returns
 returns g c =
     record {
       ends =
-          ends_of_file (WritesWhy (given_text c.args.given) (option_copied c.args.asked.name) c.args.asked.span) c.in_ok-circuit.circuit
-          (why_no_circuit c.in_ok-circuit.circuit (given_text c.args.given) (option_copied c.args.asked.name) c.args.asked.span)
+          ends_of_file (WritesWhy c.args.asked.form (given_text c.args.given) (option_copied c.args.asked.name) c.args.asked.span) c.in_ok-circuit.circuit
+          (why_no_circuit c.args.asked.form c.in_ok-circuit.circuit (given_text c.args.given) (option_copied c.args.asked.name) c.args.asked.span)
           (flow g.W.Write.written g.W.Write.failures c.args.out.now c.write_text.new.out) run_faults.Output c.args.circuit.now
           c.in_ok-circuit.ensures.circuit c.write_text.result
           (output_ends g.W.Write.written g.W.Write.failures c.args.out.now c.write_text.new.out
-          (WritesWhy (given_text c.args.given) (option_copied c.args.asked.name) c.args.asked.span c.in_ok-circuit.circuit) c.in_ok-text.text.items c.write_text.result
+          (WritesWhy c.args.asked.form (given_text c.args.given) (option_copied c.args.asked.name) c.args.asked.span c.in_ok-circuit.circuit) c.in_ok-text.text.items c.write_text.result
           (subst (λ (bytes : List ℕ). Writes g.W.Write.written g.W.Write.failures c.args.out.now c.write_text.new.out bytes c.write_text.result)
           c.deref.ensures.value c.write_text.ensures.written)
           c.write_text.ensures.output c.in_ok-text.ensures.text);
@@ -32,10 +32,10 @@ returns-in_err-circuit g c =
       ends =
           answered c.from_residual.result (run_faults.Circuit c.in_err-circuit.field-0.0)
           (CommandEnds (flow g.W.Write.written g.W.Write.failures c.args.out.now c.args.out.now) run_faults.Output
-          (OfFile c.args.circuit.now (WritesWhy (given_text c.args.given) (option_copied c.args.asked.name) c.args.asked.span)))
+          (OfFile c.args.circuit.now (WritesWhy c.args.asked.form (given_text c.args.given) (option_copied c.args.asked.name) c.args.asked.span)))
           c.from_residual.ensures.1
           (file_refused g.W.Write.written g.W.Write.failures c.args.out.now run_faults.Output
-          (WritesWhy (given_text c.args.given) (option_copied c.args.asked.name) c.args.asked.span) c.args.circuit.now c.in_err-circuit.field-0.0 c.in_err-circuit.ensures.fault);
+          (WritesWhy c.args.asked.form (given_text c.args.given) (option_copied c.args.asked.name) c.args.asked.span) c.args.circuit.now c.in_err-circuit.field-0.0 c.in_err-circuit.ensures.fault);
     }
 
 pub returns-in_err-text : goal.returns-in_err-text
@@ -44,10 +44,10 @@ returns-in_err-text g c =
       ends =
           answered c.from_residual-in_err-text.result c.in_err-text.field-0.0
           (CommandEnds (flow g.W.Write.written g.W.Write.failures c.args.out.now c.args.out.now) run_faults.Output
-          (OfFile c.args.circuit.now (WritesWhy (given_text c.args.given) (option_copied c.args.asked.name) c.args.asked.span)))
+          (OfFile c.args.circuit.now (WritesWhy c.args.asked.form (given_text c.args.given) (option_copied c.args.asked.name) c.args.asked.span)))
           c.from_residual-in_err-text.ensures.1
-          (ends_of_file (WritesWhy (given_text c.args.given) (option_copied c.args.asked.name) c.args.asked.span) c.in_ok-circuit.circuit
-          (why_no_circuit c.in_ok-circuit.circuit (given_text c.args.given) (option_copied c.args.asked.name) c.args.asked.span)
+          (ends_of_file (WritesWhy c.args.asked.form (given_text c.args.given) (option_copied c.args.asked.name) c.args.asked.span) c.in_ok-circuit.circuit
+          (why_no_circuit c.args.asked.form c.in_ok-circuit.circuit (given_text c.args.given) (option_copied c.args.asked.name) c.args.asked.span)
           (flow g.W.Write.written g.W.Write.failures c.args.out.now c.args.out.now) run_faults.Output c.args.circuit.now
           c.in_ok-circuit.ensures.circuit (Err c.in_err-text.field-0.0)
           (CommandEnds.writes_all [] c.in_err-text.ensures.fault (got_none g.W.Write.written g.W.Write.failures c.args.out.now)));

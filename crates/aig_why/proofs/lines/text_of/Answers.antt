@@ -53,19 +53,19 @@ returns g c = λ raw of latches.
     let (frames, come, down, adds) =
     c.in_ok-push_frames.ensures.come raw at_asked literals
     (subst (λ (ls : List ℕ). HasCome p ls begun [] []) c.as_slice-literals.ensures c.in_ok-explanation.ensures.come) in
-    let line : FirstLine raw (moment p t) name literals begun.asked first =
-    first_line raw p (moment p t) name literals begun.asked begun.latches_alone first of.resets
+    let line : FirstLine c.args.form raw (moment p t) name literals begun.asked first =
+    first_line c.args.form raw p (moment p t) name literals begun.asked begun.latches_alone first of.resets
     (subst (λ (ls : List ℕ). IsTrue begun.latches_alone ↔ All (IsLatchLiteral p.circuit) ls) c.as_slice-literals.ensures
     c.in_ok-explanation.ensures.alone)
     (λ alone. c.in_ok-push_asked.ensures.alone alone ∙ c.new-writer.ensures.text)
-    (λ other. subst (λ (f : ℕ). Adds (IsAskedText raw (moment p f) name literals begun.asked) [] first)
+    (λ other. subst (λ (f : ℕ). Adds (IsAskedText c.args.form raw (moment p f) name literals begun.asked) [] first)
     c.in_ok-explanation.ensures.frame
-    (subst (λ (old : List ℕ). Adds (IsAskedText raw (moment p begun.frame) name literals begun.asked) old first)
+    (subst (λ (old : List ℕ). Adds (IsAskedText c.args.form raw (moment p begun.frame) name literals begun.asked) old first)
     c.new-writer.ensures.text (c.in_ok-push_asked.ensures.text raw at_first other))) in
-    let whole : IsExplanation raw (run_of p) name literals t c.args.frames.last text =
-    explanation raw p e name literals t c.args.frames.last frames first middle text of.resets come
+    let whole : IsExplanation c.args.form raw (run_of p) name literals t c.args.frames.last text =
+    explanation c.args.form raw p e name literals t c.args.frames.last frames first middle text of.resets come
     (down ∙ c.in_ok-explanation.ensures.frame) c.in_ok-push_frames.ensures.last c.in_ok-push_frames.ensures.ends
-    (subst (λ (s : Sources). FirstLine raw (moment p t) name literals s first) (sym c.in_ok-push_frames.ensures.asked) line) adds
+    (subst (λ (s : Sources). FirstLine c.args.form raw (moment p t) name literals s first) (sym c.in_ok-push_frames.ensures.asked) line) adds
     (c.in_ok-push_last.ensures raw at_last (latches ∙ sym c.deref.ensures.value) literals frames come) in
-    subst (λ (lines : Vec ℕ). IsExplanation raw (run_of p) name literals t c.args.frames.last lines.items)
+    subst (λ (lines : Vec ℕ). IsExplanation c.args.form raw (run_of p) name literals t c.args.frames.last lines.items)
     (sym c.into_text.ensures) whole

@@ -23,7 +23,7 @@ loop-number-init g c =
       rest = subst (λ (a : ℕ). AreNeighbours a n.latches.signals (length p.circuit.latches)) (sym c.requires.end)
           (latch_neighbours file p n of);
       come = λ raw is literals frames h.
-          ([], h, no_lines raw (moment p (c.args.explanation.now.frame - 1)) c.args.self.now.text.items);
+          ([], h, no_lines c.args.form raw (moment p (c.args.explanation.now.frame - 1)) c.args.self.now.text.items);
     }
 
 pub push_signal-requires-clause-signal : goal.push_signal-requires-clause-signal
@@ -66,9 +66,9 @@ loop-number-preserved g c =
           now.come raw (naming_with raw p c.args.self.now.naming c.loop-number.self.naming of was.same) literals frames lines come in (
             lines ++ more,
             come_more,
-            lines_more raw (moment p (c.args.explanation.now.frame - 1)) lines more c.args.self.now.text.items
+            lines_more c.args.form raw (moment p (c.args.explanation.now.frame - 1)) lines more c.args.self.now.text.items
                 c.loop-number.self.text.items c.push_signal.new.self.text.items adds
-                (subst (λ (f : ℕ). Adds (AreLineTexts raw (moment p (f - 1)) more) c.loop-number.self.text.items
+                (subst (λ (f : ℕ). Adds (AreLineTexts c.args.form raw (moment p (f - 1)) more) c.loop-number.self.text.items
                 c.push_signal.new.self.text.items) was.frame adds_more),
           );
     }
@@ -92,5 +92,5 @@ returns-clause-come g c = λ raw of literals frames h.
     omega (arith, c.descend.ensures.frame, was.frame) in (
       lines,
       c.descend.ensures.come p literals frames lines come was.bench,
-      subst (λ (f : ℕ). Adds (AreLineTexts raw (moment p f) lines) c.args.self.now.text.items c.loop-number.self.text.items) below adds,
+      subst (λ (f : ℕ). Adds (AreLineTexts c.args.form raw (moment p f) lines) c.args.self.now.text.items c.loop-number.self.text.items) below adds,
     )

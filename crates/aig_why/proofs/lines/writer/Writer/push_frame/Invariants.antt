@@ -19,6 +19,6 @@ invariant-loop-number g l = record {
   come : (raw : Raw) → IsNamingOf raw l.bench.pair l.initial.self.naming → (literals : List ℕ) (frames : List (List LineState))
       → HasCome l.bench.pair literals l.initial.explanation frames []
       → (lines : List LineState) × HasCome l.bench.pair literals l.explanation frames lines
-      × Adds (AreLineTexts raw (moment l.bench.pair (l.initial.explanation.frame - 1)) lines) l.initial.self.text.items
+      × Adds (AreLineTexts l.form raw (moment l.bench.pair (l.initial.explanation.frame - 1)) lines) l.initial.self.text.items
       l.self.text.items;
 }

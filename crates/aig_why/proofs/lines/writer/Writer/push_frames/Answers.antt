@@ -17,7 +17,7 @@ loop-self-init g c = record {
     [],
     h,
     omega arith,
-    no_frames raw (moment c.args.bench.now.pair c.args.explanation.now.frame) c.args.self.now.text.items,
+    no_frames c.args.form raw (moment c.args.bench.now.pair c.args.explanation.now.frame) c.args.self.now.text.items,
   );
 }
 
@@ -52,7 +52,7 @@ loop-self-preserved g c =
             lines ∷ frames,
             come_more,
             omega (arith, count, now.frame),
-            frame_added raw p c.loop-self.explanation.frame c.push_frame.new.explanation.frame lines frames c.args.self.now.text.items
+            frame_added c.args.form raw p c.loop-self.explanation.frame c.push_frame.new.explanation.frame lines frames c.args.self.now.text.items
                 c.loop-self.self.text.items c.push_frame.new.self.text.items now.frame adds adds_more,
           );
     }

@@ -19,7 +19,7 @@ invariant-loop-self g l = record {
       → HasCome l.bench.pair literals l.initial.explanation [] []
       → (frames : List (List LineState)) × HasCome l.bench.pair literals l.explanation frames []
       × (l.explanation.frame + length frames ≡ l.initial.explanation.frame)
-      × Adds (AreFrameTexts raw (moment l.bench.pair l.explanation.frame) frames) l.initial.self.text.items l.self.text.items;
+      × Adds (AreFrameTexts l.form raw (moment l.bench.pair l.explanation.frame) frames) l.initial.self.text.items l.self.text.items;
 }
 
 abbrev pub decreases-loop-self : goal.decreases-loop-self

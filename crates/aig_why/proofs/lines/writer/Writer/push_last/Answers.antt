@@ -29,10 +29,10 @@ returns-then-frame-gt0 g c = λ raw of resets_are literals frames come.
     let new = c.push_open_latches.new.self.text.items in
     let same = named_latches e.named latches named c.in_ok-latches.ensures come.named in
     on_ok_weaker c.push_open_latches.result
-    (λ (adds : Adds (IsOriginText raw (moment p f) (origin.NotExplained f) c.deref.result.now) old new).
-    subst (λ (n : ℕ). Adds (AreLastTexts raw (moment p n) named) old new) c.frame-frame.ensures
-    (last_open raw p f latches named old new c.if-frame-gt0.true same
-    (subst (λ (ps : List ℕ). Adds (IsOriginText raw (moment p f) (origin.NotExplained f) ps) old new) c.deref.ensures.value adds)))
+    (λ (adds : Adds (IsOriginText c.args.form raw (moment p f) (origin.NotExplained f) c.deref.result.now) old new).
+    subst (λ (n : ℕ). Adds (AreLastTexts c.args.form raw (moment p n) named) old new) c.frame-frame.ensures
+    (last_open c.args.form raw p f latches named old new c.if-frame-gt0.true same
+    (subst (λ (ps : List ℕ). Adds (IsOriginText c.args.form raw (moment p f) (origin.NotExplained f) ps) old new) c.deref.ensures.value adds)))
     (c.push_open_latches.ensures.text raw of)
 
 pub returns : goal.returns
@@ -46,7 +46,7 @@ returns g c = λ raw of resets_are literals frames come.
     let same = named_latches e.named latches named c.in_ok-latches.ensures come.named in
     let at_0 : 0 ≡ e.frame = omega (arith, c.if-frame-gt0.false, c.frame-frame.ensures) in
     on_ok_weaker c.push_starts.result
-    (λ (adds : Adds (AreLastTexts raw (moment p 0) named) old new).
-    subst (λ (n : ℕ). Adds (AreLastTexts raw (moment p n) named) old new) at_0 adds)
+    (λ (adds : Adds (AreLastTexts c.args.form raw (moment p 0) named) old new).
+    subst (λ (n : ℕ). Adds (AreLastTexts c.args.form raw (moment p n) named) old new) at_0 adds)
     (c.push_starts.ensures raw of resets_are named
     (subst (λ (ps : List ℕ). (q : ℕ) → Contains ps q ↔ Contains named q) (sym c.deref-else-frame-gt0.ensures.value) same))

@@ -10,7 +10,7 @@ returns-clause-text g c = λ raw of.
     let p = c.args.bench.now.pair in
     let before = c.args.self.now.naming in
     let n : Naming = record { inputs = before.inputs; latches = c.name_latches.new.naming } in
-    origin_text raw p (moment p c.args.frame) c.args.origin c.args.latches.now before n c.args.self.now.text.items
+    origin_text c.args.form raw p (moment p c.args.frame) c.args.origin c.args.latches.now before n c.args.self.now.text.items
     c.push_origin.new.text.items c.end_line.new.text.items (λ none. false≢true
     (sym c.if-is_empty.false ∙ c.is_empty.ensures ∙ ap (λ (ps : List ℕ). eqb (length ps) 0) none)) of
     (record { inputs = refl; latches = c.in_ok-name_latches.ensures.signals })

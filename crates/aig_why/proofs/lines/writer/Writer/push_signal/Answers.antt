@@ -47,10 +47,10 @@ returns-in-Some-clause-come g c = λ raw of literals frames lines h.
     let come = subst (λ (o : Option LineState). HasCome p literals c.line.new.self frames (lines ++ option_to_list o)) c.in-Some.is
     (c.in_ok-line.ensures.come literals frames lines h) in
     on_ok_weaker c.push_line.result
-    (λ (adds : Adds (AreLineTexts raw (moment p (c.frame-frame.result - 1)) (line ∷ [])) old new). (
+    (λ (adds : Adds (AreLineTexts c.args.form raw (moment p (c.frame-frame.result - 1)) (line ∷ [])) old new). (
       line ∷ [],
       come,
-      subst (λ (f : ℕ). Adds (AreLineTexts raw (moment p (f - 1)) (line ∷ [])) old new) c.frame-frame.ensures adds,
+      subst (λ (f : ℕ). Adds (AreLineTexts c.args.form raw (moment p (f - 1)) (line ∷ [])) old new) c.frame-frame.ensures adds,
     ))
     (c.push_line.ensures.text raw of)
 
@@ -60,5 +60,5 @@ returns-in-None-clause-come g c = λ raw of literals frames lines h.
       [],
       subst (λ (o : Option LineState). HasCome p literals c.line.new.self frames (lines ++ option_to_list o)) c.in-None.is
           (c.in_ok-line.ensures.come literals frames lines h),
-      no_lines raw (moment p (c.args.explanation.now.frame - 1)) c.args.self.now.text.items,
+      no_lines c.args.form raw (moment p (c.args.explanation.now.frame - 1)) c.args.self.now.text.items,
     )

@@ -26,10 +26,10 @@ returns g c = λ raw of resets_are named same.
     let new = c.push_open_latches-2.new.self.text.items in
     let before = naming_with raw p c.args.self.now.naming c.push_open_latches.new.self.naming of c.in_ok-push_open_latches.ensures.signals in
     on_ok_weaker c.push_open_latches-2.result
-    (λ (adds : Adds (IsOriginText raw (moment p 0) origin.Start c.deref-2.result.now) middle new).
-    last_at_start raw p of.resets c.args.resets.now resets_are c.args.latches.now named same reset start old middle new
+    (λ (adds : Adds (IsOriginText c.args.form raw (moment p 0) origin.Start c.deref-2.result.now) middle new).
+    last_at_start raw p of.resets c.args.resets.now resets_are c.args.latches.now named same c.args.form reset start old middle new
     c.in_ok-reset.ensures c.in_ok-start.ensures
-    (subst (λ (ps : List ℕ). Adds (IsOriginText raw (moment p 0) origin.Reset ps) old middle) c.deref.ensures.value
+    (subst (λ (ps : List ℕ). Adds (IsOriginText c.args.form raw (moment p 0) origin.Reset ps) old middle) c.deref.ensures.value
     (c.in_ok-push_open_latches.ensures.text raw of))
-    (subst (λ (ps : List ℕ). Adds (IsOriginText raw (moment p 0) origin.Start ps) middle new) c.deref-2.ensures.value adds))
+    (subst (λ (ps : List ℕ). Adds (IsOriginText c.args.form raw (moment p 0) origin.Start ps) middle new) c.deref-2.ensures.value adds))
     (c.push_open_latches-2.ensures.text raw before)

@@ -1,6 +1,6 @@
 use Rattle.std.proofs.Common.{ℕ, [], ◌∷◌, ap}
 use Rattle.aig_bytes.proofs.WriteLemmas.{writes_then, writes_stop, writes_same}
-use Rattle.aig_commands.proofs.entries.write_place.Goals as goal
+use Rattle.aig_commands.proofs.entries.write_text_place.Goals as goal
 
 pub returns-in_err-write_all : goal.returns-in_err-write_all
 returns-in_err-write_all g c =

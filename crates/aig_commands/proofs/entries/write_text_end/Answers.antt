@@ -1,5 +1,5 @@
 use Rattle.aig_bytes.proofs.WriteLemmas.{writes_then, writes_stop}
-use Rattle.aig_commands.proofs.entries.write_end.Goals as goal
+use Rattle.aig_commands.proofs.entries.write_text_end.Goals as goal
 
 pub returns-in_err-write_all : goal.returns-in_err-write_all
 returns-in_err-write_all g c = writes_stop _ c.in_err-write_all.ensures c.from_residual.ensures.0

@@ -1,0 +1,90 @@
+-- Strings and arrays of JSON, piece by piece.
+use Rattle.std.proofs.Common.{◌≡◌, ℕ, zero, suc, ◌+◌, ◌<◌, ◌≤◌, Bool, true, false, List, [], ◌∷◌, ◌++◌, length, get_or}
+use Rattle.std.proofs.Common.{set, take, drop, refl, sym, ap, ◌∙◌, arith, append_assoc, append-nil}
+use Rattle.std.specs.Prelude.{flat_map, ◌==◌, ◌||◌, ◌/◌, ◌%◌, nat_lt}
+use Rattle.std.proofs.lemmas.Grind.{flat_map-append}
+use Rattle.std.proofs.lemmas.List.{flat_map_more, take_more, take_all, drop_all}
+use Rattle.aig_signals.specs.Json.{array_text, comma_before, string_byte}
+use Rattle.aig_signals.specs.Value.{hexadecimal_digit}
+use Rattle.aig_signals.specs.state.Json.{opened}
+
+-- one byte more of a string
+pub bytes_more : (f : ℕ → List ℕ) (start before now bytes : List ℕ) (i : ℕ) → i < length bytes → now ≡ before ++ f (get_or bytes i 0)
+    → before ≡ start ++ flat_map f (take i bytes) → now ≡ start ++ flat_map f (take (i + 1) bytes)
+bytes_more f start before now bytes i lt pushed h =
+    pushed ∙ ap (λ (xs : List ℕ). xs ++ f (get_or bytes i 0)) h
+    ∙ flat_map_more f start (take i bytes) (get_or bytes i 0)
+    ∙ ap (λ (xs : List ℕ). start ++ flat_map f xs) (sym (take_more bytes i 0 lt))
+
+pub bytes_none : (f : ℕ → List ℕ) (start bytes : List ℕ) → start ≡ start ++ flat_map f (take 0 bytes)
+bytes_none f start bytes = sym (append-nil start)
+
+-- all bytes between quotes
+pub string_whole : (f : ℕ → List ℕ) (old before new bytes : List ℕ) (i : ℕ) → length bytes ≤ i
+    → before ≡ (old ++ 34 ∷ []) ++ flat_map f (take i bytes) → new ≡ before ++ 34 ∷ []
+    → new ≡ old ++ (34 ∷ (flat_map f bytes ++ 34 ∷ []))
+string_whole f old before new bytes i le h pushed =
+    pushed
+    ∙ ap (λ (xs : List ℕ). xs ++ 34 ∷ []) (h ∙ ap (λ (ys : List ℕ). (old ++ 34 ∷ []) ++ flat_map f ys) (take_all i bytes le))
+    ∙ append_assoc (old ++ 34 ∷ []) (flat_map f bytes) (34 ∷ []) ∙ append_assoc old (34 ∷ []) (flat_map f bytes ++ 34 ∷ [])
+
+-- the first comma becomes the bracket
+pub opened_none : (text : List ℕ) (n : ℕ) → length text ≡ n → text ++ 91 ∷ [] ≡ take n text ++ opened (drop n text)
+opened_none text n is =
+    ap (λ (xs : List ℕ). xs ++ 91 ∷ []) (sym (take_all n text (omega (arith, is))))
+    ∙ ap (λ (xs : List ℕ). take n text ++ opened xs) (sym (drop_all n text (omega (arith, is))))
+
+pub opened_some : (text : List ℕ) (n : ℕ) → n < length text → set text n 91 ≡ take n text ++ opened (drop n text)
+opened_some [] n lt = absurd (omega (arith, lt))
+opened_some (byte ∷ text) zero lt = refl
+opened_some (byte ∷ text) (suc n) lt = ap (λ (xs : List ℕ). byte ∷ xs) (opened_some text n (omega (arith, lt)))
+
+-- an array, from its elements each after a comma
+array_opened : (xs : List (List ℕ)) → opened (flat_map comma_before xs) ++ 93 ∷ [] ≡ array_text xs
+array_opened [] = refl
+array_opened (x ∷ xs) = ap (λ (ys : List ℕ). 91 ∷ ys) (append_assoc x (flat_map comma_before xs) (93 ∷ []))
+
+take_front : (xs ys : List ℕ) → take (length xs) (xs ++ ys) ≡ xs
+take_front [] ys = refl
+take_front (x ∷ xs) ys = ap (λ (zs : List ℕ). x ∷ zs) (take_front xs ys)
+
+drop_front : (xs ys : List ℕ) → drop (length xs) (xs ++ ys) ≡ ys
+drop_front [] ys = refl
+drop_front (x ∷ xs) ys = drop_front xs ys
+
+-- the whole array, of two lists of elements, and what comes after it
+pub array_whole : (old first second third new : List ℕ) (n : ℕ) (xs ys : List (List ℕ)) (rest : List ℕ) → n ≡ length old
+    → first ≡ old ++ flat_map comma_before xs → second ≡ first ++ flat_map comma_before ys
+    → third ≡ take n second ++ opened (drop n second) → new ≡ third ++ (93 ∷ rest) → new ≡ old ++ (array_text (xs ++ ys) ++ rest)
+array_whole old first second third new n xs ys rest size is_first is_second is_third is_new =
+    is_new ∙ ap (λ (t : List ℕ). t ++ (93 ∷ rest)) (is_third ∙ opened_there)
+    ∙ append_assoc old (opened all) (93 ∷ rest)
+    ∙ ap (λ (t : List ℕ). old ++ t) (sym (append_assoc (opened all) (93 ∷ []) rest))
+    ∙ ap (λ (t : List ℕ). old ++ (t ++ rest)) (array_opened (xs ++ ys))
+  where
+    all : List ℕ
+    all = flat_map comma_before (xs ++ ys)
+
+    second_is : second ≡ old ++ all
+    second_is =
+        is_second ∙ ap (λ (t : List ℕ). t ++ flat_map comma_before ys) is_first
+        ∙ append_assoc old (flat_map comma_before xs) (flat_map comma_before ys)
+        ∙ ap (λ (t : List ℕ). old ++ t) (sym (flat_map-append comma_before xs ys))
+
+    opened_there : take n second ++ opened (drop n second) ≡ old ++ opened all
+    opened_there =
+        ap (λ (k : ℕ). take k second ++ opened (drop k second)) size
+        ∙ ap (λ (t : List ℕ). take (length old) t ++ opened (drop (length old) t)) second_is
+        ∙ ap (λ (t : List ℕ). t ++ opened (drop (length old) (old ++ all))) (take_front old all)
+        ∙ ap (λ (t : List ℕ). old ++ opened t) (drop_front old all)
+
+-- how a byte is written in a string
+pub string_quoted : (b : ℕ) → (b == 34 || b == 92) ≡ true → 92 ∷ b ∷ [] ≡ string_byte b
+string_quoted b h = rw h refl
+
+pub string_control : (b : ℕ) → (b == 34 || b == 92) ≡ false → nat_lt b 32 ≡ true
+    → 92 ∷ 117 ∷ 48 ∷ 48 ∷ hexadecimal_digit (b / 16) ∷ hexadecimal_digit (b % 16) ∷ [] ≡ string_byte b
+string_control b h k = rw (h, k) refl
+
+pub string_plain : (b : ℕ) → (b == 34 || b == 92) ≡ false → nat_lt b 32 ≡ false → b ∷ [] ≡ string_byte b
+string_plain b h k = rw (h, k) refl
