@@ -13,7 +13,8 @@ from library import runs  # noqa: E402
 from pages import browser, made, sizes, tags, values  # noqa: E402
 
 PARTS = {
-    "values": values.values, "names": values.names, "frames": values.frames, "mentioned": values.mentioned,
+    "values": values.values, "names": values.names, "lines": values.lines, "frames": values.frames,
+    "mentioned": values.mentioned,
     "pictures": tags.pictures, "hostile": tags.hostile, "many": tags.many, "sizes": sizes.sizes,
     "browser": browser.browser, "made": made.made,
 }

@@ -10,7 +10,7 @@ from ._parts import parts_of
 from ._program import run
 from .bench import Bench
 from .certified import Certified
-from .entries import SECTIONS, Entries, Entry, Signal
+from .entries import SECTIONS, Entries, Entry, Signal, listed
 from .formula import Formula
 from .rows import Row, stimulus
 from .runs import Trace, Witness, explanation
@@ -27,8 +27,7 @@ class Circuit:
 
     def __init__(self, file: Union[bytes, str]):
         self.file = file.encode() if isinstance(file, str) else bytes(file)
-        listed = run("info", "--names", files=[self.file])
-        self.signals = Entries(listed.decode("utf-8", "surrogateescape").split("\n")[:-1])
+        self.signals = Entries(listed(run("info", "--names", "--json", files=[self.file])))
         self._facts: Optional[Dict[str, Union[int, str]]] = None
 
     def __repr__(self) -> str:

@@ -2,7 +2,8 @@
 
 from __future__ import annotations
 
-from typing import Dict, Iterable, List, NamedTuple, Optional, Union
+import json
+from typing import Any, Dict, Iterable, List, NamedTuple, Optional, Union
 
 Signal = Union[str, int]
 SECTIONS = {
@@ -16,7 +17,7 @@ class Entry(NamedTuple):
     letter    i, l, o, b, c, j or f, for the section
     position  its position in the section, counted from 0
     literal   its literal; None for a justice property, which has several
-    name      its symbol; empty if it has none
+    name      its symbol; empty if it has none. A byte that is not UTF-8 is a lone surrogate (`surrogateescape`).
     """
 
     letter: str
@@ -35,11 +36,33 @@ class Entry(NamedTuple):
         return self.name or self.place
 
 
+def readable(name: str) -> str:
+    """A symbol, or a piece of one, with a mark in place of each byte that is not UTF-8."""
+    return name.encode("utf-8", "surrogateescape").decode("utf-8", "replace")
+
+
+def listed(said: bytes) -> List[Entry]:
+    """The entries that `aig info --names --json` prints."""
+    return [_entry(it) for it in objects(said)]
+
+
+def objects(said: bytes) -> List[Dict[str, Any]]:
+    """The objects that `aig` prints in lines."""
+    found: List[Dict[str, Any]] = json.loads(b"[%s]" % b",".join(said.split(b"\n")[:-1]))
+    return found
+
+
+def _entry(it: Dict[str, Any]) -> Entry:
+    name = it["name"] or ""
+    text = name if isinstance(name, str) else bytes(name).decode("utf-8", "surrogateescape")
+    return Entry(it["letter"], it["position"], it["literal"], text)
+
+
 class Entries:
     """All entries of a circuit, by name and by place."""
 
-    def __init__(self, lines: Iterable[str]):
-        self.all = [_entry(line) for line in lines]
+    def __init__(self, entries: Iterable[Entry]):
+        self.all = list(entries)
         self._by_place = {entry.place: entry for entry in self.all}
         self._by_name: Dict[str, List[Entry]] = {}
         for entry in self.all:
@@ -64,8 +87,3 @@ class Entries:
         if place not in self._by_place:
             raise KeyError(why)
         return self._by_place[place]
-
-
-def _entry(line: str) -> Entry:
-    letter, position, literal, name = line.split(" ", 3)
-    return Entry(letter, int(position), None if literal == "-" else int(literal), name)

@@ -22,14 +22,14 @@ def svg_of_witness(witness: Witness) -> str:
 
 def svg_of_trace(trace: Trace) -> str:
     """The inputs, latches and outputs of a run."""
-    from .verdicts.signals import Names
+    from .verdicts.signals import Names, labels
     from .verdicts.svg import Lane, waveform
 
     rows = {"i": trace.inputs, "l": trace.states, "o": trace.outputs}
-    signals = sorted(Names(trace.entries.all).signals.values(), key=lambda it: "ilo".index(it.letter))
+    signals = Names(trace.entries.all).all
     lanes: List[Lane] = []
-    for name, letter, positions in signals[:MOST_LANES]:
-        lanes.append(Lane(name, ["".join(row[at] for at in reversed(positions)) for row in rows[letter]]))
+    for label, (_, letter, positions) in zip(labels(signals[:MOST_LANES]), signals):
+        lanes.append(Lane(label, ["".join(row[at] for at in reversed(positions)) for row in rows[letter]]))
     left = len(signals) - len(lanes)
     return waveform(lanes, len(trace), None, f"run of {len(trace)} frames" + (f", {left} more signals" if left else ""))
 

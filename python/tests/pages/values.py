@@ -4,8 +4,10 @@ import random
 import re
 
 import aig
-from aig.verdicts.signals import Names, unique
-from aig.verdicts.runs import Told, lanes, story
+from aig.entries import listed
+from aig.verdicts import explained
+from aig.verdicts.runs import Told, chosen, story
+from aig.verdicts.signals import Names, labels
 from aig.verdicts.svg import parts, waveform
 from pages.oracle import Expected, Picture
 
@@ -69,26 +71,22 @@ def compared(tally, name, told, witness, text=""):
     found = story(told, witness.text, text)
     expected = Expected(told.circuit.to("aag"), witness.text)
     picture = Picture(*parts(found.lanes, found.run.frames, found.run.frames - 1, witness.property))
-    signals = {}
-    for signal in expected.names.signals:
-        signals.setdefault(signal.name, signal)
+    tally.compare(f"{name}: the lines", found.why, witness.why())
+    tally.compare(f"{name}: no name twice", [it.name for it in picture.lanes], labels(found.signals))
+    signals = {(it.letter, tuple(it.positions)): it for it in expected.names.signals}
     frames = range(len(witness.rows))
-    for lane in picture.lanes:
-        signal = signals[lane.name]
+    for lane, shown in zip(picture.lanes, found.signals):
+        signal = signals[shown.key]
+        tally.compare(f"{name}: the name of {lane.name!r}", shown.name, signal.name)
         wanted = {frame: expected.value(signal, frame) for frame in frames}
         tally.compare(f"{name}: values of {lane.name!r}", lane.values, wanted)
         thick = {frame for frame in frames if expected.is_named(signal, frame)}
         tally.compare(f"{name}: causes of {lane.name!r}", lane.thick, thick)
-    drawn = {lane.name for lane in picture.lanes}
-    missing = [it.name for it in expected.names.signals if it.letter in "il" and it.name not in drawn
+    drawn = {it.key for it in found.signals}
+    missing = [it.name for key, it in signals.items() if it.letter in "il" and key not in drawn
                and any(expected.is_named(it, frame) for frame in frames)]
     tally.compare(f"{name}: all causes are there", missing if not found.left else [], [])
     return len(picture.lanes)
-
-
-def numbers(circuit):
-    """The lines of a circuit without its symbols."""
-    return [line for line in circuit.to("aag").split(b"\n") if re.fullmatch(rb"aag .*|[0-9 ]+", line)]
 
 
 def values(_, tally, __):
@@ -97,8 +95,6 @@ def values(_, tally, __):
     for number in range(200):
         circuit = aig.Circuit(circuit_of(chance))
         told = Told(circuit)
-        tally.compare(f"{number}: only names differ", numbers(told.circuit), numbers(circuit))
-        tally.compare(f"{number}: no name twice", Names(told.circuit.entries).clashes, [])
         witness = witness_of(circuit, chance)
         if witness is not None:
             text = f"assert ({chance.choice(BASES)} == count);"
@@ -120,15 +116,51 @@ def names(_, tally, __):
         ("q[00]", "q[1]"): ["q[00]", "q[1]"], ("a[0][0]", "a[0][1]"): ["a[0]"],
     }
     for symbols, wanted in cases.items():
-        tally.compare(f"{symbols}", list(Names(named(*symbols).entries).signals), wanted)
+        tally.compare(f"{symbols}", [it.name for it in Names(named(*symbols).entries).all], wanted)
     clashes = {
-        ("q", "q", "q"): ["q", "q(l1)", "q(l2)"], ("q[0]", "q[1]", "q[0]", "q[1]"): ["q", "q(l2)"],
-        ("q", "q", "q(l1)"): ["l0", "l1", "l2"], ("", "l0"): ["l0", "l0(l1)"], ("a b", "b a"): ["a", "b"],
+        ("q", "q", "q"): ["q", "q(l1)", "q(l2)"], ("", "l0"): ["l0", "l0(l1)"], ("a b", "b a"): ["a", "b"],
+        ("q[0]", "q[1]", "q[0]", "q[1]"): ["q[1:0]", "q[1:0](l2)"],
     }
     for symbols, wanted in clashes.items():
-        tally.compare(f"unique {symbols}", list(Names(unique(named(*symbols)).entries).signals), wanted)
-    plain = named("a", "b")
-    tally.check("a circuit without clashes stays", unique(plain) is plain)
+        tally.compare(f"labels of {symbols}", labels(Names(named(*symbols).entries).all), wanted)
+    both = aig.Circuit("aag 1 1 0 2 0\n2\n2\n3\ni0 q\no0 q\no1 r\n")
+    tally.compare("an output with a name that is taken", [it.name for it in Names(both.entries).all], ["q", "r"])
+
+
+# A line of `why --json` of each kind, and the same line of `why`.
+LINES = {
+    '{"line":"asked","frame":10,"name":"queue.v:37","value":"1","by":10,"causes":[%s]}': "queue.v:37=1 at 10: {}",
+    '{"line":"asked","frame":2,"name":"!q","value":"01","by":2,"causes":[]}': "!q=2'h1 at 2: always",
+    '{"line":"latches","frame":9,"signal":{"letter":"l","position":0,"name":"full","value":"0"},"by":8,"causes":[%s]}':
+        "full=0 at 9, by 8: {}",
+    '{"line":"not explained","frame":7,"latches":[%s]}': "at 7, not explained: {}",
+    '{"line":"reset","frame":0,"latches":[%s]}': "at 0, by reset: {}",
+    '{"line":"start","frame":0,"latches":[%s]}': "at 0, by start: {}",
+}
+SIGNALS = ('{"letter":"i","position":1,"name":"rst","value":"x"},'
+           '{"letter":"l","position":7,"name":"count","value":"10?1"}')
+
+
+def lines(_, tally, __):
+    """Lines of an explanation as data, and the same as text; which places they name."""
+    said = "".join(f"{line % SIGNALS if '%s' in line else line}\n" for line in LINES)
+    found = explained.lines(said.encode())
+    tally.compare("lines: texts", [it.text for it in found],
+                  [text.format("rst=x count=4'b10?1") for text in LINES.values()])
+    tally.compare("lines: places", [place for it in found[0].causes for place in it.named],
+                  [("i", 1), ("l", 7), ("l", 9), ("l", 10)])
+    tally.compare("lines: frames", [(it.frame, it.by, len(it.kept), len(it.causes)) for it in found],
+                  [(10, 10, 0, 2), (2, 2, 0, 0), (9, 8, 1, 2), (7, 7, 2, 0), (0, 0, 2, 0), (0, 0, 2, 0)])
+    tally.compare("lines: none", explained.lines(b""), [])
+    entries = (b'{"letter":"i","position":0,"literal":2,"name":"a \\"q\\" \\\\ \\u0007 \xc3\xa9"}\n'
+               b'{"letter":"l","position":0,"literal":4,"name":null}\n'
+               b'{"letter":"o","position":0,"literal":3,"name":[255,104]}\n'
+               b'{"letter":"j","position":0,"literal":null,"name":"live"}\n')
+    names = [it.name for it in listed(entries)]
+    tally.compare("lines: names", names, ['a "q" \\ \x07 \xe9', "", "\udcffh", "live"])
+    for value, wanted in (("1", "1"), ("x", "x"), ("xxxx", "x"), ("1010", "4'ha"), ("0" * 9, "9'h000"),
+                          ("10?1", "4'b10?1"), ("1x", "2'b1x"), ("?x", "2'b?x"), ("10110100101", "11'h5a5")):
+        tally.compare(f"lines: {value}", explained.shown(value), wanted)
 
 
 def frames(_, tally, __):
@@ -160,7 +192,8 @@ def mentioned(_, tally, __):
     tally.compare("mentioned", [(it.name, it.strong, sorted(it.keys)) for it in found.lanes],
                   [("top.s7", True, []), ("w", True, []), ("top.s0", False, [0])])
     many = " ".join(f"s{at}" for at in range(30))
-    shown, left = lanes(found.run, found.why, many)
+    first = explained.Valued(told.names.all[0], "1")
+    shown, left = chosen(told.names, [explained.Line("", [], 0, [first], 0)], many)
     tally.compare("24 at most", (len(shown), left), (24, 6))
     tally.compare("causes first", shown[0].name, "top.s0")
     tally.check("alone", waveform(found.lanes, 1, 0).count("<style>") == 1)

@@ -10,6 +10,7 @@ from pathlib import Path
 from typing import Any, Dict, Iterable, List, Optional, Sequence, Set, Tuple
 
 from .._program import run as aig
+from ..entries import listed, readable
 
 from . import names, yosys
 from .sources import Sources, look_at_words, places
@@ -82,8 +83,8 @@ class Design:
 
 def read_aiger(path: Path) -> Design:
     circuit = path.read_bytes()
-    rows = [line.split(" ", 3) for line in aig("info", "--names", files=[circuit]).decode("utf-8", "replace").split("\n")[:-1]]
-    found = properties([row[3] for row in rows if row[0] == "b"])
+    entries = listed(aig("info", "--names", "--json", files=[circuit]))
+    found = properties([readable(it.name) for it in entries if it.letter == "b"])
     assertions = [Assertion(at, kind, name or f"b{at}", of=of) for at, (kind, name, of) in enumerate(found)]
     if not assertions:
         raise ToolFailed("the circuit has no bad state property: aig select --from outputs --to aig makes them of outputs")

@@ -10,6 +10,7 @@ from pathlib import Path
 from typing import Callable, List
 
 from .._program import program
+from ..entries import listed, readable
 from ..errors import AigError
 from .bundle import MOST_BYTES, Bundle, Wrong
 from .design import properties, symbol
@@ -48,17 +49,13 @@ def _said(row: Row, words: List[str], circuit: bytes, read: Read, stop: Stop) ->
     return said.decode("ascii", "replace").strip()
 
 
-def _readable(name: str) -> str:
-    return name.encode("utf-8", "surrogateescape").decode("utf-8", "replace")
-
-
 def _properties(circuit: bytes, stop: Stop) -> List[str]:
     """The names of the bad state properties."""
     try:
-        lines = ask(stop, "info", "--names", files=[circuit]).decode("utf-8", "surrogateescape").split("\n")
+        entries = listed(ask(stop, "info", "--names", "--json", files=[circuit]))
     except AigError as error:
         raise Wrong(f"{CIRCUIT}: {error.part}: {error.reason}") from None
-    return [line.split(" ", 3)[3] for line in lines if line.startswith("b ")]
+    return [entry.name for entry in entries if entry.letter == "b"]
 
 
 def check_names(rows: List[Row], names: List[str], is_of_yosys: bool) -> None:
@@ -67,7 +64,7 @@ def check_names(rows: List[Row], names: List[str], is_of_yosys: bool) -> None:
            "the rows are not those of the circuit's properties, each once and in order")
     expect(len(names) > 0, "there is no assertion")
     for row, named, (kind, name, of) in zip(rows[1:], names, properties(names)):
-        is_named = symbol(kind, row.name) == named if is_of_yosys else row.name == (_readable(name) or row.label)
+        is_named = symbol(kind, row.name) == named if is_of_yosys else row.name == (readable(name) or row.label)
         expect(row.kind == kind and is_named, f"{row.label} has another kind or name than the property")
         expect(row.of == of, f"{row.label} is of another row")
 

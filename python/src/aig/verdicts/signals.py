@@ -1,57 +1,75 @@
-"""The names of a circuit's signals, as `aig why` forms them, each of one signal alone."""
+"""The names of a circuit's signals, as `aig why` forms them."""
 
 from __future__ import annotations
 
 import re
-from itertools import takewhile
-from typing import Dict, Iterable, List, NamedTuple, Sequence
+from typing import Dict, Iterable, List, NamedTuple, Sequence, Tuple
 
-from ..circuit import Circuit
 from ..entries import Entry
 
 # A name of one bit. Longer numbers are no index.
 _BIT = re.compile(r"(.+)\[(0|[1-9][0-9]{0,17})\]")
-_NUMBERS = re.compile(rb"aag [0-9 ]*|[0-9 ]+")
+
+# A section and a position there.
+Place = Tuple[str, int]
 
 
 class Signal(NamedTuple):
-    """An input, a latch, an output or a vector of them: its name, its section, and the positions of its bits, the least
-    significant first."""
+    """An input, a latch, an output or a vector of them: its name, and the places of its bits, the least significant
+    first. Two signals may have one name."""
 
     name: str
     letter: str
-    positions: List[int]
+    positions: Tuple[int, ...]
+
+    @property
+    def key(self) -> Tuple[str, Tuple[int, ...]]:
+        """What no other signal of the circuit has."""
+        return self.letter, self.positions
+
+    @property
+    def places(self) -> List[Place]:
+        return [(self.letter, position) for position in self.positions]
 
 
 class Names:
     """The signals of a circuit; one object serves all its runs.
 
-    signals  by name; a name of inputs or latches is taken before one of outputs
-    words    the names of the signals that have a word in their symbols
-    clashes  the inputs and latches whose name another one has
+    all    in their order: inputs, latches, outputs; no output that has the name of an earlier signal
+    words  the signals that have a word in their symbols
     """
 
     def __init__(self, entries: Iterable[Entry]):
-        self.signals: Dict[str, Signal] = {}
-        self.words: Dict[str, List[str]] = {}
-        self.clashes: List[Signal] = []
+        self.all: List[Signal] = []
+        self.words: Dict[str, List[Signal]] = {}
         sections: Dict[str, List[Entry]] = {"i": [], "l": [], "o": []}
         for entry in entries:
             if entry.letter in sections:
                 sections[entry.letter].append(entry)
+        seen = set()
         for letter in "lio":
             for signal in _signals(letter, sections[letter]):
-                self._add(signal, [sections[letter][at].name for at in signal.positions])
+                if letter != "o" or signal.name not in seen:
+                    seen.add(signal.name)
+                    self._add(signal, [sections[letter][at].name for at in signal.positions])
+        self.all.sort(key=lambda it: "ilo".index(it.letter))
 
     def _add(self, signal: Signal, symbols: Sequence[str]) -> None:
-        if signal.name in self.signals:
-            if signal.letter != "o":
-                self.clashes.append(signal)
-            return
-        self.signals[signal.name] = signal
+        self.all.append(signal)
         words = {re.sub(r"\[[0-9]+\]$", "", word) for symbol in symbols for word in symbol.split(" ")}
         for word in sorted(words | {signal.name}):
-            self.words.setdefault(word, []).append(signal.name)
+            self.words.setdefault(word, []).append(signal)
+
+
+def labels(signals: Sequence[Signal]) -> List[str]:
+    """What a picture calls these signals: their names. Where several have one, all but the first have their places in
+    it, as in `q(l3)`."""
+    seen = set()
+    found = []
+    for name, letter, positions in signals:
+        found.append(name if name not in seen else f"{name}({letter}{positions[0]})")
+        seen.add(name)
+    return found
 
 
 def _signals(letter: str, entries: Sequence[Entry]) -> List[Signal]:
@@ -71,7 +89,7 @@ def _signals(letter: str, entries: Sequence[Entry]) -> List[Signal]:
         if len(group) > 1:
             base = firsts[group[0]].rpartition("[")[0]
             vectors[base] = vectors.get(base, 0) + 1
-    return [Signal(_name(firsts[group[0]], len(group), vectors), letter, group) for group in groups]
+    return [Signal(_name(firsts[group[0]], len(group), vectors), letter, tuple(group)) for group in groups]
 
 
 def _name(first: str, bits: int, vectors: Dict[str, int]) -> str:
@@ -86,32 +104,3 @@ def _first(entry: Entry) -> str:
     """The first name of an entry."""
     readable = re.sub(r"[^\x20-\x7e]", "_", entry.name.encode("utf-8", "surrogateescape").decode("latin-1"))
     return next((word for word in readable.split(" ") if word), entry.place)
-
-
-def unique(circuit: Circuit) -> Circuit:
-    """The circuit, or one that differs only in names: no two of its inputs and latches have the same. What shares its
-    name with an earlier one has its place in the name, as in `q(l3)`."""
-    clashes = Names(circuit.entries).clashes
-    if not clashes:
-        return circuit
-    renamed = _renamed(circuit, clashes)
-    if Names(renamed.entries).clashes:  # names that look like those made here
-        return _with_symbols(circuit, [it._replace(name="") if it.letter in "il" else it for it in circuit.entries])
-    return renamed
-
-
-def _renamed(circuit: Circuit, clashes: Sequence[Signal]) -> Circuit:
-    new: Dict[str, str] = {}
-    for signal in clashes:
-        place = f"({signal.letter}{signal.positions[0]})"
-        for position in signal.positions:
-            first = _first(circuit.signals.section(signal.letter)[position])
-            bit = _BIT.fullmatch(first)
-            new[f"{signal.letter}{position}"] = f"{bit[1]}{place}[{bit[2]}]" if bit else first + place
-    return _with_symbols(circuit, [entry._replace(name=new.get(entry.place, entry.name)) for entry in circuit.entries])
-
-
-def _with_symbols(circuit: Circuit, entries: Sequence[Entry]) -> Circuit:
-    body = takewhile(_NUMBERS.fullmatch, circuit.to("aag").split(b"\n"))
-    symbols = [f"{entry.place} {entry.name}".encode("utf-8", "surrogateescape") for entry in entries if entry.name]
-    return Circuit(b"\n".join([*body, *symbols, b""]))
