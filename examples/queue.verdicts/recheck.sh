@@ -21,6 +21,7 @@ of() {
         wrong=1
     fi
 }
+check alive check --alive --frames=20 circuit.aig alive.wit
 of 0.wit b0 15
 check confirmed check --property=0 circuit.aig 0.wit
 check 'unreachable within 10' refute --frames=10 --property=0 circuit.aig 0.shorter.drat

@@ -22,7 +22,8 @@ def on_program(part):
 
 
 PARTS = {part.__name__: on_program(part) for part in (
-    tampering.bits, tampering.forgers, tampering.older, tampering.harmless, tampering.files, tampering.texts,
+    tampering.bits, tampering.forgers, tampering.older, tampering.alive, tampering.harmless, tampering.files,
+    tampering.texts,
     zips.zips, zips.hostile_zips, zips.script, zips.shipped,
     searches.found, searches.tools, searches.abc, searches.words,
     hinted.form, hinted.hints, hinted.later, hinted.failures,

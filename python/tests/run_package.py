@@ -169,6 +169,13 @@ def verdicts(_, tally, __):
     tally.compare("constraints that contradict", contradict.refute_alive(1, b""), "no run of 1 frames")
     tally.check("constraints that some run keeps", isinstance(raised(wraps.refute_alive, 2, b""), aig.AigError))
     tally.check("a formula of constraints", contradict.cnf_alive(2).size > 2)
+    one = aig.Circuit("aag 1 1 0 0 0 0 1\n2\n2\n")
+    kept = one.cnf_alive(2)
+    run = kept.witness(range(1, kept.variables + 1))
+    tally.compare("a run that keeps the constraints", (run.rows, run.property), (["1", "1"], "b0"))
+    tally.compare("checked", [one.check_alive(it, 2) for it in (run, "1\nb0\n\n1\n0\n.\n")],
+                  ["alive", "constraint 1 0"])
+    tally.compare("of all frames", one.check_alive("1\nb0\n\n1\n.\n"), "alive")
     formula = wraps.cnf(4)
     numbers = [int(word) for word in model.split() if word.lstrip(b"-").isdigit() and word != b"0"]
     truths = [None] + [number in numbers for number in range(1, formula.variables + 1)]

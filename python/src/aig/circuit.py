@@ -137,8 +137,7 @@ class Circuit:
 
     def check(self, witness: Union[Witness, bytes, str], property: Optional[Signal] = None) -> Verdict:
         """The verdict on a witness. If a property is named, a witness of another one is rejected."""
-        text = witness.text if isinstance(witness, Witness) else witness
-        text = text.encode() if isinstance(text, str) else text
+        text = _text_of(witness)
         options = [] if property is None else [f"--property={self.position(property)}"]
         line = run("check", *options, files=[self.file, text], good=(0, 1)).decode().strip()
         return Verdict(line, witness=Witness(self, text) if line == "confirmed" else None)
@@ -162,8 +161,15 @@ class Circuit:
         return run("refute", *options, files=[self.file, proof], named=named).decode().strip()
 
     def cnf_alive(self, frames: int) -> Formula:
-        """The formula that some run keeps all constraints for so many frames. Its models have no witness."""
+        """The formula that some run keeps all constraints for so many frames. `witness` of a model is a run for
+        `check_alive`, whatever property it names."""
         return Formula(self, [f"--frames={frames}", "--alive"])
+
+    def check_alive(self, witness: Union[Witness, bytes, str], frames: Optional[int] = None) -> str:
+        """Whether the run of a witness keeps all constraints for so many frames (default: all): `alive`, or what speaks
+        against it, as `constraint 2 0`."""
+        options = ["--alive"] if frames is None else ["--alive", f"--frames={frames}"]
+        return run("check", *options, files=[self.file, _text_of(witness)], good=(0, 1)).decode().strip()
 
     def refute_alive(self, frames: int, proof: bytes) -> str:
         """Checks a solver's proof about the formula of `cnf_alive`, and returns `no run of K frames`: the constraints
@@ -178,6 +184,11 @@ class Circuit:
     def position(self, property: Signal) -> int:
         """The position of a bad state property."""
         return self.find(property, "b").position
+
+
+def _text_of(witness: Union[Witness, bytes, str]) -> bytes:
+    text = witness.text if isinstance(witness, Witness) else witness
+    return text.encode() if isinstance(text, str) else text
 
 
 def read(path: Union[str, "os.PathLike[str]"]) -> Circuit:

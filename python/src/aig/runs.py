@@ -105,7 +105,8 @@ class Witness:
         self.circuit, self.text = circuit, bytes(text)
         lines = self.text.decode().split("\n")
         self.position = int(lines[1][1:])
-        self.property = circuit.properties[self.position]
+        properties = circuit.properties
+        self.property = properties[self.position] if self.position < len(properties) else f"b{self.position}"
         self.start, self.rows = lines[2], lines[3:-2]
 
     def __repr__(self) -> str:

@@ -213,7 +213,7 @@ def _place(path, manifest):
 
 
 def _format(path, manifest):
-    manifest["format"] = "aig-verdicts 2"
+    manifest["format"] = "aig-verdicts 3"
 
 
 def _no_options(path, manifest):
@@ -264,6 +264,6 @@ FORGERS = {
     _file_with_nul: "file '9.wit\\x00'", _lone_surrogate: "another kind or name", _unknown_part: "an unknown part",
     _unknown_part_of_all: "has other parts", _no_sum: "the sums are not", _sum_of_more: "the sums are not",
     _sum_of_a_path: "sums of MANIFEST.json", _source_path: "sources of MANIFEST.json", _place: "place of b8",
-    _format: "is not of 'aig-verdicts 1'", _no_options: "options of MANIFEST.json",
+    _format: "is not of 'aig-verdicts 2'", _no_options: "options of MANIFEST.json",
     _as_aiger: "b1 has another kind", _nothing: "there is no assertion",
 }

@@ -9,8 +9,9 @@ import shutil
 from pathlib import Path
 
 from aig._program import program
+from aig.verdicts.manifest import FORMAT, OLDER
 from aig.verdicts.tools import Stop, version
-from bundles.common import called, judged, kept, manifest_of, row, why_rejected, write_manifest
+from bundles.common import SMALL_SOLVER, called, judged, kept, manifest_of, row, why_rejected, write_manifest
 from bundles.forgers import FORGERS
 from library.runs import EXAMPLES
 
@@ -62,7 +63,10 @@ def forgers(_, tally, __):
     del manifest["rows"][0]["files"], manifest["sums"]["alive.drat"]
     row(manifest, "fine")["result"] = "holds"
     write_manifest(path, manifest)
-    tally.check("forgers: that some run keeps the assumptions has no proof yet", judged(path) is not None)
+    tally.check("forgers: an older bundle needs no run that keeps the assumptions", judged(path) is not None)
+    manifest["format"] = FORMAT
+    write_manifest(path, manifest)
+    tally.check("forgers: a bundle of now does", "no run shows" in why_rejected(path), why_rejected(path))
 
 
 def older(_, tally, __):
@@ -78,6 +82,46 @@ def older(_, tally, __):
         why = why_rejected(path) or ""
         tally.check(f"older: {said}", why.startswith("b1: aig refute: step proof: no refutation"), why)
         tally.compare(f"older: {said} is named", "says that aig 0.1.9 made it" in why, is_named)
+
+
+def alive(_, tally, __):
+    """That some run keeps the constraints is a row with a run, which `aig` checks: one that breaks a constraint or is
+    too short is rejected, and so is a row without one. A search with more frames finds a longer run."""
+    Path("one.aag").write_text("aag 2 2 0 0 0 1 1\n2\n4\n4\n2\n")
+
+    def run(frames):
+        return called("run", "one.aag", "--abc", "", "--solver", SMALL_SOLVER, "--frames", frames, "-q")[0]
+
+    tally.compare("alive: status", run(4), 5)
+    path = Path("one.verdicts")
+    first = manifest_of(path)["rows"][0]
+    tally.compare("alive: the row", (first["verdict"], first["frames"], first["files"]),
+                  ("alive", 4, {"witness": "alive.wit"}))
+    _, said, err = called("recheck", path)
+    tally.check("alive: it is said", said.startswith("constraints  alive\n") and "solver" not in err, (said, err))
+    witness = (path / "alive.wit").read_bytes()
+    for text, frames, why in ((witness.replace(b"\n1", b"\nx", 3), 4, "prints 'constraint 0 0'"),
+                              (witness, 5, "prints 'frames 4'"), (b"", 4, "aig check: witness: text")):
+        (path / "alive.wit").write_bytes(text)
+        manifest = manifest_of(path)
+        manifest["rows"][0]["frames"] = frames
+        write_manifest(path, manifest)
+        tally.check(f"alive: {why}", why in (why_rejected(path) or ""), why_rejected(path))
+        manifest["rows"][0]["frames"] = 4
+        (path / "alive.wit").write_bytes(witness)
+        write_manifest(path, manifest)
+    for frames, wanted in ((2, 4), (6, 6), (1, 6)):
+        run(frames)
+        tally.compare(f"alive: {frames} frames", manifest_of(path)["rows"][0]["frames"], wanted)
+    manifest = manifest_of(path)
+    manifest["rows"][0].update(by="")
+    del manifest["rows"][0]["files"], manifest["sums"]["alive.wit"]
+    write_manifest(path, manifest)
+    tally.check("alive: no run", "no run shows" in (why_rejected(path) or ""), why_rejected(path))
+    manifest["format"] = OLDER
+    write_manifest(path, manifest)
+    status, _, err = called("recheck", path)
+    tally.check("alive: an older bundle", status == 5 and "is a solver's word" in err, (status, err))
 
 
 def harmless(_, tally, __):

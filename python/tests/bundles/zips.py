@@ -169,7 +169,7 @@ def shipped(_, tally, __):
     """The bundle in `examples` is of the queue that ships beside it, and `recheck` prints its rows."""
     bundle = EXAMPLES / "queue.verdicts"
     status, out, err = called("recheck", bundle)
-    wanted = ["b0  confirmed  queue.v:37", "b1  unreachable  queue.v:38"]
+    wanted = ["constraints  alive", "b0  confirmed  queue.v:37", "b1  unreachable  queue.v:38"]
     tally.compare("shipped: recheck", (status, out.splitlines()), (5, wanted))
     tally.check("shipped: its counts", "1 fail, 1 hold" in err, err)
     source = (bundle / "sources" / "queue.v").read_bytes()

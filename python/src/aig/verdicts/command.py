@@ -23,7 +23,7 @@ from .made import made
 from .manifest import as_json, rows_as_json
 from .page import Page
 from .progress import Progress
-from .recheck import recheck, same_design
+from .recheck import is_kept, is_older, recheck, same_design
 from .row import Row
 from .sections import Pictures
 from .session import Session
@@ -169,6 +169,8 @@ def again(words: argparse.Namespace, stop: Stop) -> int:
     if words.json:
         sys.stdout.write(as_json({**bundle.manifest, "rows": rows_as_json(bundle.rows)}).decode())
     sys.stdout.flush()
+    if is_older(bundle) and not is_kept(bundle.rows[0], bundle.circuit(), stop):
+        _said("that some run keeps the assumptions is a solver's word, as the bundle is of an older version")
     yosys = ", and Yosys makes the same circuit of the sources" if words.yosys else ""
     print(f"{plain(summary(table))}; all checked by aig{yosys}", file=sys.stderr)
     return exit_status(table)

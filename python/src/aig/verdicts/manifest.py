@@ -11,7 +11,9 @@ from .row import ALIVE, CIRCUIT, CONSTRAINTS, KINDS, UNDECIDED, WAYS, Row, name_
 
 MANIFEST = "MANIFEST.json"
 SCRIPT_OF_YOSYS = "yosys.ys"
-FORMAT = "aig-verdicts 1"
+FORMAT = "aig-verdicts 2"
+# That of bundles in which nothing shows that some run keeps the constraints.
+OLDER = "aig-verdicts 1"
 # A plain name, or one in a folder.
 PLAIN = re.compile(r"[A-Za-z0-9_+-][A-Za-z0-9._+-]*(/[A-Za-z0-9_+-][A-Za-z0-9._+-]*)?")
 MOST_FRAMES = 65536
@@ -81,7 +83,7 @@ def parsed(data: bytes) -> Dict[str, Any]:
         raise Wrong(f"MANIFEST.json is no JSON: {error}") from None
     except RecursionError:
         raise Wrong("MANIFEST.json is too deep") from None
-    expect(type(made) is dict and made.get("format") == FORMAT, f"MANIFEST.json is not of {FORMAT!r}")
+    expect(type(made) is dict and made.get("format") in (FORMAT, OLDER), f"MANIFEST.json is not of {FORMAT!r}")
     expect(set(made) == set(_PARTS), "MANIFEST.json has other parts")
     for name, is_right in _PARTS.items():
         expect(is_right(made[name]), f"{name} of MANIFEST.json")
@@ -166,10 +168,10 @@ def _files(row: Row) -> None:
 def _verdict(row: Row) -> None:
     lines = [line for line, _ in row.commands()]
     if row.kind == "constraints":
-        expect(row.by in ("", "alive") and not row.name, f"kind of {row.label}")
+        expect(row.by in ("", "alive", "kept") and not row.name, f"kind of {row.label}")
         expect(row.verdict in (lines[:1] or [ALIVE, UNDECIDED]), f"verdict of {row.label}")
     else:
-        expect(row.by != "alive", f"kind of {row.label}")
+        expect(row.by not in ("alive", "kept"), f"kind of {row.label}")
         expect(row.verdict == (lines[0] if lines else UNDECIDED), f"verdict of {row.label}")
 
 

@@ -92,12 +92,12 @@ class Page:
         facts = self.facts
         names = {"inputs": "input", "latches": "latch", "gates": "gate", "constraints": "assumption"}
         inputs, latches, gates, assumptions = (counted(facts[key], name) for key, name in names.items())
-        runs = [row for row in self.rows if row.by == "run"]
+        runs = [row for row in self.rows if row.by in ("run", "kept")]
         kept = ""
         if facts["constraints"] and runs:
             longest = max(runs, key=lambda row: row.frames)
-            kept = (f" A run of {counted(longest.frames, 'frame')} keeps the assumptions: the witness of "
-                    f"<code>b{longest.position}</code>.")
+            kept = (f" A run of {counted(longest.frames, 'frame')} keeps the assumptions: "
+                    f"<code>{escape(longest.files['witness'])}</code>.")
         known = escape(str(self.manifest["sums"].get("circuit.aig", ""))[:16])
         return (f"<p class=sub>Circuit of {inputs}, {latches} and {gates}, {assumptions}.{kept} SHA-256 "
                 f'<code>{known}</code>… <a href="#believe">What to believe</a></p>')

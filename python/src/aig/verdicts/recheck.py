@@ -15,8 +15,8 @@ from ..errors import AigError
 from .bundle import MOST_BYTES, Bundle, Wrong
 from .design import properties, symbol
 from .made import made
-from .manifest import SCRIPT_OF_YOSYS, expect
-from .row import CIRCUIT, CONSTRAINTS, Row, parts_of
+from .manifest import OLDER, SCRIPT_OF_YOSYS, expect
+from .row import ALIVE, CIRCUIT, CONSTRAINTS, Row, has_constraints, parts_of
 from .tools import Stop, ask, version
 
 Read = Callable[[str], bytes]
@@ -69,6 +69,16 @@ def check_names(rows: List[Row], names: List[str], is_of_yosys: bool) -> None:
         expect(row.of == of, f"{row.label} is of another row")
 
 
+def is_older(bundle: Bundle) -> bool:
+    """Whether the bundle is of a version whose bundles had no run that keeps the assumptions."""
+    return bool(bundle.manifest["format"] == OLDER)
+
+
+def is_kept(row: Row, circuit: bytes, stop: Stop) -> bool:
+    """Whether a row that says that some run keeps the assumptions has one, or there are none."""
+    return row.verdict != ALIVE or row.by != "" or not has_constraints(ask(stop, "info", files=[circuit]))
+
+
 def _of_another_version(row: Row, bundle: Bundle, stop: Stop) -> str:
     """Why a row may be wrong now that was right once: a proof is one about a formula, and each version of `aig` may make
     another formula."""
@@ -84,6 +94,8 @@ def recheck(path: Path, sums: bool = True, say: Callable[[Row], None] = lambda _
     bundle = Bundle(path, most_bytes)
     circuit = bundle.circuit(sums)
     check_names(bundle.rows, _properties(circuit, stop), bool(bundle.manifest["options"]))
+    if not is_older(bundle):
+        expect(is_kept(bundle.rows[0], circuit, stop), "no run shows that the assumptions can be kept")
     read = bundle.summed if sums else bundle.read
     for name in bundle.sums:
         if name.startswith("sources/") or name == SCRIPT_OF_YOSYS:

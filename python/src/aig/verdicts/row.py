@@ -9,7 +9,7 @@ CIRCUIT = "circuit.aig"
 # The position of the row that says whether some run keeps the constraints.
 CONSTRAINTS = -1
 KINDS = ("assert", "cover", "condition", "constraints")
-# The verdicts without a number of frames. `alive` is the solver's answer alone: no command checks it.
+# The verdicts without a number of frames. `alive` of a circuit without constraints needs nothing that shows it.
 CONFIRMED, UNREACHABLE, ALIVE, UNDECIDED = "confirmed", "unreachable", "alive", "undecided"
 
 
@@ -27,6 +27,7 @@ WAYS: Dict[str, Shown] = {
     "certificate": Shown(("certificate", "proof")),
     "bound": Shown(("base",)),
     "alive": Shown(("alive",)),
+    "kept": Shown(("witness",)),
     "": Shown(),
 }
 # How the file of each role ends. A proof with hints ends in lrat.
@@ -70,6 +71,11 @@ def name_of(position: int, role: str, has_hints: bool = False) -> str:
     return f"{'alive' if position == CONSTRAINTS else position}.{ending}"
 
 
+def has_constraints(facts: bytes) -> bool:
+    """Whether a circuit has constraints, by what `aig info` prints."""
+    return b"\nconstraints 0\n" not in facts
+
+
 @dataclass
 class Row:
     """A verdict on a property, and the files that show it.
@@ -96,7 +102,7 @@ class Row:
 
     @property
     def decided(self) -> bool:
-        """Whether no search can find more."""
+        """Whether no search can find more. That some run keeps the constraints is known for so many frames."""
         return self.verdict in (CONFIRMED, UNREACHABLE) or self.by == "alive"
 
     @property
@@ -123,6 +129,9 @@ class Row:
             return [self._refuted(UNREACHABLE, [], certificate, files["proof"])]
         if self.by == "bound":
             return [self._bounded(self.frames, files["base"])]
+        if self.by == "kept":
+            words = ["check", "--alive", f"--frames={self.frames}", CIRCUIT, files["witness"]]
+            return [Command(ALIVE, words)]
         if self.by == "alive":
             words = ["refute", "--alive", f"--frames={self.frames}", CIRCUIT, files["alive"]]
             return [Command(f"no run of {self.frames} frames", words)]

@@ -11,7 +11,7 @@ from typing import Dict, List, NamedTuple, Optional, Union
 from . import abc
 from .decide import Found, Task
 from .questions import NO_TIME, Answer, Questions, why
-from .row import ALIVE
+from .row import ALIVE, has_constraints
 from .tools import Stop
 
 # The seconds of ABC's first try.
@@ -85,7 +85,7 @@ class Search:
     def alive(self) -> None:
         """Whether some run keeps all constraints for so many frames."""
         frames = self.task.bounds.frames
-        if b"\nconstraints 0\n" in self.ask.aig("info", files=[self.ask.circuit]):
+        if not has_constraints(self.ask.aig("info", files=[self.ask.circuit])):
             self.answer(ALIVE, "", frames)
             return
         options = ["--alive", f"--frames={frames}"]
@@ -94,7 +94,9 @@ class Search:
             line, proofs = self.ask.refute(*options, proofs={"alive": said.proof})
             self.answer(line, "alive", frames, **proofs)
         elif said.model is not None:
-            self.answer(ALIVE, "", frames)
+            witness = self.ask.aig("witness", *options, files=[self.ask.circuit], named={"--model": said.model})
+            line = self.ask.aig("check", *options, files=[self.ask.circuit, witness], good=(0, 1)).decode().strip()
+            self.answer(line, "kept", frames, witness=witness)
 
     def by_frames(self, numbers: List[int]) -> bool:
         """Runs and inductions of these numbers of frames, until the solver has no answer."""

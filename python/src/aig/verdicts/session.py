@@ -175,7 +175,7 @@ class Session:
         """Writes what a search found."""
         row = self.rows[found.position + 1]
         self.seconds[row.position] = round(found.seconds, 1)
-        if row.by == "bound" and found.by in ("", "bound") and found.frames <= row.frames:
+        if row.by in ("bound", "kept") and found.by in ("", row.by) and found.frames <= row.frames:
             row.notes = found.notes  # an earlier search knows more
             return
         self._forget(row)
@@ -203,7 +203,7 @@ class Session:
         if row.decided:
             return True
         if row.position == CONSTRAINTS:
-            return False  # its answer has no witness, so it is found again: one question
+            return row.by == "kept" and row.frames >= self.bounds.frames
         if self.only is not None and row.position not in self.only:
             return True
         if row.by != "bound" or row.frames < self.bounds.frames or self._goes_further:
