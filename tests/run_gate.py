@@ -125,37 +125,40 @@ def replaced(module, name, value):
 
 
 def again(_, tally, __):
-    """A tenth of the bugs that were refused before is tried again, and one that is proved then is a failure."""
-    edits = [planted.Edit(f"planted/{number}.edit", "clause", [], []) for number in range(300)]
-    one, commits = crate("aig_parts", pathlib.Path("crate"), {}), [f"{number:040x}" for number in range(100)]
-    chosen = [{it.name for it in planted.tried_again(commit, one, edits)} for commit in commits]
-    tally.compare("again: the same commit", {it.name for it in planted.tried_again(commits[0], one, edits[::-1])},
-                  chosen[0])
-    tally.compare("again: a tenth", {len(each) for each in chosen}, {30})
-    tally.compare("again: of few bugs", [len(planted.tried_again("0", one, edits[:count])) for count in (0, 1, 10, 11)],
-                  [0, 1, 1, 2])
-    tally.compare("again: each bug by some commit", len(set().union(*chosen)), len(edits))
+    """A tenth of the bugs that were refused before is tried again, crate by crate, and one that is proved then is a
+    failure."""
+    counts, commits = {f"aig_{number}": 1 + number % 20 for number in range(60)}, [f"{it:040x}" for it in range(100)]
+    chosen = [planted.tried_again(commit, counts) for commit in commits]
+    tally.compare("again: the same commit", planted.tried_again(commits[0], dict(reversed(counts.items()))), chosen[0])
+    sizes = [sum(counts[name] for name in each) for each in chosen]
+    tenth = sum(counts.values()) // 10
+    tally.check("again: a tenth", all(tenth <= size < tenth + max(counts.values()) for size in sizes), sizes)
+    tally.compare("again: of few bugs", [len(planted.tried_again("0", {"aig_0": count})) for count in (0, 1, 11)],
+                  [0, 1, 1])
+    tally.compare("again: each crate by some commit", set().union(*chosen), {*counts})
     tally.check("again: others by another commit", chosen[0] != chosen[1])
-    edits = [edit._replace(functions=[number]) for number, edit in enumerate(edits)]
+    one = crate("aig_parts", pathlib.Path("crate"), {})
+    edits = [planted.Edit(f"planted/{number}.edit", "clause", [], [number]) for number in range(30)]
     for kind, says_so in ((planted.FALSE, False), (None, True)):
-        found, said = told(one, edits, commits[0], kind)
-        tally.compare(f"again: what is tried, {kind}", found, [kind] * len(chosen[0]))
-        tally.compare(f"again: it fails, {kind}", "FAILED: refused.txt" in said, says_so)
+        for names, tried in (({one.name}, len(edits)), ({"aig_bytes"}, 0)):
+            found, said = told(one, edits, names, kind)
+            tally.compare(f"again: what is tried of {names}, {kind}", found, [kind] * tried)
+            tally.compare(f"again: it fails for {names}, {kind}", "FAILED: refused.txt" in said, says_so and tried > 0)
     with replaced(planted, "REFUSED", pathlib.Path("missing")):
         tally.compare("again: without a record", planted.recorded(), {})
 
 
-def told(one, edits, commit, kind):
-    """How the bugs of a recorded crate are refused that a commit chooses, and what is printed."""
+def told(one, edits, chosen, kind):
+    """How the bugs of a recorded crate are refused where these crates are chosen, and what is printed."""
     def one_check(crate, room, known, texts, taken):
         return [kind for _ in taken]
 
-    def in_one(folder, chosen):
-        return [({}, chosen)]
+    def in_one(folder, edits):
+        return [({}, edits)]
 
     said = io.StringIO()
     with replaced(planted, "tried", one_check), replaced(planted, "rounds", in_one), contextlib.redirect_stdout(said):
-        _, found = planted.told(one, [], edits, {one.name: planted.sum_for(one)}, commit)
+        _, found = planted.told(one, [], edits, {one.name: planted.sum_for(one)}, chosen)
     return found, said.getvalue()
 
 

@@ -25,9 +25,10 @@ It tries those of the gate (crates/NAME/planted) and with --more all others too 
 
 refused.txt beside this script has a sum of each crate whose bugs were all refused: of its files, its bugs and its lines
 in crates.txt, of what it can cite of the libraries below, of the toolchain and of this script. A library's bodies and
-proofs cannot be cited. Where the sum is the same, only a tenth of the crate's bugs is tried again. The commit chooses
-them, so each commit tries others. With --all every bug is tried. With --record, too, and a crate whose bugs are all
-refused gets its sum in that file. With --sums the sums of this run go into another file.
+proofs cannot be cited. Where the sum is the same, the crate's bugs are tried again only if the commit chooses that
+crate. It chooses as many crates as have a tenth of all bugs, and each commit chooses others: for one bug of each crate
+all libraries would be read. With --all every bug is tried. With --record, too, and a crate whose bugs are all refused
+gets its sum in that file. With --sums the sums of this run go into another file.
 
 With --list it tries nothing. It prints each bug with its clause and its sentence, the functions that it changes, and
 what it stands for beside them: an exported call that these functions serve (`guards`), a kind of mistake, a relation
@@ -59,7 +60,7 @@ from library import supervised  # noqa: E402
 # How long a check may take, and how long the proofs that it waits for may print nothing, in seconds.
 CHECK_SECONDS, SILENT_SECONDS = 3600, 7200
 
-# The sums of the crates whose planted bugs were all refused, and which part of their bugs is tried all the same.
+# The sums of the crates whose planted bugs were all refused, and which part of all bugs is tried all the same.
 REFUSED, TRIED_AGAIN = ROOT / "tools" / "refused.txt", 10
 # The files of a library's proofs/ that are of one function's proof: no other crate can cite them.
 UNCITED = ("Answers.antt", "Invariants.antt", "Proof.antt")
@@ -358,29 +359,34 @@ def tried(crate, room, known, texts, edits):
     return kinds
 
 
-def told(crate, known, edits, old, commit):
-    """Tries the planted bugs of a crate, or some where all were refused before. Returns the crate's sum, and how each
-    that was tried is refused."""
-    now, chosen = sum_for(crate), edits
+def told(crate, known, edits, old, chosen):
+    """Tries the planted bugs of a crate, but for those of one that is not chosen, where all were refused before. Returns
+    the crate's sum, and how each that was tried is refused."""
+    now = sum_for(crate)
     is_recorded = old.get(crate.name) == now
     if is_recorded:
-        chosen = tried_again(commit, crate, edits)
-        print(f"{crate.name}: {len(edits)} planted bugs were refused before; {len(chosen)} are tried again", flush=True)
+        again = "they are tried again" if crate.name in chosen else "none is tried again"
+        print(f"{crate.name}: {len(edits)} planted bugs were refused before; {again}", flush=True)
+        if crate.name not in chosen:
+            return now, []
     with tempfile.TemporaryDirectory(prefix="planted-") as name:
         room = pathlib.Path(name)
-        checks = rounds(crate.folder, chosen)
+        checks = rounds(crate.folder, edits)
         kinds = [kind for texts, taken in checks for kind in tried(crate, room, known, texts, taken)]
     if is_recorded and None in kinds:
         print(f"{crate.name}: FAILED: {REFUSED.name} says that its planted bugs are refused", flush=True)
     return now, kinds
 
 
-def tried_again(commit, crate, edits):
-    """Returns those of a crate's bugs, all refused before, that a commit chooses: a tenth, and one at least."""
-    def place(edit):
-        return hashlib.sha256(f"{commit} {crate.name}/{edit.name}".encode()).digest()
-
-    return sorted(edits, key=place)[: -(-len(edits) // TRIED_AGAIN)]
+def tried_again(commit, counts):
+    """Returns the crates that a commit chooses, by how many bugs each crate has: the first ones, in an order of its own,
+    that have a tenth of all bugs."""
+    chosen, left = set(), -(-sum(counts.values()) // TRIED_AGAIN)
+    for name in sorted(counts, key=lambda it: hashlib.sha256(f"{commit} {it}".encode()).digest()):
+        if left > 0:
+            chosen.add(name)
+            left -= counts[name]
+    return chosen
 
 
 def edits_of(folder, rooms, only):
@@ -576,8 +582,9 @@ def main():
         if edits and not words.behind:
             crate.build()
         work += [(crate, known, edits)] if edits else []
+    chosen = tried_again(commit, {crate.name: len(edits) for crate, _, edits in work})
     with concurrent.futures.ThreadPoolExecutor(words.jobs) as pool:
-        tries = {it[0].name: (pool.submit(told, *it, old, commit), len(it[2])) for it in in_turn(work, words.behind)}
+        tries = {it[0].name: (pool.submit(told, *it, old, chosen), len(it[2])) for it in in_turn(work, words.behind)}
         kinds, refused = collections.Counter(), {}
         for name, (it, number) in tries.items():
             now, found = it.result()
