@@ -123,7 +123,8 @@ impl SlotTable {
         requires few { count ≤ 4 }
         ensures { (s : slot.Slot) → slice_get self.now.slots variable ≡ Some s → result.now ≡ (near_list s).items }
     {
-        &self.gates[variable as usize][..count as usize]
+        let gates = &self.gates[variable as usize];
+        &gates[..count as usize]
     }
 
     /// Replaces the slot of a variable.
@@ -132,8 +133,9 @@ impl SlotTable {
         ensures slots { self.new.slots ≡ slice_set self.old.slots variable slot }
         ensures fitting { self.new.fitting ≡ self.old.fitting }
     {
+        let gates = slot.gates;
         self.counts[variable as usize] = slot.count;
-        self.gates[variable as usize] = slot.gates;
+        self.gates[variable as usize] = gates;
     }
 
     /// Makes room for one more slot.

@@ -7,8 +7,8 @@ index-requires c =
     let lt = rw (← c.self.view_is) at c.requires in
     omega (arith, lt, slots_length c.self.inside.counts.items c.self.inside.gates.items c.self.invariant)
 
-pub index-2-requires : goal.index-2-requires
-index-2-requires c =
+pub index-requires-2 : goal.index-requires-2
+index-requires-2 c =
     let lt = rw (← c.self.view_is) at c.requires in
     omega (arith, lt, slots_length c.self.inside.counts.items c.self.inside.gates.items c.self.invariant, c.self.invariant)
 

@@ -8,8 +8,8 @@ push_reserved-requires c =
     let room = rw (← c.self.view_is) at c.requires in
     omega (arith, room, slots_length c.self.inside.counts.items c.self.inside.gates.items c.self.invariant)
 
-pub push_reserved-2-requires : goal.push_reserved-2-requires
-push_reserved-2-requires c =
+pub push_reserved-requires-2 : goal.push_reserved-requires-2
+push_reserved-requires-2 c =
     let room = rw (← c.self.view_is) at c.requires in
     omega (arith, room, slots_length c.self.inside.counts.items c.self.inside.gates.items c.self.invariant, c.self.invariant)
 

@@ -8,8 +8,8 @@ index_mut-requires c =
     let lt = rw (← c.self.view_is) at c.requires in
     omega (arith, lt, slots_length c.self.inside.counts.items c.self.inside.gates.items c.self.invariant)
 
-pub index_mut-2-requires : goal.index_mut-2-requires
-index_mut-2-requires c =
+pub index_mut-requires-2 : goal.index_mut-requires-2
+index_mut-requires-2 c =
     let lt = rw (← c.self.view_is) at c.requires in
     omega (arith, lt, slots_length c.self.inside.counts.items c.self.inside.gates.items c.self.invariant, c.self.invariant)
 
