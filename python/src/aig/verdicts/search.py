@@ -199,7 +199,7 @@ class Search:
         folded = self.ask.aig("toaig", "--to", "aig", files=[abc.folded(one)])
         conflicts = f"-C {bounds.conflicts} " if bounds.conflicts else ""
         # It drops what the property and the constraints do not read, and merges no latches.
-        read = "read_aiger one.aig; logic; undc; strash; scleanup -c -e"
+        read = "read_aiger one.aig; scleanup -c -e; logic; undc; strash; scleanup -c -e"
         script = f"{read}; pdr -T {int(given)} {conflicts}-d -I inv.pla"
         ran, made = self.ask.tool([program, "-q", script], given, {"one.aig": folded}, "inv.pla")
         asserted = re.search(rb"was asserted in frame (\d{1,5})\b", ran.out)
