@@ -13,6 +13,7 @@ Tables:
   certified  aig / C++, formulas of certificates, beside `info` of the circuit, and memory beside `cnf --step`
   sizes      aig / C++, how conversions, frames and benches grow from 100,000 to 4,000,000 gates
   memory     the greatest resident sizes of both
+  limits     what the machine can do at all, and how far from it each kind of job is
   growth     circuit check, levels and order by the number of gates
   rewires    what a rewire costs by how far it reaches
   grids      both grids of cells side by side
@@ -35,6 +36,7 @@ import os
 import random
 import re
 import shutil
+import statistics
 import subprocess
 import sys
 import tempfile
@@ -73,20 +75,21 @@ class Programs:
 
     def tuned(self):
         """The C++ program. It is linked as `aig` is, without libraries that are found when it starts."""
-        source, program = BENCHMARKS + "/tuned/main.cpp", os.path.abspath("tuned")
-        supervised.run(["c++", "-O2", "-static", "-std=c++17", "-o", program, source], check=True)
-        return program
+        return self.compiled("tuned", BENCHMARKS + "/tuned/main.cpp")
+
+    def limits(self):
+        return self.compiled("limits", BENCHMARKS + "/tuned/limits.cpp")
 
     def drat2lrat(self):
-        return self.of_hints("drat2lrat")
+        return self.compiled("drat2lrat", REPOSITORY + "/tests/hints/drat2lrat.cpp")
 
     def lrat_check(self):
-        return self.of_hints("lrat_check")
+        return self.compiled("lrat_check", REPOSITORY + "/tests/hints/lrat_check.cpp")
 
     @staticmethod
-    def of_hints(name):
-        """A C++ program of the tests of proofs with hints."""
-        source, program = f"{REPOSITORY}/tests/hints/{name}.cpp", os.path.abspath(name)
+    def compiled(name, source):
+        """A program in C++."""
+        program = os.path.abspath(name)
         supervised.run(["c++", "-O2", "-static", "-std=c++17", "-o", program, source], check=True)
         return program
 
@@ -175,12 +178,14 @@ class Run:
         self.seconds = usage.ru_utime + usage.ru_stime
 
 
+def taken(times, *runs):
+    """The times of each of several runs, which take turns."""
+    return [*zip(*([Run(words).seconds for words in runs] for _ in range(times)))]
+
+
 def least(times, *runs):
     """The least time of each of several runs, which take turns."""
-    found = [float("inf")] * len(runs)
-    for _ in range(times):
-        found = [min(old, Run(words).seconds) for old, words in zip(found, runs)]
-    return found
+    return [*map(min, taken(times, *runs))]
 
 
 def counted(words):
@@ -246,7 +251,7 @@ def tuned_words(words):
 
 class Job:
     """The same work of both programs, beside work that is to be taken off, in so many units; and the ratio wished for.
-    `beside`: other work of `aig`, in place of the C++ program's."""
+    `beside`: the words of another run, in place of the C++ program's."""
 
     def __init__(self, name, shape, goal, words, idle=None, units=None, unit="ms", beside=None):
         self.name, self.shape, self.goal = name, shape, goal
@@ -256,7 +261,7 @@ class Job:
         """The runs of the C++ program and of `aig`, and then those whose work is taken off."""
         aig, runs = programs.get("aig"), []
         for words in [self.words()] + ([self.idle()] if self.idle else []):
-            other = [aig, *self.beside()] if self.beside else [programs.get("tuned"), *tuned_words(words)]
+            other = self.beside() if self.beside else [programs.get("tuned"), *tuned_words(words)]
             runs += [other, [aig, *words]]
         return runs
 
@@ -265,11 +270,12 @@ class Job:
         return [found[at] - (found[at + 2] if self.idle else 0) for at in range(2)]
 
     def measured(self, programs, times):
-        """The least time of the C++ program and of `aig`."""
+        """The times of the C++ program and of `aig`: the least ones, and the medians."""
         runs = self.runs(programs)
         if not self.beside:
             self.bytes = same(*runs[:2])
-        return self.net(least(times, *runs))
+        found = taken(times, *runs)
+        return self.net([*map(min, found)]), self.net([*map(statistics.median, found)])
 
     def shown(self, seconds):
         if self.unit == "ms":
@@ -287,6 +293,52 @@ def binary(programs, text):
     return text + ".aig"
 
 
+def text_form(programs, circuit):
+    """A binary file as text."""
+    if not os.path.exists(circuit + ".aag"):
+        Run([programs.get("tuned"), "toaag", circuit], "part")
+        os.rename("part", circuit + ".aag")
+    return circuit + ".aag"
+
+
+# The channels of the large design that Yosys makes a circuit of: some 100,000 gates.
+CHANNELS = 200
+
+
+def synthesized():
+    """The circuit that Yosys makes of a large design, in the binary format, with its names."""
+    design = "large.v"
+    if not os.path.exists(design):
+        Run([sys.executable, f"{REPOSITORY}/python/tests/designs/large.py", CHANNELS], "part")
+        os.rename("part", design)
+    return circuit_of("large", design)
+
+
+ABC = "berkeley-abc"
+
+
+def given_back(programs):
+    """A binary file that ABC gives back byte for byte but for the comment, and the command by which it does."""
+    def rewritten(name):
+        """What ABC makes of a file, without the comment that ABC writes."""
+        Run([ABC, "-q", f"&r -s {name}; &w back.aig"])
+        with open("back.aig", "rb") as file:
+            whole = file.read()
+        end = whole.rindex(b"\nThis file was produced by the GIA")
+        return whole[:whole.rindex(b"cn\0", 0, end)]
+
+    name = "abc.aig"
+    if not os.path.exists(name):
+        first = binary(programs, load("circuit", "random", *SOURCES, MILLION))
+        with open("abc.part", "wb") as file:
+            file.write(rewritten(first))
+        os.rename("abc.part", name)
+    with open(name, "rb") as file:
+        if rewritten(name) != file.read():
+            sys.exit("ABC does not give its own file back")
+    return name, [ABC, "-q", f"&r -s {name}; &w back.aig"]
+
+
 def conversions(programs):
     """Text and binary files of a million gates, names and comments."""
     goals = {("aag", "aag"): 1.05, ("aag", "aig"): 1.0, ("aig", "aag"): 1.0, ("aig", "aig"): 1.05}
@@ -296,6 +348,13 @@ def conversions(programs):
         text = load(*load_words)
         return ["toaig", "--to", to, text if form == "aag" else binary(programs, text)]
 
+    if shutil.which("yosys"):
+        for (form, to), goal in goals.items():
+            def designed(form=form, to=to):
+                made = synthesized()
+                return ["toaig", "--to", to, made if form == "aig" else text_form(programs, made)]
+
+            yield Job(f"{words[form]} to {words[to]}", f"made by Yosys, {CHANNELS} channels", goal, designed)
     for (form, to), goal in goals.items():
         for shape in ("random", "chain", "wide", "shuffled"):
             yield Job(f"{words[form]} to {words[to]}", shape, shuffled[to] if shape == "shuffled" else goal,
@@ -373,11 +432,15 @@ def bad(circuit):
 
 
 def others(programs):
-    """Work that the C++ program has not."""
+    """Work that is not beside the C++ program."""
     for shape in ("random", "shuffled"):
         circuit = load("circuit", shape, *SOURCES, MILLION)
         yield Job("info, beside toaig --to aag", shape, 1.05, lambda circuit=circuit: ["info", circuit],
-                  beside=lambda circuit=circuit: ["toaig", "--to", "aag", circuit])
+                  beside=lambda circuit=circuit: [programs.get("aig"), "toaig", "--to", "aag", circuit])
+    if shutil.which(ABC):
+        yield Job("binary to binary, beside ABC", "random, as ABC writes it", 1.0,
+                  lambda: ["toaig", "--to", "aig", given_back(programs)[0]],
+                  beside=lambda: given_back(programs)[1])
 
 
 def all_jobs(programs):
@@ -386,8 +449,9 @@ def all_jobs(programs):
 
 def measure_jobs(programs, jobs, times):
     for job in jobs:
-        tuned, ours = job.measured(programs, times)
-        row(job.name, job.shape, job.shown(tuned), job.shown(ours), f"{ours / tuned:.2f}", f"{job.goal:.2f}")
+        (tuned, ours), (tuned_median, our_median) = job.measured(programs, times)
+        row(job.name, job.shape, job.shown(tuned), job.shown(ours), f"{ours / tuned:.2f}",
+            f"{our_median / tuned_median:.2f}", f"{job.goal:.2f}")
 
 
 def ratios(programs, chosen):
@@ -395,7 +459,7 @@ def ratios(programs, chosen):
     if chosen.list:
         print(*(f"{job.name} ({job.shape})" for job in jobs), sep="\n")
         return
-    head("Beside the C++ program (processor time).", "job", "shape", "C++", "aig", "aig / C++", "goal")
+    head("Beside the C++ program (processor time).", "job", "shape", "C++", "aig", "aig / C++", "by medians", "goal")
     measure_jobs(programs, jobs, chosen.times)
 
 
@@ -415,7 +479,7 @@ def picked(jobs, chosen):
 
 def goals(programs, chosen):
     """One job of each kind."""
-    head("Beside the C++ program (processor time).", "job", "load", "C++", "aig", "aig / C++", "goal")
+    head("Beside the C++ program (processor time).", "job", "load", "C++", "aig", "aig / C++", "by medians", "goal")
     measure_jobs(programs, picked(of_each_kind(programs), chosen), chosen.times)
     changing_wave(programs, chosen.times)
 
@@ -439,7 +503,7 @@ def changing_wave(programs, times):
     Run(words[0], "dump")
     whole, none = least(times, *words)
     each = (whole - none) / os.path.getsize("dump") * 1e9
-    row("wave, 1,000 inputs that change", "2,000 frames", "", f"{each:.2f} ns a byte", "", "2.50 ns")
+    row("wave, 1,000 inputs that change", "2,000 frames", "", f"{each:.2f} ns a byte", "", "", "2.50 ns")
 
 
 # ---- edits
@@ -484,23 +548,25 @@ class Edits:
                    self.count, "µs")
 
     def times(self, times):
-        """The time of an edit, of the C++ program and of `aig`."""
-        return [seconds / self.count for seconds in self.job("").measured(self.programs, times)]
+        """The least and the median time of an edit, of the C++ program and of `aig`."""
+        return [[seconds / self.count for seconds in both] for both in self.job("").measured(self.programs, times)]
 
 
 def edits(programs, chosen):
     head(f"Edits of {EDITED_FRAMES} frames (processor time an edit; touched cells an edit).", "load", "kind", "gates",
-         "edits", "touched", "C++", "aig", "a touched cell: C++", "a touched cell: aig", "aig / C++", "goal")
+         "edits", "touched", "C++", "aig", "a touched cell: C++", "a touched cell: aig", "aig / C++", "by medians",
+         "goal")
     for kind, *cipher in CIPHERS:
         if chosen.shapes not in kind:
             continue
         for name in (name for name in EDITS if chosen.jobs in name):
             measured = Edits(programs, cipher, name)
-            tuned, ours = measured.times(chosen.times)
+            (tuned, ours), (tuned_median, our_median) = measured.times(chosen.times)
             cells = measured.cells()
             each = [f"{time / cells * 1e9:.1f} ns" if cells else "" for time in (tuned, ours)]
             row(name, kind, f"{measured.gates:,}", f"{measured.count:,}", f"{cells:,.0f}", microseconds(tuned),
-                microseconds(ours), *each, f"{ours / tuned:.2f}", f"{EDITS[name]:.2f}")
+                microseconds(ours), *each, f"{ours / tuned:.2f}", f"{our_median / tuned_median:.2f}",
+                f"{EDITS[name]:.2f}")
 
 
 # The circuits of the plot: copies of a cipher, bits of half its state, rounds.
@@ -528,9 +594,9 @@ def verilog(circuit):
 def anew(programs, circuit, rows, gates):
     """Yields the ways to simulate a circuit anew: their names, and their words."""
     yield "aig sim", [programs.get("aig"), "sim", circuit, rows]
-    if shutil.which("berkeley-abc"):
+    if shutil.which(ABC):
         script = f"&read {binary(programs, circuit)}; &sim -F {EDITED_FRAMES} -W 1"
-        yield "ABC, &sim", ["berkeley-abc", "-q", script]
+        yield "ABC, &sim", [ABC, "-q", script]
     if gates <= MOST_OF_ICARUS and all(map(shutil.which, ("yosys", "iverilog"))):
         compiled = circuit + ".vvp"
         Run(["iverilog", "-g2012", "-o", compiled, "-s", "bench", verilog(circuit)])
@@ -550,7 +616,7 @@ def plot(programs, chosen):
     for kind, ciphers in PLOTTED.items():
         for cipher in ciphers:
             measured = Edits(programs, cipher, "bits")
-            for name, seconds in zip(("an edit, C++", "an edit, aig bench"), measured.times(chosen.times)):
+            for name, seconds in zip(("an edit, C++", "an edit, aig bench"), measured.times(chosen.times)[0]):
                 note(name, kind, measured.gates, seconds)
             if kind == "sparse":
                 for name, words in anew(programs, *measured.words, measured.gates):
@@ -576,7 +642,7 @@ def making():
 
 def benches(programs, chosen):
     """Making a bench: its circuit, and its frames."""
-    head("Making a bench (processor time).", "job", "load", "C++", "aig", "aig / C++", "goal")
+    head("Making a bench (processor time).", "job", "load", "C++", "aig", "aig / C++", "by medians", "goal")
     measure_jobs(programs, making(), chosen.times)
 
 
@@ -680,6 +746,44 @@ def memory(programs, _):
         row(name, *(f"{size / 1e6:.0f} MB" for size in sizes))
 
 
+def limits(programs, chosen):
+    """What the machine can do at all, and how far from it each kind of job is."""
+    text, gates, frames = load("circuit", "random", *SOURCES, MILLION), MILLION, 100
+    packed = binary(programs, text)
+
+    def machine_of(file):
+        return printed(chosen.times, [programs.get("limits"), file])
+
+    found = machine_of(text)
+    head("What the machine can do (processor time).", "what", "nanoseconds")
+    for name, number in found.items():
+        row(name.replace("_", " "), f"{number:,.2f}")
+
+    def seconds(job):
+        return job.measured(programs, chosen.times)[0][1] / (job.units or 1)
+
+    def pages(words):
+        """The time of as many new pages as the run has."""
+        return resident([programs.get("aig"), *words]) / 4096 * found["new_page"] * 1e-9
+
+    head("How far from it each kind of job is.", "job", "limit", "of what", "aig", "aig / limit")
+    for name, file in (("text to text", text), ("binary to binary", packed)):
+        words = ["toaig", "--to", "aag" if file == text else "aig", file]
+        job = Job(name, "random", 1, lambda words=words: words)
+        limit = machine_of(file)["read_a_file"] * 1e-9 + pages(words)
+        took = seconds(job)
+        row(name, milliseconds(limit), "reading the file, and new pages", milliseconds(took), f"{took / limit:.1f}")
+    job = next(it for it in simulations(programs) if it.name == f"sim, frames alone, {gates:,} gates")
+    limit, took = 12 * found["copy_a_byte"], seconds(job) * 1e9
+    row(job.name, f"{limit:.2f} ns a gate", "12 bytes a gate, as copying goes", f"{took:.2f} ns", f"{took / limit:.1f}")
+    measured = Edits(programs, ("dense", 1, 64, 156)[1:], "bits")
+    (_, took), _ = measured.times(chosen.times)
+    took = took / measured.cells() * 1e9
+    limit = found["miss_that_overlaps"]
+    row("an edit, dense, 99,840 gates", f"{limit:.2f} ns an event", "one miss that overlaps with others",
+        f"{took:.2f} ns", f"{took / limit:.1f}")
+
+
 # ---- proofs
 
 # Designs whose assertion at this position holds within so many frames.
@@ -691,8 +795,9 @@ def circuit_of(name, design):
     """The circuit that Yosys makes of a design."""
     file = f"{name}.flow.aig"
     if not os.path.exists(file):
-        Run(["yosys", "-q", "-p", f"read_verilog -sv -formal {design}; prep -flatten -top {name}; memory_map; opt -full; "
-             f"techmap; opt -fast; dffunmap; abc -g AND -fast; opt_clean; write_aiger -symbols {file}"])
+        Run(["yosys", "-q", "-p", f"read_verilog -sv -formal {design}; prep -flatten -top {name}; "
+             f"chformal -cover -remove; memory_map; opt -full; techmap; opt -fast; dffunmap; abc -g AND -fast; opt_clean; "
+             f"write_aiger -symbols {file}"])
     return file
 
 
@@ -993,7 +1098,7 @@ def compare(programs, chosen):
 # ---- command line
 
 TABLES = {made.__name__: made for made in (goals, counts, ratios, edits, benches, refute, hints, certified, sizes, memory,
-                                           growth, rewires, grids, plot, compare)}
+                                           limits, growth, rewires, grids, plot, compare)}
 
 
 def machine(programs, chosen):
