@@ -14,8 +14,8 @@ pub contains_at : (xs : List ℕ) (j x : ℕ) → slice_get xs j ≡ Some x → 
 contains_at xs j x at = (j, slice_get_within xs j x at, get_or_from_slice_get xs j x _ at)
 
 module _ (xs : List ℕ) where
-  pub links_none : (b : Buckets) → Links (Among xs 0) b b
-  links_none b = record {
+  pub links_none : (head : List ℕ) (w : WaitingVariables) → LinksIn (Among xs 0) head w head w
+  links_none head w = record {
     heads = refl;
     kept = λ l none. refl;
     levels = refl;

@@ -1,5 +1,5 @@
 use Rattle.std.proofs.Common.{◌≡◌, ◌≢◌, ◌∙◌, ◌<◌, inl, inr, ℕ, List, ap, false, length, refl, sym, subst, Some, slice_get}
-use Rattle.std.proofs.Common.{arith, get_or-set_other}
+use Rattle.std.proofs.Common.{arith, get_or, get_or-set_other}
 use Rattle.std.proofs.lemmas.List.{get_or_default, length-map, length-set}
 use Rattle.std.proofs.lemmas.Option.{slice_get_read}
 use Rattle.aig_base.specs.state.Marks.{IsMarked}
@@ -9,8 +9,8 @@ use Rattle.aig_bench.proofs.queues.Chained.{linked, linked_queued, first_within}
 use Rattle.aig_bench.proofs.queues.Slots.{entered, level_read, rests, waits}
 use Rattle.aig_bench.proofs.propagate.link.link.Goals as goal
 
-pub index-requires : goal.index-requires
-index-requires c =
+pub bounds-slots-variable : goal.bounds-slots-variable
+bounds-slots-variable c =
     let (levels, h, fits) = c.requires in
     omega (arith, length-map c.args.slots.now next_of, h.chained.next_size, fits.inside)
 
@@ -20,8 +20,8 @@ returns-then-slot-clause-links c =
     let slots = c.args.slots.now in
     let v = c.args.variable in
     let lt : v < length slots = omega (arith, length-map slots next_of, h.chained.next_size, fits.inside) in
-    let at = slice_get_read slots (length slots) v c.index.result.now refl lt c.index.ensures in
-    let mark = waits slots v c.index.result.now at c.if-slot.true in
+    let at = slice_get_read slots (length slots) v c.index-slots-variable.result refl lt c.index-slots-variable.is in
+    let mark = waits slots v c.index-slots-variable.result at c.if-slot.true in
     record {
       heads = refl;
       kept = λ l none. refl;
@@ -39,9 +39,9 @@ push_first-second-requires-clause-level c =
     let slots = c.args.slots.now in
     let v = c.args.variable in
     let lt : v < length slots = omega (arith, length-map slots next_of, h.chained.next_size, fits.inside) in
-    let at = slice_get_read slots (length slots) v c.index.result.now refl lt c.index.ensures in
-    fits.level _ (subst (λ (ls : List ℕ). slice_get ls v ≡ Some c.index.result.now.level) h.levels_are
-    (level_read slots v c.index.result.now at))
+    let at = slice_get_read slots (length slots) v c.index-slots-variable.result refl lt c.index-slots-variable.is in
+    fits.level _ (subst (λ (ls : List ℕ). slice_get ls v ≡ Some c.index-slots-variable.result.level) h.levels_are
+    (level_read slots v c.index-slots-variable.result at))
 
 pub push_first-second-requires-clause-first : goal.push_first-second-requires-clause-first
 push_first-second-requires-clause-first c = let (levels, h, fits) = c.requires in λ z. omega (arith, fits.positive, z)
@@ -52,8 +52,8 @@ push_first-second-requires-clause-room c = let (levels, h, fits) = c.requires in
 pub push_first-second-requires-clause-occupied : goal.push_first-second-requires-clause-occupied
 push_first-second-requires-clause-occupied c = let (levels, h, fits) = c.requires in h.occupied
 
-pub index_mut-requires : goal.index_mut-requires
-index_mut-requires c =
+pub bounds-slots-variable-else-slot : goal.bounds-slots-variable-else-slot
+bounds-slots-variable-else-slot c =
     let (levels, h, fits) = c.requires in
     omega (arith, length-map c.args.slots.now next_of, h.chained.next_size, fits.inside)
 
@@ -63,12 +63,12 @@ returns-clause-queues c levels h =
     let slots = c.args.slots.now in
     let head = c.args.head.now in
     let v = c.args.variable in
-    let level = c.index.result.now.level in
+    let level = c.index-slots-variable.result.level in
     let second = c.push_first-second.result in
     let s = c.push_first-second.ensures in
     let lt : v < length slots = omega (arith, length-map slots next_of, k.chained.next_size, fit.inside) in
-    let read = slice_get_read slots (length slots) v c.index.result.now refl lt c.index.ensures in
-    let at = subst (λ (ls : List ℕ). slice_get ls v ≡ Some level) h.levels_are (level_read slots v c.index.result.now read) in
+    let read = slice_get_read slots (length slots) v c.index-slots-variable.result refl lt c.index-slots-variable.is in
+    let at = subst (λ (ls : List ℕ). slice_get ls v ≡ Some level) h.levels_are (level_read slots v c.index-slots-variable.result read) in
     let fits = subst (λ (ls : List ℕ). CanBeQueued ls (length head) v) (sym k.levels_are ∙ h.levels_are) fit in
     let below = fits.level _ at in
     let is = s.before ∙ get_or_default head level second 0 below in
@@ -77,9 +77,9 @@ returns-clause-queues c levels h =
       | inr less ↦ omega (arith, is, less, h.sizes, h.few)
     ] in
     subst (λ (m : WaitingVariables). AreQueues levels c.push_first-second.new.head m c.push_first-second.new.occupied)
-    (sym (entered slots v _ false c.index_mut.ensures.value second some)) (record {
+    (sym (entered slots v _ false (ap (get_or slots v) c.index-slots-variable-2.is) second some)) (record {
       chained = rw s.head (linked levels _ _ _ h.chained v level second at below fits.positive s.before
-          (rests slots v c.index.result.now read c.if-slot.false));
+          (rests slots v c.index-slots-variable.result read c.if-slot.false));
       levels_are = h.levels_are;
       sizes = rw s.head (length-set _ _ _ ∙ h.sizes ∙ sym (length-set head level v));
       few = rw s.head (omega (arith, h.few, length-set head level v));
@@ -93,12 +93,12 @@ returns-clause-links c =
     let slots = c.args.slots.now in
     let head = c.args.head.now in
     let v = c.args.variable in
-    let level = c.index.result.now.level in
+    let level = c.index-slots-variable.result.level in
     let second = c.push_first-second.result in
     let s = c.push_first-second.ensures in
     let lt : v < length slots = omega (arith, length-map slots next_of, h.chained.next_size, fits.inside) in
-    let read = slice_get_read slots (length slots) v c.index.result.now refl lt c.index.ensures in
-    let here = level_read slots v c.index.result.now read in
+    let read = slice_get_read slots (length slots) v c.index-slots-variable.result refl lt c.index-slots-variable.is in
+    let here = level_read slots v c.index-slots-variable.result read in
     let at = subst (λ (ls : List ℕ). slice_get ls v ≡ Some level) h.levels_are here in
     let below = fits.level _ at in
     let is = s.before ∙ get_or_default head level second 0 below in
@@ -107,7 +107,7 @@ returns-clause-links c =
       | inr less ↦ omega (arith, is, less, h.sizes, h.few)
     ] in
     subst (λ (m : WaitingVariables). LinksIn (λ u. u ≡ v) head (view_of slots false) c.push_first-second.new.head m)
-    (sym (entered slots v _ false c.index_mut.ensures.value second some)) (record {
+    (sym (entered slots v _ false (ap (get_or slots v) c.index-slots-variable-2.is) second some)) (record {
       heads = ap length s.head ∙ length-set _ _ _;
       kept = λ l none.
           let ne = λ (e : l ≡ level). none v refl (here ∙ ap Some (sym e)) in
@@ -115,5 +115,5 @@ returns-clause-links c =
       levels = refl;
       sides = refl;
       queued = linked_queued levels _ _ _ h.chained v level second at below fits.positive s.before
-          (rests slots v c.index.result.now read c.if-slot.false);
+          (rests slots v c.index-slots-variable.result read c.if-slot.false);
     })
