@@ -4,7 +4,7 @@
 use Rattle.std.specs.Prelude.{◌≡◌, ℕ, List, [], Result, Ok, Err}
 use Rattle.aig_parts.specs.declared.raw.Raw.{Raw}
 use Rattle.aig_parts.specs.declared.ternary.Tern.{Tern}
-use Rattle.aig_cnf.specs.Alive.{HasAliveFormula, RefusesAlive}
+use Rattle.aig_cnf.specs.Alive.{HasAliveFormula, RefusesAlive, always_bad}
 use Rattle.aig_cnf.specs.declared.fault.CnfFault.{CnfFault}
 use Rattle.aig_sat.specs.model.ModelText.{IsModelOf}
 use Rattle.aig_sat.specs.declared.model.fault.ModelFault.{ModelFault}
@@ -33,8 +33,8 @@ WritesKept k values raw (Err _) text = ⊥
 pub data WritesAliveModel (k : ℕ) (model : List ℕ) (raw : Raw) : Result (Unit {0}) RunFault → List ℕ → Type 0 where
   no_formula : (fault : CnfFault) → RefusesAlive raw k fault
       → WritesAliveModel k model raw (Err (run_faults.Cnf fault)) []
-  no_model : (fault : ModelFault) → HasAliveFormula raw k → RefusesModel (variable_count raw k) model fault
+  no_model : (fault : ModelFault) → HasAliveFormula raw k → RefusesModel (variable_count (always_bad raw) k) model fault
       → WritesAliveModel k model raw (Err (run_faults.Model fault)) []
   names : (values : List Tern) (answer : Result (Unit {0}) RunFault) (text : List ℕ) → HasAliveFormula raw k
-      → IsModelOf (variable_count raw k) model values → WritesKept k values raw answer text
+      → IsModelOf (variable_count (always_bad raw) k) model values → WritesKept k values raw answer text
       → WritesAliveModel k model raw answer text

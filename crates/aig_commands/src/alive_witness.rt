@@ -3,7 +3,7 @@ ghost use Rattle.std.specs.Prelude.{◌≡◌, ◌∷◌, ◌≤◌, ◌<◌, []
 ghost use Rattle.aig_base.specs.Circuit.{IsCircuit};
 ghost use Rattle.aig_bytes.specs.Bytes.{Writes};
 ghost use Rattle.aig_bytes.specs.Flow.{flow};
-ghost use Rattle.aig_cnf.specs.Alive.{HasAliveFormula, RefusesAlive};
+ghost use Rattle.aig_cnf.specs.Alive.{HasAliveFormula, RefusesAlive, always_bad};
 ghost use Rattle.aig_command.specs.Command.{CommandEnds};
 ghost use Rattle.aig_commands.specs.AliveWitness.{WritesAliveModel, WritesKept};
 ghost use Rattle.aig_commands.specs.ModelWitness.{variable_count};
@@ -24,7 +24,7 @@ use std::alloc::Global;
 /// How many variables the formula has.
 fn variables_of(alloc: Global, circuit: &Circuit, frames: u32) -> Result<u32, CnfFault>
     ensures accepted { OnOk result (HasAliveFormula circuit.now frames) }
-    ensures count { IfOk result (λ count. count ≡ variable_count circuit.now frames) }
+    ensures count { IfOk result (λ count. count ≡ variable_count (always_bad circuit.now) frames) }
     ensures few { IfOk result (λ count. count ≤ 2147483648) }
     ensures refused { IfErr result (RefusesAlive circuit.now frames) }
 {

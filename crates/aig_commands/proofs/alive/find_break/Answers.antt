@@ -4,7 +4,7 @@ use Rattle.aig_commands.specs.CheckAlive.{SaysOfRun}
 use Rattle.aig_commands.proofs.AliveRuns.{says_of_run, spelled_fits}
 use Rattle.aig_commands.proofs.alive.find_break.Goals as goal
 
-pub first_break-requires-clause-start : goal.first_break-found-requires-clause-start
+pub first_break-requires-clause-start : goal.first_break-requires-clause-start
 first_break-requires-clause-start c =
     (spelled_fits c.args.circuit.now c.args.witness.now _ _ c.in_ok-run.ensures.spelled).latches
 

@@ -6,6 +6,7 @@ use Rattle.aig_command.proofs.Written.{ends_map, got_none}
 use Rattle.aig_command.specs.Command.{CommandEnds}
 use Rattle.aig_command.specs.declared.run_fault.RunFault.TheVariants as run_faults
 use Rattle.aig_sat.specs.model.ModelText.{IsModelOf}
+use Rattle.aig_cnf.specs.Alive.{always_bad}
 use Rattle.aig_commands.specs.AliveWitness.{WritesAliveModel, WritesKept}
 use Rattle.aig_commands.specs.ModelWitness.{RefusesModel, variable_count}
 use Rattle.aig_commands.proofs.alive_witness.read_model_and_write.Goals as goal
@@ -17,8 +18,8 @@ returns g c =
     let model' = c.args.model.now in
     let values' = c.as_slice.result.now in
     let e = c.in_ok-variables.ensures in
-    let is : IsModelOf (variable_count raw k) model' values' =
-    subst (λ (values : List Tern). IsModelOf (variable_count raw k) model' values) (sym c.as_slice.ensures)
+    let is : IsModelOf (variable_count (always_bad raw) k) model' values' =
+    subst (λ (values : List Tern). IsModelOf (variable_count (always_bad raw) k) model' values) (sym c.as_slice.ensures)
     (subst (λ n. IsModelOf n model' c.in_ok-values.values) e.count c.in_ok-values.ensures.values) in
     ends_map (flow g.W.Write.written g.W.Write.failures c.args.out.now c.find_and_write.new.out) run_faults.Output
     (WritesKept k values' raw) (WritesAliveModel k model' raw)
