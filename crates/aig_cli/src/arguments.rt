@@ -163,7 +163,7 @@ pub const CHECKED_FRAMES: Argument = Argument {
     name: "K",
     help: "With --alive, for how many frames (default: all of\nthe witness)",
     kind: Kind::Number("frames"),
-    need: Need::With("alive", &[]),
+    need: Need::With("alive", &["P", "trace"]),
 };
 
 pub const FRAMES: Argument = Argument {
