@@ -47,7 +47,7 @@ def as_text(it):
 
 def signals_of(it):
     """The signals that a line names."""
-    return [it["signal"]] * ("signal" in it) + it.get("causes", []) + it.get("latches", [])
+    return [it["signal"] for name in it if name == "signal"] + it.get("causes", []) + it.get("latches", [])
 
 
 def entry_line(it):

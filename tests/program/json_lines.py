@@ -40,7 +40,7 @@ def json_lines(program, tally, _):
     at_random(rows, tally)
 
 
-def says(rows, tally, name, words, wanted, **files):
+def says(rows, tally, name, words, wanted, /, **files):
     """The objects say what lines of text say. Python writes each of them as the same bytes."""
     for file, content in files.items():
         write(file, content)
@@ -72,7 +72,7 @@ def names(rows, tally):
 
 def quoted(rows):
     """Names with quotes and backslashes, which are bits of one vector."""
-    rows.gives("a name to escape", "why --json --of b0 circuit rows",
+    rows.gives("a name to escape", ["why", "--json", "--of", '"\\', "circuit", "rows"],
                r'{"line":"asked","frame":0,"name":"\"\\","value":"1","by":0,"causes":'
                r'[{"letter":"i","position":0,"name":"a\"\\","value":"1?"}]}' "\n",
                circuit='aag 2 2 0 0 0 1\n2\n4\n4\ni0 a"\\[0]\ni1 a"\\[1]\nb0 "\\\n', rows="01\n")
