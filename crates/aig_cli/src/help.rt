@@ -165,14 +165,14 @@ does, whatever the verdict is.
 With --property, check accepts only a witness of this property, and rejects any
 other with status 1: confirmed then says that property P is reached.
 
-With --alive, check answers whether the run keeps all constraints at the frames 0
-to K - 1, whatever the properties are. The verdict is the first of these:
+With --alive, check answers whether the run keeps all constraints at the frames
+0 to K - 1, whatever the properties are. The verdict is the first of these:
   initial P       as above
   constraint T P  as above, at a frame T before K
   frames N        the witness has only N frames, fewer than K
   alive           the run keeps them, whatever value each x takes
-The exit status is 0 for alive, and 1 for any other verdict. The circuit needs no
-bad state property, and the witness may name any. See witness --alive.
+The exit status is 0 for alive, and 1 for any other verdict. The circuit needs
+no bad state property, and the witness may name any. See witness --alive.
 
 A witness has the line 1, a line b with a position (such as b0), a line with the
 latch values, a line with the input values for each frame, and a last line with
@@ -353,9 +353,10 @@ and shows why the certificate is wrong. The witness is one of the circuit that
 aig strengthen writes: of one frame if a start breaks a claim, of two if a step
 does. aig check --trace of it shows which claim is broken.
 
-With --alive, the model is one of the formula of aig cnf --alive. The witness has
-all K frames and the property 0, which CIRCUIT need not have. aig check --alive
-accepts it. If the run does not keep all constraints, witness fails: no run.
+With --alive, the model is one of the formula of aig cnf --alive. The witness
+has all K frames and the property 0, which CIRCUIT need not have. aig check
+--alive accepts it. If its run does not keep all constraints, witness fails: no
+run.
 
 Example: aig witness examples/wraps.aag examples/wraps.stim > wraps.wit
 Example: aig witness --model examples/wraps.model --frames 4 examples/wraps.aag
