@@ -325,7 +325,18 @@ symbol, a vector such as q for q[0] and q[1], another word of a symbol, an entry
 such as l3, or a literal; ! before it negates it. VALUE is as in Verilog, with ?
 for a bit that is not named.
 
-With --json, each line is an object of JSON instead: see the manual page.
+With --json, each line is an object of JSON instead, with those of these members
+that apply:
+  line         which line it is: asked, latches, not explained, reset or start
+  frame        the frame of its left side
+  name, value  NAME and VALUE of what was asked for
+  signal       the latches on its left side
+  by           the frame of the causes
+  causes       the CAUSES, as an array
+  latches      what a last line names, as an array
+A signal and an element of an array have the members letter, position, name and
+value. A value has one letter per bit, the last bit first: 0, 1, x or ?. Its
+last letter is that of the entry at the position in its section.
 
 Use aig reduce first: a run with fewer values has a shorter explanation.
 
