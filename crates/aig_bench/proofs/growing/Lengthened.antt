@@ -13,13 +13,13 @@ use Rattle.aig_base.specs.Sound.{IsSound}
 use Rattle.aig_base.proofs.circuits.Circuits.{next_in_range}
 use Rattle.aig_bench.specs.declared.propagate.buckets.Buckets.{Buckets}
 use Rattle.aig_bench.specs.declared.propagate.latch_readers.LatchReaders.{LatchReaders}
-use Rattle.aig_bench.specs.state.Buckets.{AreBuckets, IsBucketChain, IsQueued}
+use Rattle.aig_bench.specs.state.Buckets.{AreBuckets, AreQueues, IsBucketChain, IsQueued}
 use Rattle.aig_bench.specs.state.Latches.{AreLatchReaders, TakesNextFrom, IsLast}
 use Rattle.aig_parts.specs.Formed.{limit}
 use Rattle.aig_parts.specs.state.Bits.{HasBit}
 use Rattle.aig_parts.proofs.BitLemmas.{same_bits}
 use Rattle.aig_bench.specs.state.LevelSet.{IsLevelSet}
-use Rattle.aig_bench.specs.state.Waiting.{idle}
+use Rattle.aig_bench.specs.state.Waiting.{WaitingVariables, idle}
 use Rattle.aig_bench.proofs.queues.Chained.{head_in}
 
 module _ (words filled : List ℕ) (level : ℕ) (i : IsLevelSet words filled) (low : level ≤ limit) where
@@ -79,16 +79,16 @@ module _ (levels : List ℕ) (b : Buckets) (h : AreBuckets levels b) (empty : (v
       of l [] leads none = leads
       of l (x ∷ xs) leads none = absurd (none x (head_in x xs))
 
-  pub buckets_longer : (level : ℕ) (new : Buckets) → length b.head.items < 64 * length b.occupied → length b.head.items ≤ limit
-      → new.head.items ≡ b.head.items ++ 0 ∷ []
-      → new.marks.next ≡ b.marks.next ++ idle ∷ [] → new.marks.items ≡ b.marks.items ++ false ∷ []
-      → new.marks.levels ≡ b.marks.levels ++ level ∷ [] → new.occupied ≡ b.occupied
-      → AreBuckets (levels ++ level ∷ []) new
-  buckets_longer level new room few eh en em el eo =
+  pub buckets_longer : (level : ℕ) (head : List ℕ) (marks : WaitingVariables) (words : List ℕ)
+      → length b.head.items < 64 * length b.occupied → length b.head.items ≤ limit → head ≡ b.head.items ++ 0 ∷ []
+      → marks.next ≡ b.marks.next ++ idle ∷ [] → marks.items ≡ b.marks.items ++ false ∷ []
+      → marks.levels ≡ b.marks.levels ++ level ∷ [] → words ≡ b.occupied
+      → AreQueues (levels ++ level ∷ []) head marks words
+  buckets_longer level head marks words room few eh en em el eo =
       let size = length-append levels (level ∷ []) in
-      let zero_now : (l : ℕ) → get_or new.head.items l 0 ≡ 0 =
+      let zero_now : (l : ℕ) → get_or head l 0 ≡ 0 =
       λ l. ap (λ (xs : List ℕ). get_or xs l 0) eh ∙ get_or_pushed b.head.items l ∙ head_zero l in
-      let none = unmarked_pushed b.marks.items new.marks.items em empty in
+      let none = unmarked_pushed b.marks.items marks.items em empty in
       let longer = length-append b.head.items (0 ∷ []) in
       record {
         chained = record {

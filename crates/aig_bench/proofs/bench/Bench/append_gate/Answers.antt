@@ -152,7 +152,7 @@ invariant_of-self-2 g c =
     let now = ready_grown driven c.make_room.new.fanouts c.make_room.new.pending _ _ r c.args.r0 c.args.r1 a.gate a.cells
     (g.G.Grid.cells c.add_gate.new.self) (g.G.Grid.cells c.evaluate_new.new.grid) c.last_gate-gate.result is
     c.add_gate.ensures.cells
-    more.frames more.rows c.append_gate.new.circuit _ _ _ _ _ e levels c.in_ok-append_gate.ensures.readers
+    more.frames more.rows c.append_gate.new.circuit _ _ _ c.add_variable-2.new.self _ e levels c.in_ok-append_gate.ensures.readers
     (readers_longer raw c.args.r0 c.args.r1 r.working.bench.driven_is.circuit.sound _ c.add_variable.new.self
     r.lists.readers
     c.add_variable.ensures.last c.add_variable.ensures.before c.add_variable.ensures.read)
