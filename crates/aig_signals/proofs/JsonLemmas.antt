@@ -1,12 +1,26 @@
 -- Strings and arrays of JSON, piece by piece.
-use Rattle.std.proofs.Common.{◌≡◌, ℕ, zero, suc, ◌+◌, ◌<◌, ◌≤◌, Bool, true, false, List, [], ◌∷◌, ◌++◌, length, get_or}
-use Rattle.std.proofs.Common.{set, take, drop, refl, sym, ap, ◌∙◌, arith, append_assoc, append-nil}
-use Rattle.std.specs.Prelude.{flat_map, ◌==◌, ◌||◌, ◌/◌, ◌%◌, nat_lt}
+use Rattle.std.proofs.Common.{◌≡◌, ℕ, zero, suc, ◌+◌, ◌<◌, ◌≤◌, true, false, List, [], ◌∷◌, ◌++◌, length, get_or}
+use Rattle.std.proofs.Common.{map, set, Some, take, drop, inl, inr, refl, sym, ap, ◌∙◌, arith, append_assoc, append-nil}
+use Rattle.std.specs.Prelude.{flat_map, decimal, slice_get, ◌==◌, ◌||◌, ◌/◌, ◌%◌, nat_lt}
+use Rattle.std.specs.Str.{IsUtf8, is_utf8}
+use Rattle.std.proofs.lemmas.Bool.{cases_Bool}
+use Rattle.std.proofs.lemmas.Str.{IsUtf8-from_is_utf8}
 use Rattle.std.proofs.lemmas.Grind.{flat_map-append}
 use Rattle.std.proofs.lemmas.List.{flat_map_more, take_more, take_all, drop_all}
-use Rattle.aig_signals.specs.Json.{array_text, comma_before, string_byte}
+use Rattle.aig_signals.specs.Json.{array_text, comma_before, name_text, string_byte, string_text}
 use Rattle.aig_signals.specs.Value.{hexadecimal_digit}
 use Rattle.aig_signals.specs.state.Json.{opened}
+
+-- an element that is there
+pub there_at : {X : Type 0} (xs : List X) (i : ℕ) → i < length xs → (x : X) × (slice_get xs i ≡ Some x)
+there_at [] i lt = absurd (omega (arith, lt))
+there_at (x ∷ xs) zero lt = (x, refl)
+there_at (x ∷ xs) (suc i) lt = there_at xs i (omega (arith, lt))
+
+-- one piece after the other
+pub adds_then : (old mid new first second : List ℕ) → mid ≡ old ++ first → new ≡ mid ++ second → new ≡ old ++ (first ++ second)
+adds_then old mid new first second before after =
+    after ∙ ap (λ (t : List ℕ). t ++ second) before ∙ append_assoc old first second
 
 -- one byte more of a string
 pub bytes_more : (f : ℕ → List ℕ) (start before now bytes : List ℕ) (i : ℕ) → i < length bytes → now ≡ before ++ f (get_or bytes i 0)
@@ -88,3 +102,20 @@ string_control b h k = rw (h, k) refl
 
 pub string_plain : (b : ℕ) → (b == 34 || b == 92) ≡ false → nat_lt b 32 ≡ false → b ∷ [] ≡ string_byte b
 string_plain b h k = rw (h, k) refl
+
+-- how a name is written
+pub name_string : (name : List ℕ) (b : ℕ) (bs : List ℕ) → name ≡ b ∷ bs → is_utf8 name ≡ true → string_text name ≡ name_text name
+name_string [] b bs is text = absurd (cc is)
+name_string (c ∷ cs) b bs is text = rw text refl
+
+other_name : (b : ℕ) (bs : List ℕ) → is_utf8 (b ∷ bs) ≡ false → array_text (map decimal (b ∷ bs)) ≡ name_text (b ∷ bs)
+other_name b bs h = rw h refl
+
+pub name_array : (name : List ℕ) (b : ℕ) (bs : List ℕ) → name ≡ b ∷ bs → (IsUtf8 name → ⊥)
+    → array_text (map decimal (b ∷ bs)) ≡ name_text name
+name_array [] b bs is not_text = absurd (cc is)
+name_array (c ∷ cs) b bs is not_text = elim (cases_Bool (is_utf8 (c ∷ cs))) [
+  | inl text ↦ absurd (not_text (IsUtf8-from_is_utf8 (c ∷ cs) text))
+  | inr other ↦
+      ap (λ (xs : List ℕ). array_text (map decimal xs)) (sym is) ∙ other_name c cs other
+]

@@ -35,10 +35,7 @@ fn put(
 }
 
 /// A table of these texts, of which nothing was found yet.
-fn table_of(
-    alloc: Global,
-    texts: &[&str],
-) -> Result<IndexMap<Vec<u8>, Found, NameHash>, Memory>
+fn table_of(alloc: Global, texts: &[&str]) -> Result<IndexMap<Vec<u8>, Found, NameHash>, Memory>
     ensures { IfOk result (λ table. (x : List ℕ) → IfSome (get_by (λ key. bytes_eq x key.items) table)
         (λ now. now ≡ found.Nothing)) }
 {

@@ -1,5 +1,3 @@
-use Rattle.std.proofs.Common.{sym}
-use Rattle.aig_signals.specs.state.Naming.{AreNamed}
 use Rattle.aig_signals.proofs.NamingLemmas.{sorted_naming}
 use Rattle.aig_signals.proofs.naming.SectionNaming.push_objects.Goals as goal
 

@@ -13,18 +13,18 @@ pub loop-place-init : goal.loop-place-init
 loop-place-init c =
     words_start (λ s. 44 ∷ signal_object c.args.values.now s) c.args.signals.now c.args.values.now c.args.named.now c.args.text.now.items
 
-pub signal_at-requires : goal.signal_at-requires
-signal_at-requires c =
+pub signal_at-signal-requires : goal.signal_at-signal-requires
+signal_at-signal-requires c =
     number_within c.args.signals.now c.args.values.now c.args.named.now c.requires.neighbours c.requires.named
     (get_or c.args.named.now c.loop-place.place 0) (Contains-get_or c.args.named.now c.loop-place.place 0 c.loop-place-test.true)
 
 pub bits_of-requires-clause-order : goal.bits_of-requires-clause-order
 bits_of-requires-clause-order c =
-    (signal_within c.args.signals.now c.args.values.now _ c.signal_at.result.now c.requires.neighbours c.signal_at.ensures).0
+    (signal_within c.args.signals.now c.args.values.now _ c.signal_at-signal.result.now c.requires.neighbours c.signal_at-signal.ensures).0
 
 pub bits_of-requires-clause-end : goal.bits_of-requires-clause-end
 bits_of-requires-clause-end c =
-    (signal_within c.args.signals.now c.args.values.now _ c.signal_at.result.now c.requires.neighbours c.signal_at.ensures).1
+    (signal_within c.args.signals.now c.args.values.now _ c.signal_at-signal.result.now c.requires.neighbours c.signal_at-signal.ensures).1
 
 pub loop-place-preserved-then-is_repeated : goal.loop-place-preserved-then-is_repeated
 loop-place-preserved-then-is_repeated c =
@@ -34,12 +34,12 @@ loop-place-preserved-then-is_repeated c =
 
 pub loop-place-preserved : goal.loop-place-preserved
 loop-place-preserved c =
-    let s = c.signal_at.result.now in
+    let s = c.signal_at-signal.result.now in
     let word = signal_object c.args.values.now s in
     words_written c.args.signals.now c.args.values.now c.args.named.now c.requires.neighbours c.requires.named c.requires.sorted
     (λ s. 44 ∷ signal_object c.args.values.now s) c.args.text.now.items c.loop-place.place c.loop-place.text.items
     c.loop-place.invariant s (get_or c.args.named.now c.loop-place.place 0) _ c.loop-place-test.true refl
-    (sym c.is_repeated.ensures ∙ c.if-is_repeated.false) c.signal_at.ensures
+    (sym c.is_repeated.ensures ∙ c.if-is_repeated.false) c.signal_at-signal.ensures
     (c.in_ok-push_signal.ensures
     ∙ ap (λ (bits : List (Option Tern)). c.push.new.self.items ++ signal_with bits s) c.bits_of.ensures
     ∙ ap (λ (xs : List ℕ). xs ++ word) c.in_ok-push.ensures.items ∙ append_assoc c.loop-place.text.items (44 ∷ []) word)

@@ -1,4 +1,4 @@
-use Rattle.std.proofs.Common.{ℕ, List}
+use Rattle.std.proofs.Common.{ℕ, List, ◌∙◌}
 use Rattle.std.specs.Map.Iter.{deref_pair}
 use Rattle.std.proofs.lemmas.Map.Iter.{rest_all, rest_more}
 use Rattle.aig_parts.specs.declared.symbols.Kind.{Kind}
@@ -7,7 +7,8 @@ use Rattle.aig_signals.proofs.WantedLemmas.{all_looked, look_begin, look_step}
 use Rattle.aig_signals.proofs.property.wanted.look_at_all.Goals as goal
 
 pub loop-entry-init : goal.loop-entry-init
-loop-entry-init c x = look_begin (kind_of c.args.section) x c.args.circuit.now.symbols _ (c.requires x)
+loop-entry-init c x = look_begin (kind_of c.args.section) x c.args.circuit.now.symbols c.into_iter-entry-iterator.result _
+    (c.into_iter-entry-iterator.ensures.into_iter_gives ∙ c.iter-entry-items.ensures.entries ∙ c.symbols.ensures) (c.requires x)
 
 pub loop-entry-preserved : goal.loop-entry-preserved
 loop-entry-preserved c x =
