@@ -1,14 +1,13 @@
 -- Strings and arrays of JSON, piece by piece.
 use Rattle.std.proofs.Common.{◌≡◌, ℕ, zero, suc, ◌+◌, ◌<◌, ◌≤◌, true, false, List, [], ◌∷◌, ◌++◌, length, get_or}
 use Rattle.std.proofs.Common.{map, set, Some, take, drop, inl, inr, refl, sym, ap, ◌∙◌, arith, append_assoc, append-nil}
-use Rattle.std.specs.Prelude.{flat_map, decimal, slice_get, ◌==◌, ◌||◌, ◌/◌, ◌%◌, nat_lt}
+use Rattle.std.specs.Prelude.{flat_map, decimal, slice_get}
 use Rattle.std.specs.Str.{IsUtf8, is_utf8}
 use Rattle.std.proofs.lemmas.Bool.{cases_Bool}
 use Rattle.std.proofs.lemmas.Str.{IsUtf8-from_is_utf8}
 use Rattle.std.proofs.lemmas.Grind.{flat_map-append}
 use Rattle.std.proofs.lemmas.List.{flat_map_more, take_more, take_all, drop_all}
-use Rattle.aig_signals.specs.Json.{array_text, comma_before, name_text, string_byte, string_text}
-use Rattle.aig_signals.specs.Value.{hexadecimal_digit}
+use Rattle.aig_signals.specs.Json.{array_text, comma_before, name_text, string_text}
 use Rattle.aig_signals.specs.state.Json.{opened}
 
 -- an element that is there
@@ -91,17 +90,6 @@ array_whole old first second third new n xs ys rest size is_first is_second is_t
         ∙ ap (λ (t : List ℕ). take (length old) t ++ opened (drop (length old) t)) second_is
         ∙ ap (λ (t : List ℕ). t ++ opened (drop (length old) (old ++ all))) (take_front old all)
         ∙ ap (λ (t : List ℕ). old ++ opened t) (drop_front old all)
-
--- how a byte is written in a string
-pub string_quoted : (b : ℕ) → (b == 34 || b == 92) ≡ true → 92 ∷ b ∷ [] ≡ string_byte b
-string_quoted b h = rw h refl
-
-pub string_control : (b : ℕ) → (b == 34 || b == 92) ≡ false → nat_lt b 32 ≡ true
-    → 92 ∷ 117 ∷ 48 ∷ 48 ∷ hexadecimal_digit (b / 16) ∷ hexadecimal_digit (b % 16) ∷ [] ≡ string_byte b
-string_control b h k = rw (h, k) refl
-
-pub string_plain : (b : ℕ) → (b == 34 || b == 92) ≡ false → nat_lt b 32 ≡ false → b ∷ [] ≡ string_byte b
-string_plain b h k = rw (h, k) refl
 
 -- how a name is written
 pub name_string : (name : List ℕ) (b : ℕ) (bs : List ℕ) → name ≡ b ∷ bs → is_utf8 name ≡ true → string_text name ≡ name_text name
