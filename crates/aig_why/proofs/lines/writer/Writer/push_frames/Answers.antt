@@ -5,8 +5,8 @@ use Rattle.aig_why.proofs.FrameLemmas.{naming_with}
 use Rattle.aig_why.proofs.WholeLemmas.{frame_added, no_frames}
 use Rattle.aig_why.proofs.lines.writer.Writer.push_frames.Goals as goal
 
-pub loop-self-init : goal.loop-self-init
-loop-self-init g c = record {
+pub loop-form-init : goal.loop-form-init
+loop-form-init g c = record {
   bench = c.requires.bench;
   end = c.requires.end;
   last = c.requires.last;
@@ -22,19 +22,19 @@ loop-self-init g c = record {
 }
 
 pub push_frame-requires-clause-some : goal.push_frame-requires-clause-some
-push_frame-requires-clause-some g c = omega (arith, c.goes_on.ensures.above c.loop-self-test.true)
+push_frame-requires-clause-some g c = omega (arith, c.goes_on.ensures.above c.loop-form-test.true)
 
 pub push_frame-requires-clause-of : goal.push_frame-requires-clause-of
 push_frame-requires-clause-of g c =
     let (raw, of) = c.requires.of in
-    (raw, naming_with raw c.args.bench.now.pair c.args.self.now.naming c.loop-self.self.naming of c.loop-self.invariant.same)
+    (raw, naming_with raw c.args.bench.now.pair c.args.self.now.naming c.loop-form.self.naming of c.loop-form.invariant.same)
 
-pub loop-self-preserved : goal.loop-self-preserved
-loop-self-preserved g c =
+pub loop-form-preserved : goal.loop-form-preserved
+loop-form-preserved g c =
     let p = c.args.bench.now.pair in
-    let was = c.loop-self.invariant in
+    let was = c.loop-form.invariant in
     let now = c.in_ok-push_frame.ensures in
-    let above : c.args.last < c.loop-self.explanation.frame = c.goes_on.ensures.above c.loop-self-test.true in
+    let above : c.args.last < c.loop-form.explanation.frame = c.goes_on.ensures.above c.loop-form-test.true in
     record {
       bench = now.bench;
       end = now.end;
@@ -48,17 +48,17 @@ loop-self-preserved g c =
       come = λ raw of literals h.
           let (frames, come, count, adds) = was.come raw of literals h in
           let (lines, come_more, adds_more) =
-          now.come raw (naming_with raw p c.args.self.now.naming c.loop-self.self.naming of was.same) literals frames come in (
+          now.come raw (naming_with raw p c.args.self.now.naming c.loop-form.self.naming of was.same) literals frames come in (
             lines ∷ frames,
             come_more,
             omega (arith, count, now.frame),
-            frame_added c.args.form raw p c.loop-self.explanation.frame c.push_frame.new.explanation.frame lines frames c.args.self.now.text.items
-                c.loop-self.self.text.items c.push_frame.new.self.text.items now.frame adds adds_more,
+            frame_added c.args.form raw p c.loop-form.explanation.frame c.push_frame.new.explanation.frame lines frames c.args.self.now.text.items
+                c.loop-form.self.text.items c.push_frame.new.self.text.items now.frame adds adds_more,
           );
     }
 
 pub returns-clause-come : goal.returns-clause-come
-returns-clause-come g c = c.loop-self.invariant.come
+returns-clause-come g c = c.loop-form.invariant.come
 
 pub returns-clause-ends : goal.returns-clause-ends
-returns-clause-ends g c = c.goes_on.ensures.ends (λ on. false≢true (sym c.loop-self-test.false ∙ on))
+returns-clause-ends g c = c.goes_on.ensures.ends (λ on. false≢true (sym c.loop-form-test.false ∙ on))

@@ -7,8 +7,8 @@ use Rattle.aig_why.specs.Named.{IsNamingOf, NamesNothing}
 use Rattle.aig_why.specs.state.Naming.{Adds, HasSameSignals}
 use Rattle.aig_why.proofs.lines.writer.Writer.push_frames.Given as goal
 
-abbrev pub invariant-loop-self : goal.invariant-loop-self
-invariant-loop-self g l = record {
+abbrev pub invariant-loop-form : goal.invariant-loop-form
+invariant-loop-form g l = record {
   bench : IsOf l.bench.pair l.explanation;
   end : l.explanation.end ≡ 0;
   last : l.last ≤ l.explanation.frame;
@@ -22,5 +22,5 @@ invariant-loop-self g l = record {
       × Adds (AreFrameTexts l.form raw (moment l.bench.pair l.explanation.frame) frames) l.initial.self.text.items l.self.text.items;
 }
 
-abbrev pub decreases-loop-self : goal.decreases-loop-self
-decreases-loop-self g l = l.explanation.frame
+abbrev pub decreases-loop-form : goal.decreases-loop-form
+decreases-loop-form g l = l.explanation.frame
