@@ -407,6 +407,9 @@ KINDS_OF_PROOFS = (
      "the formula has 10 variables, and this step names variable 128", SAME),
 )
 
+# Input 2 is a constraint, and there is no bad state property.
+KEPT = "aag 1 1 0 0 0 0 1\n2\n2\n"
+
 SAME_MODEL = "it has to be of the formula of aig cnf for the same K, P, CIRCUIT and --step"
 
 # A model of the formula of examples/bad_input for one frame; the fault; the lines that explain it.
@@ -553,6 +556,11 @@ def solvers(rows):
     for name, model, text, *lines in MODELS:
         rows.row(f"a model, {name}", ["witness", "--frames", "1", "--model", write("f", model), "bad_input"],
                  f"model: {text}", lines)
+    rows.row("a model of --alive, a variable that the formula does not have",
+             ["witness", "--alive", "--frames", "1", "--model", write("f", "-1 -99 0\n"), write("kept", KEPT)],
+             "model: text at 3", ["line 1, column 4: found `-99`",
+                                  "its variable is not one of the formula, or its negation is named before",
+                                  "it has to be of the formula of aig cnf --alive for the same K and CIRCUIT"])
 
 
 def variables(rows):

@@ -73,8 +73,8 @@ fn explain_text<R: Files + AllocGlobal>(
 // The variables of the formula and of that of its step, if the word that is refused may be of neither.
 fn variables_of<R: Files + AllocGlobal>(look: &Look<'_, R>, walk: &Walk) -> Option<(u64, u64)> {
     let files = look.files;
-    // The variables of a certificate's formula are counted with the certificate's own.
-    if !is_literal(walk) || files.certificate.is_some() {
+    // The formulas of a certificate and of constraints are those of another circuit.
+    if !is_literal(walk) || files.certificate.is_some() || files.alive {
         return None;
     }
     match look.bytes(files.circuit) {
