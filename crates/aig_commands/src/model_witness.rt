@@ -122,8 +122,10 @@ fn answer<W: Write>(
 /// run by which an induction fails. For a certificate it is one of the strengthened circuit, which has one property.
 /// Nothing is written if a file or the model is rejected, there is no such formula, or no frame reaches the property.
 /// One does if the model makes a literal of each clause of the formula of `Question::Within` true
-/// (`law_of_partial_models` of `aig_refute`). A witness is of a property, so for `Question::Alive` there is none, with
-/// the fault `CnfFault::Property`.
+/// (`law_of_partial_models` of `aig_refute`).
+///
+/// For `Question::Alive` it is the witness of property 0 with all frames of the run, if that keeps all constraints:
+/// `check_alive` accepts it. Otherwise nothing is written.
 pub fn model_witness<W: Write>(
     alloc: Global,
     file: &[u8],
