@@ -109,6 +109,33 @@ fn are_many(values: usize, frames: u32) -> bool {
     values.saturating_mul(frames as usize) > FEW
 }
 
+/// Gives inputs their values at the frames from the first up to the end at once, if they are many. Returns whether it
+/// did: with few values, or without memory for a copy of the rows, nothing changes.
+fn set_many(
+    alloc: Global,
+    bench: &mut Bench<PlaneGrid>,
+    first: u32,
+    end: u32,
+    positions: &[u32],
+    values: &[Tern],
+) -> bool
+    requires order { first ≤ end }
+    requires within { end ≤ length bench.old.pair.rows }
+    requires positions { All (λ p. p < length bench.old.pair.circuit.inputs) positions.now }
+    requires size { length values.now ≡ length positions.now }
+    ensures done { IsTrue result →
+        Leads bench.old.pair (set_edits first (end - first) positions.now values.now) bench.new.pair }
+    ensures kept { (IsTrue result → ⊥) → bench.new ≡ bench.old }
+{
+    if !are_many(values.len(), end - first) {
+        return false;
+    }
+    match set_at_once(alloc, bench, first, end, positions, values) {
+        Ok(()) => true,
+        Err(_) => false,
+    }
+}
+
 /// Gives inputs their values at the frames from the first up to the end, which is none of them.
 fn set_frames(
     alloc: Global,
@@ -124,12 +151,8 @@ fn set_frames(
     requires size { length values.now ≡ length positions.now }
     ensures { Leads bench.old.pair (set_edits first (end - first) positions.now values.now) bench.new.pair }
 {
-    if are_many(values.len(), end - first) {
-        match set_at_once(alloc, bench, first, end, positions, values) {
-            Ok(()) => return,
-            // Without memory for a copy of the rows it takes longer.
-            Err(_) => {}
-        }
+    if set_many(alloc, bench, first, end, positions, values) {
+        return;
     }
     set_one_by_one(bench, first, end, positions, values);
 }

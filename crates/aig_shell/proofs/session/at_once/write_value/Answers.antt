@@ -7,5 +7,7 @@ use Rattle.aig_shell.proofs.session.at_once.write_value.Goals as goal
 
 pub returns-clause-leads : goal.returns-clause-leads
 returns-clause-leads c = λ raw size.
-    leads_one _ _ _ (bit_allowed _ _ _ _ c.requires.frame (omega (arith, c.requires.position, size)))
+    leads_one _ _ _
+    (bit_allowed (with_rows raw c.args.stimulus.now.rows) c.args.frame c.args.position c.args.value c.requires.frame
+    (omega (arith, c.requires.position, size)))
     (ap (λ (s : InputRows). with_rows raw s.rows) c.set.ensures)
