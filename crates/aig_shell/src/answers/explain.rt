@@ -82,14 +82,7 @@ impl Session {
             (run_of self.now.run.bench.pair) question.now.name question.now.literals frames.first frames.last text.items) }
     {
         let naming = Naming::new(self.alloc, self.circuit())?;
-        text_of(
-            self.alloc,
-            &self.run,
-            naming,
-            question,
-            frames,
-            Form::Text,
-        )
+        text_of(self.alloc, &self.run, naming, question, frames, Form::Text)
     }
 
     /// Adds the lines that explain a question at a frame. A run can have many more lines than are shown, and each takes

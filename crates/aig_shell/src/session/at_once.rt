@@ -38,13 +38,7 @@ fn write_row(stimulus: &mut Stimulus, frame: u32, positions: &[u32], values: &[T
 }
 
 /// Gives inputs their values at the frames from the first up to the end, which is none of them.
-fn write_rows(
-    stimulus: &mut Stimulus,
-    first: u32,
-    end: u32,
-    positions: &[u32],
-    values: &[Tern],
-)
+fn write_rows(stimulus: &mut Stimulus, first: u32, end: u32, positions: &[u32], values: &[Tern])
     requires order { first ≤ end }
     requires within { end ≤ length stimulus.old.rows }
     requires positions { All (λ p. p < stimulus.old.width) positions.now }

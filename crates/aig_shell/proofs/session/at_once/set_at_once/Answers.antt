@@ -9,7 +9,7 @@ use Rattle.aig_shell.proofs.session.at_once.set_at_once.Goals as goal
 pub write_rows-requires-clause-within : goal.write_rows-requires-clause-within
 write_rows-requires-clause-within c =
     let same : length c.in_ok-rows.rows.rows ≡ length c.args.bench.now.pair.rows
-        = ap (λ (s : InputRows). length s.rows) c.in_ok-rows.ensures ∙ ap length c.stimulus.ensures.rows in
+    = ap (λ (s : InputRows). length s.rows) c.in_ok-rows.ensures ∙ ap length c.stimulus.ensures.rows in
     omega (arith, same, c.requires.within)
 
 pub write_rows-requires-clause-positions : goal.write_rows-requires-clause-positions
