@@ -39,7 +39,7 @@ Environment:
 
 Exit status:
   0  done
-  1  the input was rejected, or the verdict is not confirmed
+  1  the input was rejected, or the verdict is neither confirmed nor alive
   2  wrong arguments, or a request for help or for the version
   3  out of memory, or an input or output error
 
