@@ -2,7 +2,7 @@
 """Draws pictures of the pages, each of what is in the repository:
 
 - docs/verdict.svg, of README.md: the assertion that fails, on the page examples/queue.verdicts/index.html
-- docs/wave.svg, of docs/FORMATS.md: the run of examples/counter.aag over examples/counter.stim
+- docs/wave.svg, of examples/README.md: the run of examples/counter.aag over examples/counter.stim
 - docs/checks.svg, of docs/PERFORMANCE.md: the table of proofs with hints
 
 Without --write it compares, and fails where a picture is not the one that it would draw. tools/edges.py draws

@@ -1,4 +1,4 @@
-"""The scripts of docs/FORMATS.md that make witnesses and proofs, as they stand there."""
+"""The scripts of docs/FORMATS.md and of examples/README.md that make witnesses and proofs, as they stand there."""
 
 import os
 import re
@@ -11,8 +11,8 @@ from library.supervised import SCRIPT_SECONDS
 
 def script(start):
     """The block of shell that begins with these bytes."""
-    document = contents(REPOSITORY + "/docs/FORMATS.md").decode()
-    return re.search(rf"(?ms)^```sh\n({re.escape(start)}.*?)^```$", document)[1]
+    documents = "".join(contents(f"{REPOSITORY}/{name}").decode() for name in ("docs/FORMATS.md", "examples/README.md"))
+    return re.search(rf"(?ms)^```sh\n({re.escape(start)}.*?)^```$", documents)[1]
 
 
 def shell(program, text):

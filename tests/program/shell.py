@@ -93,10 +93,11 @@ class Sessions:
         self.tally.compare(f"shell: {name}", ended._replace(out=said), Ended(0, out.encode(), b""))
 
     def transcripts(self):
-        for command, session in steps("docs/SESSION.md"):
-            lines, said = commands_of(session)
-            ended = self.run(lines, *command.split()[2:])
-            self.tally.compare(f"shell: docs/SESSION.md: {command}", ended, Ended(0, said.encode(), b""))
+        for document in ("docs/SESSION.md", "crates/aig_shell/README.md"):
+            for command, session in steps(document):
+                lines, said = commands_of(session)
+                ended = self.run(lines, *command.split()[2:])
+                self.tally.compare(f"shell: {document}: {command}", ended, Ended(0, said.encode(), b""))
         verdict = self.program.run("check", "queue.aig", "data.wit")
         self.tally.compare("shell: the witness that is kept", verdict, Ended(0, b"confirmed\n", b""))
 

@@ -1,4 +1,4 @@
-"""Runs of Yosys designs to bad states that ABC finds, each made a witness by the recipe of docs/FORMATS.md: each is
+"""Runs of Yosys designs to bad states that ABC finds, each made a witness by the recipe of examples/README.md: each is
 confirmed. Then the same with one input value turned at a time: where the plain simulator of library/reference.py finds
 the constraints and the bad state at 1 in that run too, it is confirmed, else it is not. Other designs have
 uninitialised latches: a queue that overflows, and a memory whose bad states need some of them at 1 and some at 0. Their
