@@ -2,7 +2,9 @@
 use Rattle.std.proofs.Common.{◌≡◌, inl, inr, ℕ, zero, suc, ◌<◌, List, [], ◌∷◌, ◌++◌, None, Some, slice_get, ◌≢◌}
 use Rattle.std.proofs.Common.{length, subst, Contains, refl, sym, ap, ◌∙◌, arith}
 use Rattle.std.specs.Prelude.{All, true, Ok, Err, codes}
+use Rattle.std.specs.Char.{encode_utf8}
 use Rattle.std.specs.Fmt.{digits}
+use Rattle.std.specs.Str.{chars, is_utf8}
 use Rattle.std.proofs.lemmas.List.Elements.{All-cons, All-nil}
 use Rattle.aig_parts.specs.declared.fault.Fault.TheVariants as circuits
 use Rattle.aig_parts.specs.declared.gate.Gate.{Gate}
@@ -127,7 +129,7 @@ named_entries = refl
 json_entries : entries_text Json (record one_input { bad = 3 ∷ []; symbols = ((Bad, 0), 104 ∷ 255 ∷ []) ∷ [] })
     ≡ codes "{\"letter\":\"i\",\"position\":0,\"literal\":2,\"name\":null}\n"
     ++ codes "{\"letter\":\"b\",\"position\":0,\"literal\":3,\"name\":[104,255]}\n"
-unfolding digits entries_text entry_line entry_lines symbol_name_at
+unfolding chars digits encode_utf8 entries_text entry_line entry_lines is_utf8 symbol_name_at
 json_entries = refl
 
 -- `aag 1 1 0 1 0/2/3/` from outputs: `aag 1 1 0 0 0 1/2/3/`
