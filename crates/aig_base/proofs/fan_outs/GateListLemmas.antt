@@ -10,7 +10,7 @@ use Rattle.std.proofs.lemmas.Option.{slice_get_read, slice_get_within, slice_get
 use Rattle.smallvec.specs.SmallVec.{SmallVec}
 use Rattle.aig_base.specs.declared.readers.slot_table.Slot.{Slot}
 use Rattle.aig_base.specs.Readers.{GateList}
-use Rattle.aig_base.specs.state.GateLists.{AreSlots, GetsRoom, IsFar, far_list, near_list, position, slot_list}
+use Rattle.aig_base.specs.state.GateLists.{AreSlots, GetsRoom, IsFar, far_list, near_list, no_gates, position, slot_list}
 use Rattle.aig_base.specs.state.ReaderSlots.{capacity_at, items_at, no_list, with_items_at}
 use Rattle.aig_base.proofs.lists.Gets.{slice_get-set_same, slice_get-set_other, slice_get_push}
 
@@ -58,6 +58,12 @@ pub slot_at : (far : List GateList) (slots : List Slot) (v : ℕ) (s : Slot) →
     → s ≡ get_or slots v s → slice_get slots v ≡ Some s
 slot_at far slots v s lt read =
     slice_get_read slots (length slots) v s refl (let e = length-map slots (slot_list far) in omega arith) read
+
+-- the slot that is there
+pub slot_there : (far : List GateList) (slots : List Slot) (v : ℕ) → v < length (map (slot_list far) slots)
+    → slice_get slots v ≡ Some (get_or slots v no_gates)
+slot_there far slots v lt =
+    slice_get-get_or slots v no_gates (let e = length-map slots (slot_list far) in omega arith)
 
 -- it has four gates at most if it is not far
 pub slot_few : (far : List GateList) (slots : List Slot) (v : ℕ) (s : Slot) → slice_get slots v ≡ Some s

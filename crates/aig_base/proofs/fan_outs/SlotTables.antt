@@ -5,7 +5,7 @@ use Rattle.std.proofs.lemmas.Option.{none-some, same_Some}
 use Rattle.aig_base.specs.declared.readers.slot_table.Slot.{Slot}
 use Rattle.aig_base.specs.state.GateLists.{slots_of}
 
-abbrev slot : ℕ → List ℕ → Slot
+abbrev pub slot : ℕ → List ℕ → Slot
 slot c g = record { count = c; gates = g }
 
 pub slots_length : (cs : List ℕ) (gs : List (List ℕ)) → length cs ≡ length gs → length (slots_of cs gs) ≡ length cs
@@ -27,6 +27,14 @@ slot_gates [] gs v g s at f = absurd (none-some s at)
 slot_gates (x ∷ cs) [] v g s at f = absurd (none-some s at)
 slot_gates (x ∷ cs) (y ∷ gs) zero g s at f = f ∙ ap (λ (z : Slot). z.gates) (same_Some (slot x y) s at)
 slot_gates (x ∷ cs) (y ∷ gs) (suc v) g s at f = slot_gates cs gs v g s at f
+
+-- the count of a slot
+pub slot_count : (cs : List ℕ) (gs : List (List ℕ)) (v c : ℕ) (s : Slot) → slice_get (slots_of cs gs) v ≡ Some s
+    → c ≡ get_or cs v c → c ≡ s.count
+slot_count [] gs v c s at f = absurd (none-some s at)
+slot_count (x ∷ cs) [] v c s at f = absurd (none-some s at)
+slot_count (x ∷ cs) (y ∷ gs) zero c s at f = f ∙ ap (λ (z : Slot). z.count) (same_Some (slot x y) s at)
+slot_count (x ∷ cs) (y ∷ gs) (suc v) c s at f = slot_count cs gs v c s at f
 
 pub slots_set : (cs : List ℕ) (gs : List (List ℕ)) (v c : ℕ) (g : List ℕ)
     → slots_of (set cs v c) (set gs v g) ≡ set (slots_of cs gs) v (slot c g)

@@ -99,11 +99,11 @@ impl GateLists {
         requires { variable < length self.now.slots }
         ensures { result.now ≡ items_at self.now.slots variable }
     {
-        let slot = self.slots.get(variable);
-        if slot.is_far() {
-            return self.far[slot.position()].as_slice();
+        let count = self.slots.count(variable);
+        if count == FAR {
+            return self.far[self.slots.get(variable).position()].as_slice();
         }
-        self.slots.near(variable, slot.count)
+        self.slots.near(variable, count)
     }
 
     /// Adds a gate to the list of a variable, which has room.
@@ -113,12 +113,11 @@ impl GateLists {
             ≡ with_items_at self.old.slots variable (items_at self.old.slots variable ++ gate ∷ []) }
         ensures fitting { self.new.fitting ≡ self.old.fitting }
     {
-        let mut slot = self.slots.get(variable);
-        if slot.is_far() {
-            self.far[slot.position()].push_reserved(gate);
+        let count = self.slots.count(variable);
+        if count == FAR {
+            self.far[self.slots.get(variable).position()].push_reserved(gate);
         } else {
-            slot.push(gate);
-            self.slots.set(variable, slot);
+            self.slots.push_near(variable, count, gate);
         }
     }
 
@@ -146,12 +145,12 @@ impl GateLists {
         ensures refused { OnErr result (4 ≤ length (items_at self.old.slots variable)) }
         ensures fitting { self.new.fitting ≡ self.old.fitting }
     {
+        if self.slots.count(variable) < NEAR as u8 {
+            return Ok(());
+        }
         let slot = self.slots.get(variable);
         if slot.is_far() {
             return double_full(&mut self.far[slot.position()]);
-        }
-        if slot.count < NEAR as u8 {
-            return Ok(());
         }
         let moved = keep_far(self.slots.allocator(), &slot.gates, &mut self.far)?;
         self.slots.set(variable, moved);

@@ -1,6 +1,6 @@
 //! For each variable the list of gates that it has in place, or where it is. The counts have a table of their own, so
 //! the four gates of a variable are 16 bytes that never lie across two lines of a cache.
-ghost use Rattle.std.specs.Prelude.{◌≡◌, ◌+◌, ◌<◌, ◌≤◌, [], ◌∷◌, ◌++◌, length, replicate, swap_remove};
+ghost use Rattle.std.specs.Prelude.{◌≡◌, ◌+◌, ◌<◌, ◌≤◌, [], ◌∷◌, ◌++◌, length, replicate, swap_remove, take};
 ghost use Rattle.std.specs.Prelude.{IfOk, IsTrue, ◌↔◌, OnOk, Some, slice_get, slice_index_or, slice_set};
 ghost use Rattle.aig_base.specs.declared.readers.slot_table.Slot as slot;
 ghost use Rattle.aig_base.specs.state.GateLists.{near_list, no_gates, position};
@@ -40,16 +40,6 @@ impl Slot {
         self.gates[0] as usize
     }
 
-    /// Adds a gate after those in place.
-    pub fn push(&mut self, gate: u32)
-        requires { self.old.count < 4 }
-        ensures items { (near_list self.new).items ≡ (near_list self.old).items ++ gate ∷ [] }
-        ensures count { self.new.count ≡ self.old.count + 1 }
-    {
-        self.gates[self.count as usize] = gate;
-        self.count += 1;
-    }
-
     /// Takes out the gate at a place; the last one moves there.
     pub fn swap_remove(&mut self, place: usize)
         requires few { self.old.count ≤ 4 }
@@ -60,6 +50,17 @@ impl Slot {
         self.count -= 1;
         self.gates[place] = self.gates[self.count as usize];
     }
+}
+
+// Puts a gate after so many in place, and says how many there are then.
+fn put_near(gates: &mut [u32; NEAR], count: u8, gate: u32) -> u8
+    requires { length (take count gates.old) < 4 }
+    ensures items { take result gates.new ≡ take count gates.old ++ gate ∷ [] }
+    ensures count { (result ≡ count + 1) × (count < 4) }
+    ensures long { length gates.new ≡ 4 }
+{
+    gates[count as usize] = gate;
+    count + 1
 }
 
 /// For each variable its slot.
@@ -117,6 +118,14 @@ impl SlotTable {
         }
     }
 
+    /// How many gates a variable has in place, or `FAR`.
+    pub(crate) fn count(&self, variable: u32) -> u8
+        requires { variable < length self.now.slots }
+        ensures { (s : slot.Slot) → slice_get self.now.slots variable ≡ Some s → result ≡ s.count }
+    {
+        self.counts[variable as usize]
+    }
+
     /// The gates that a variable has in place.
     pub(crate) fn near(&self, variable: u32, count: u8) -> &[u32]
         requires slot { (s : slot.Slot) × (slice_get self.now.slots variable ≡ Some s) × (s.count ≡ count) }
@@ -125,6 +134,19 @@ impl SlotTable {
     {
         let gates = &self.gates[variable as usize];
         &gates[..count as usize]
+    }
+
+    /// Adds a gate after those that a variable has in place.
+    pub(crate) fn push_near(&mut self, variable: u32, count: u8, gate: u32)
+        requires slot { (s : slot.Slot) × (slice_get self.old.slots variable ≡ Some s) × (s.count ≡ count)
+            × (length (near_list s).items < 4) }
+        ensures slots { (s : slot.Slot) → slice_get self.old.slots variable ≡ Some s
+            → (t : slot.Slot) × (self.new.slots ≡ slice_set self.old.slots variable t) × (t.count ≤ 4)
+            × ((near_list t).items ≡ (near_list s).items ++ gate ∷ []) }
+        ensures fitting { self.new.fitting ≡ self.old.fitting }
+    {
+        let more = put_near(&mut self.gates[variable as usize], count, gate);
+        self.counts[variable as usize] = more;
     }
 
     /// Replaces the slot of a variable.

@@ -1,11 +1,13 @@
-use Rattle.std.proofs.Common.{◌<◌, ◌≤◌, length, map, OnErr, subst, sym, refl, ◌∙◌, arith}
+use Rattle.std.proofs.Common.{◌<◌, ◌≤◌, get_or, length, length-take, map, OnErr, subst, sym, refl, ◌∙◌, arith}
 use Rattle.std.proofs.lemmas.List.{length-map}
 use Rattle.std.proofs.lemmas.Result.{on_ok_weaker}
+use Rattle.aig_bytes.proofs.Results.{on_err}
 use Rattle.aig_base.specs.Readers.{GateList}
-use Rattle.aig_base.specs.state.GateLists.{RoomyLists, far_list, slot_list}
+use Rattle.aig_base.specs.state.GateLists.{RoomyLists, far_list, near_list, no_gates, slot_list}
+use Rattle.aig_base.specs.state.ReaderSlots.{HasRoom, no_list}
 use Rattle.aig_base.proofs.fan_outs.GateListLemmas.{gets_none, list_was, listed, moved_kept, moved_lists, moved_room}
 use Rattle.aig_base.proofs.fan_outs.GateListLemmas.{slot_at, slot_few, vec_roomy, written_kept, written_list}
-use Rattle.aig_base.proofs.fan_outs.GateListLemmas.{written_room}
+use Rattle.aig_base.proofs.fan_outs.GateListLemmas.{near_long, near_view, place_within, slot_there, written_room}
 use Rattle.aig_base.proofs.fan_outs.ReaderLists.{fits_set}
 use Rattle.aig_base.proofs.readers.gate_lists.GateLists.make_room.Goals as goal
 
@@ -77,8 +79,8 @@ returns-then-is_far-clause-refused c =
     c.double_full.new.list at count c.position.ensures c.index_mut.ensures.value c.self.invariant))
     c.double_full.ensures.refused)
 
-pub returns-then-slot-clause-gets : goal.returns-then-slot-clause-gets
-returns-then-slot-clause-gets c = gets_none c.args.self.now.slots c.args.variable
+pub returns-then-count-clause-gets : goal.returns-then-count-clause-gets
+returns-then-count-clause-gets c = gets_none c.args.self.now.slots c.args.variable
 
 pub returns-in_err-moved-clause-gets : goal.returns-in_err-moved-clause-gets
 returns-in_err-moved-clause-gets c =
@@ -101,6 +103,7 @@ invariant_of-self-2 c =
     let s = c.get-slot.result in
     let t = c.in_ok-moved.moved in
     let at = slot_at far slots v s lt c.get-slot.ensures in
+    let full : 4 ≤ s.count = omega (arith, c.count.ensures s at, c.if-count.false) in
     let few = slot_few far slots v s at c.self.invariant
     (λ e. (let z : ⊥ = grind (arith, c.is_far.ensures.far.1 e, c.if-is_far.false) in z)) in
     let last = c.in_ok-moved.ensures.slot.1 ∙ sym (length-map c.self.inside.far.items far_list) in
@@ -117,11 +120,11 @@ returns-clause-gets c =
     let s = c.get-slot.result in
     let t = c.in_ok-moved.moved in
     let at = slot_at far slots v s lt c.get-slot.ensures in
+    let full : 4 ≤ s.count = omega (arith, c.count.ensures s at, c.if-count.false) in
     let few = slot_few far slots v s at c.self.invariant
     (λ e. (let z : ⊥ = grind (arith, c.is_far.ensures.far.1 e, c.if-is_far.false) in z)) in
     let last = c.in_ok-moved.ensures.slot.1 ∙ sym (length-map c.self.inside.far.items far_list) in
     let new = listed s.gates 8 in
-    let full = c.if-slot.false in
     rw (c.in_ok-moved.ensures.far, c.set.ensures.slots, ← c.self.view_is)
     (moved_room far slots v s t at c.self.invariant new c.in_ok-moved.ensures.slot.0 last (omega arith) (omega arith) c.is_far.ensures.places refl)
 
@@ -134,6 +137,7 @@ returns-clause-ok c =
     let s = c.get-slot.result in
     let t = c.in_ok-moved.moved in
     let at = slot_at far slots v s lt c.get-slot.ensures in
+    let full : 4 ≤ s.count = omega (arith, c.count.ensures s at, c.if-count.false) in
     let few = slot_few far slots v s at c.self.invariant
     (λ e. (let z : ⊥ = grind (arith, c.is_far.ensures.far.1 e, c.if-is_far.false) in z)) in
     let last = c.in_ok-moved.ensures.slot.1 ∙ sym (length-map c.self.inside.far.items far_list) in
@@ -142,3 +146,44 @@ returns-clause-ok c =
     rw (c.in_ok-moved.ensures.far, c.set.ensures.slots)
     (fits_set (map (slot_list far) slots) _ v new lt (moved_lists far slots v s t at c.self.invariant new c.in_ok-moved.ensures.slot.0 last (omega arith))
     (omega arith))
+
+pub returns-then-count-clause-ok : goal.returns-then-count-clause-ok
+returns-then-count-clause-ok c =
+    let far = map far_list c.self.inside.far.items in
+    let slots = c.self.inside.slots.slots in
+    let v = c.args.variable in
+    let lt = subst (λ (r : RoomyLists). c.args.variable < length r.slots) (sym c.self.view_is) c.requires in
+    let s = get_or slots v no_gates in
+    let at = slot_there far slots v lt in
+    let count = c.count.ensures s at in
+    let few : s.count ≤ 4 = omega (arith, count, c.if-count.true) in
+    let short = length-take s.count s.gates in
+    let room : HasRoom (near_list s) = omega (arith, short, count, c.if-count.true) in
+    rw (← c.self.view_is) (subst (λ (l : GateList). HasRoom l) (sym (near_view far slots v s at few)) room)
+
+pub index_mut-requires : goal.index_mut-requires
+index_mut-requires c =
+    let far = map far_list c.self.inside.far.items in
+    let slots = c.self.inside.slots.slots in
+    let v = c.args.variable in
+    let lt = subst (λ (r : RoomyLists). c.args.variable < length r.slots) (sym c.self.view_is) c.requires in
+    let s = c.get-slot.result in
+    let at = slot_at far slots v s lt c.get-slot.ensures in
+    let within = place_within far slots v s no_list at (c.is_far.ensures.far.0 c.if-is_far.true) c.self.invariant in
+    omega (arith, within, c.position.ensures, length-map c.self.inside.far.items far_list, c.self.inside.far.ok.0)
+
+pub returns-in_err-moved-clause-refused : goal.returns-in_err-moved-clause-refused
+returns-in_err-moved-clause-refused c =
+    let far = map far_list c.self.inside.far.items in
+    let slots = c.self.inside.slots.slots in
+    let v = c.args.variable in
+    let lt = subst (λ (r : RoomyLists). c.args.variable < length r.slots) (sym c.self.view_is) c.requires in
+    let s = c.get-slot.result in
+    let at = slot_at far slots v s lt c.get-slot.ensures in
+    let full : 4 ≤ s.count = omega (arith, c.count.ensures s at, c.if-count.false) in
+    let few = slot_few far slots v s at c.self.invariant
+    (λ e. (let z : ⊥ = grind (arith, c.is_far.ensures.far.1 e, c.if-is_far.false) in z)) in
+    let long = near_long s few c.is_far.ensures.places in
+    let four : 4 ≤ length (near_list s).items = omega (arith, long, full) in
+    rw (← c.self.view_is)
+    (on_err c.from_residual.result (subst (λ (l : GateList). 4 ≤ length l.items) (sym (near_view far slots v s at few)) four))
