@@ -19,7 +19,7 @@ use Rattle.aig_sim.specs.declared.witness.reach_fault.ReachFault.{ReachFault}
 use Rattle.aig_sim.specs.declared.witness.reach_fault.ReachFault.TheVariants as reaches
 use Rattle.aig_sim.specs.Breaks.{Breaks, BreaksNothing, IsFirstBreak, SpellsRun, as_witness}
 use Rattle.aig_sim.specs.WitnessText.{IsDecimal, SpellsWitness, witness_text}
-use Rattle.aig_sim.proofs.VerdictLemmas.{constraint_defined}
+use Rattle.aig_values.proofs.PropertyLines.{constraint_defined}
 use Rattle.aig_refute.specs.PartialModels.{inputs_in, named_rows, named_start}
 use Rattle.aig_refute.specs.Satisfiable.{KeepsConstraints}
 use Rattle.aig_refute.proofs.Reached.{allowed_where_none}

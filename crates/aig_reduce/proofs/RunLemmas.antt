@@ -17,7 +17,8 @@ use Rattle.aig_base.proofs.values.UniqueValue.{unique}
 use Rattle.aig_sim.specs.declared.witness.verdict.Verdict.TheVariants as verdict
 use Rattle.aig_sim.specs.Verdict.{StartsWrong, IsNotOne, IsVerdict}
 use Rattle.aig_sim.specs.WitnessText.{Witness}
-use Rattle.aig_sim.proofs.VerdictLemmas.{bad_defined, constraint_defined, reached}
+use Rattle.aig_sim.proofs.VerdictLemmas.{reached}
+use Rattle.aig_values.proofs.PropertyLines.{bad_defined, constraint_defined}
 use Rattle.aig_reduce.specs.Irreducible.{IsSameOrX}
 use Rattle.aig_reduce.specs.state.Reducing.{IsRunOf}
 use Rattle.aig_reduce.proofs.CoveredValues.{one_stays}

@@ -22,7 +22,7 @@ use Rattle.aig_sim.specs.declared.witness.verdict.Verdict.{Verdict}
 use Rattle.aig_sim.specs.declared.witness.verdict.Verdict.TheVariants as verdict
 use Rattle.aig_sim.specs.Verdict.{StartsWrong, IsNotOne, VerdictApplies}
 use Rattle.aig_sim.specs.WitnessText.{Witness}
-use Rattle.aig_sim.proofs.VerdictLemmas.{bad_defined, constraint_defined}
+use Rattle.aig_values.proofs.PropertyLines.{bad_defined, constraint_defined}
 use Rattle.aig_refute.specs.Conversion.{HaveSameVerdicts}
 use Rattle.aig_refute.proofs.ConvertedTraces.{same_value}
 

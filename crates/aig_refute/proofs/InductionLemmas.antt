@@ -20,7 +20,7 @@ use Rattle.aig_base.proofs.lists.Positions.{position_of, unmap_option}
 use Rattle.aig_base.proofs.values.OneValue.{exists_value}
 use Rattle.aig_base.proofs.values.Refined.{kept}
 use Rattle.aig_base.proofs.values.UniqueValue.{unique}
-use Rattle.aig_sim.proofs.VerdictLemmas.{bad_defined, constraint_defined}
+use Rattle.aig_values.proofs.PropertyLines.{bad_defined, constraint_defined}
 use Rattle.aig_cnf.specs.Formula.{Cnf, IsFormulaOf}
 use Rattle.aig_cnf.specs.Query.{step, within}
 use Rattle.aig_refute.specs.Satisfiable.{BreaksStep, HasBrokenStep}

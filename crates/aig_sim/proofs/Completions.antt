@@ -22,7 +22,7 @@ use Rattle.aig_sim.specs.declared.witness.verdict.Verdict.TheVariants as verdict
 use Rattle.aig_values.specs.InputRows.{HaveWidth}
 use Rattle.aig_sim.specs.Verdict.{StartsWrong, IsNotOne, IsVerdict, IsConfirmed}
 use Rattle.aig_sim.specs.WitnessText.{Witness}
-use Rattle.aig_sim.proofs.VerdictLemmas.{bad_defined, constraint_defined}
+use Rattle.aig_values.proofs.PropertyLines.{bad_defined, constraint_defined}
 
 -- rows are as wide as those that they complete
 widths_kept : (width : ℕ) (rows rows' : List (List Tern)) → AllZip (AllZip Completes) rows rows' → HaveWidth width rows

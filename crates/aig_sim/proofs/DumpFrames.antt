@@ -19,7 +19,7 @@ use Rattle.aig_values.specs.state.Frame.{HoldsAll}
 use Rattle.aig_values.specs.Trace.{AreValues}
 use Rattle.aig_sim.proofs.DumpLemmas.{changed_first, later_frame}
 use Rattle.aig_values.proofs.TraceLemmas.{values_stay, values_text}
-use Rattle.aig_sim.proofs.VerdictLemmas.{bad_defined, constraint_defined, bad_in_range, constraint_in_range}
+use Rattle.aig_values.proofs.PropertyLines.{bad_defined, constraint_defined, bad_in_range, constraint_in_range}
 
 -- ---- signals
 each : (P : ℕ → Type 0) (ls : List ℕ) → ((i l : ℕ) → slice_get ls i ≡ Some l → P l) → All P ls

@@ -20,7 +20,8 @@ use Rattle.aig_sim.specs.Verdict.{StartsWrong, IsNotOne}
 use Rattle.aig_sim.specs.state.Checking.{ReadsNotOne}
 use Rattle.aig_sim.specs.state.Machine.{Steps}
 use Rattle.aig_sim.specs.state.Reaching.{ReadsFirstBad, ReadsNoBad, HasSearched}
-use Rattle.aig_sim.proofs.VerdictLemmas.{bad_defined, constraint_defined, shows_not_one, shown_not_one, reached}
+use Rattle.aig_sim.proofs.VerdictLemmas.{shows_not_one, shown_not_one, reached}
+use Rattle.aig_values.proofs.PropertyLines.{bad_defined, constraint_defined}
 
 one_or_not : (w : Tern) → (w ≡ One) ⊎ (w ≢ One)
 one_or_not Zero = inr (λ e. let no : ⊥ = cc in no)

@@ -1,8 +1,7 @@
 -- What a run shows of a witness.
 use Rattle.std.proofs.Common.{◌≡◌, ◌≢◌, inl, inr, ℕ, ◌+◌, ◌-◌, ◌<◌, ◌≤◌, List, [], ◌∷◌, ◌++◌, length, map, flat_map}
-use Rattle.std.proofs.Common.{take, drop, get_or, Some, slice_get, Contains, sym, ap, ◌∙◌, subst, arith, append_assoc}
+use Rattle.std.proofs.Common.{take, drop, get_or, Some, slice_get, sym, ap, ◌∙◌, subst, arith, append_assoc}
 use Rattle.std.proofs.lemmas.Bool.{cases_eq}
-use Rattle.std.proofs.lemmas.List.Elements.{Contains-append_left, Contains-append_right}
 use Rattle.std.proofs.lemmas.Option.{slice_get_within}
 use Rattle.aig_parts.specs.declared.ternary.Tern.{Tern}
 use Rattle.aig_parts.specs.declared.ternary.Tern.TheVariants.{One}
@@ -11,11 +10,9 @@ use Rattle.aig_parts.specs.declared.raw.Raw.{Raw}
 use Rattle.aig_base.specs.Circuit.{IsCircuit}
 use Rattle.aig_parts.specs.Literal.{variable}
 use Rattle.aig_base.specs.Runs.{Allows}
-use Rattle.aig_base.specs.Sections.{uses, IsDefined}
+use Rattle.aig_base.specs.Sections.{IsDefined}
 use Rattle.aig_base.specs.Sound.{IsSound}
 use Rattle.aig_base.specs.Value.{Value}
-use Rattle.aig_base.proofs.circuits.Circuits.{use_defined, use_in_range}
-use Rattle.aig_base.proofs.lists.Positions.{Contains-from_slice_get}
 use Rattle.aig_base.proofs.values.UniqueValue.{unique}
 use Rattle.aig_values.specs.Cells.{literal_value}
 use Rattle.aig_sim.specs.declared.witness.verdict.Verdict.{Verdict}
@@ -32,45 +29,13 @@ use Rattle.aig_sim.specs.Verdict.{StartsWrong, IsNotOne, VerdictApplies, IsBefor
 use Rattle.aig_sim.specs.WitnessText.{Witness, IsAdmitted, witness_rows_text}
 use Rattle.aig_values.proofs.Evaluation.{literal_has_value}
 use Rattle.aig_sim.proofs.OneText.{row_ends}
+use Rattle.aig_values.proofs.PropertyLines.{constraint_defined}
 use Rattle.aig_values.proofs.TraceLemmas.{holds_still, first_states}
 use Rattle.aig_sim.proofs.WitnessLemmas.{same_line}
 use Rattle.std.proofs.lemmas.List.{length-take-le, take-append-drop, take_more, drop_more, nil_from_length}
 
 -- ---- literals that a witness asks for
-
-third : (a b c d e f g : List ℕ) (x : ℕ) → Contains c x → Contains (a ++ b ++ c ++ d ++ e ++ f ++ g) x
-third a b c d e f g x h =
-    Contains-append_left _ g x (Contains-append_left _ f x (Contains-append_left _ e x (Contains-append_left _ d x
-    (Contains-append_right (a ++ b) c x h))))
-
-fourth : (a b c d e f g : List ℕ) (x : ℕ) → Contains d x → Contains (a ++ b ++ c ++ d ++ e ++ f ++ g) x
-fourth a b c d e f g x h =
-    Contains-append_left _ g x (Contains-append_left _ f x (Contains-append_left _ e x
-    (Contains-append_right (a ++ b ++ c) d x h)))
-
 module _ (raw : Raw) (sound : IsSound raw) where
-  bad_used : (i l : ℕ) → slice_get raw.bad i ≡ Some l → Contains (uses raw) l
-  bad_used i l at =
-      third (map (λ x. x.next) raw.latches) raw.outputs raw.bad raw.constraints (flat_map (λ p. p) raw.justice)
-      raw.fairness (flat_map (λ g. g.rhs0 ∷ g.rhs1 ∷ []) raw.gates) l (Contains-from_slice_get raw.bad i l at)
-
-  constraint_used : (i l : ℕ) → slice_get raw.constraints i ≡ Some l → Contains (uses raw) l
-  constraint_used i l at =
-      fourth (map (λ x. x.next) raw.latches) raw.outputs raw.bad raw.constraints (flat_map (λ p. p) raw.justice)
-      raw.fairness (flat_map (λ g. g.rhs0 ∷ g.rhs1 ∷ []) raw.gates) l (Contains-from_slice_get raw.constraints i l at)
-
-  pub bad_in_range : (i l : ℕ) → slice_get raw.bad i ≡ Some l → variable l ≤ raw.max_var
-  bad_in_range i l at = use_in_range raw sound l (bad_used i l at)
-
-  pub bad_defined : (i l : ℕ) → slice_get raw.bad i ≡ Some l → IsDefined raw (variable l)
-  bad_defined i l at = use_defined raw sound l (bad_used i l at)
-
-  pub constraint_in_range : (i l : ℕ) → slice_get raw.constraints i ≡ Some l → variable l ≤ raw.max_var
-  constraint_in_range i l at = use_in_range raw sound l (constraint_used i l at)
-
-  pub constraint_defined : (i l : ℕ) → slice_get raw.constraints i ≡ Some l → IsDefined raw (variable l)
-  constraint_defined i l at = use_defined raw sound l (constraint_used i l at)
-
   -- cells that are values show which literals are 1
   module _ (w : Witness) (t : ℕ) (cells : List Tern) (holds : HoldsAll raw w.start w.rows t cells) (literals : List ℕ)
       (defined : (i l : ℕ) → slice_get literals i ≡ Some l → IsDefined raw (variable l)) where

@@ -5,6 +5,7 @@ pub mod GateOrders
 pub mod GatherLemmas
 pub mod LiteralLemmas
 pub mod PaddedRows
+pub mod PropertyLines
 pub mod SeenRows
 pub mod ShortLines
 pub mod SweepLemmas

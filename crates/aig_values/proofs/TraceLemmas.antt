@@ -16,8 +16,8 @@ use Rattle.aig_base.proofs.lists.Positions.{slice_get_left}
 use Rattle.aig_values.specs.Cells.{literal_value}
 use Rattle.aig_values.specs.state.Frame.{Holds, HoldsAll, AreStates}
 use Rattle.aig_values.specs.InputRows.{row_at}
-use Rattle.aig_values.specs.Trace.{AreValues, IsTraceLine, AreLines, IsTrace}
-use Rattle.aig_values.specs.TraceText.{literal_character, line_text, trace_text}
+use Rattle.aig_values.specs.Trace.{AreValues, IsTraceLine, AreLinesBy, AreLines, IsTrace}
+use Rattle.aig_values.specs.TraceText.{literal_character, fields_text, line_text, trace_text}
 use Rattle.aig_values.proofs.Evaluation.{literal_has_value}
 
 all_zip_of_map : {A B : Type 0} (R : A → B → Type 0) (f : A → B) (xs : List A)
@@ -114,7 +114,7 @@ module _ (raw : Raw) (start : List Tern) (rows : List (List Tern)) (t : ℕ) (ce
   )
 
   pub line_is : HoldsAll raw start rows t cells → IsTraceLine raw start rows t (line_text raw cells)
-  unfolding line_text
+  unfolding line_text fields_text
   line_is now = record {
     state = map (λ x. literal_character cells x.lit) raw.latches;
     inputs = map (literal_character cells) raw.inputs;
@@ -159,6 +159,19 @@ trace_is raw start rows cells sound e h =
     subst (λ (xs : List (List Tern)). AreLines raw start rows (length rows) (flat_map (line_text raw) xs))
     whole (lines_are raw start rows cells sound (length rows) (omega arith) h)
 
+-- ---- lines, whichever a frame has
+pub lines_changed : (P Q : ℕ → List ℕ → Type 0) → ((t : ℕ) (line : List ℕ) → P t line → Q t line) → (n : ℕ) (text : List ℕ)
+    → AreLinesBy P n text → AreLinesBy Q n text
+lines_changed P Q f zero text h = h
+lines_changed P Q f (suc n) text h = (h.0, h.1, lines_changed P Q f n h.0 h.2, f n h.1 h.3, h.4)
+
+-- one line more
+pub line_more : (P : ℕ → List ℕ → Type 0) (rows : List (List Tern)) (row : List Tern) (text line : List ℕ)
+    → AreLinesBy P (length rows) text → P (length rows) line → AreLinesBy P (length (rows ++ row ∷ [])) (text ++ line)
+line_more P rows row text line h k =
+    subst (λ (n : ℕ). AreLinesBy P n (text ++ line)) (sym (add-one (length rows)) ∙ sym (length_push rows row))
+    (text, line, h, k, refl)
+
 -- ---- more rows
 module _ (raw : Raw) (start : List Tern) (rows more : List (List Tern)) where
   pub values_stay : (t : ℕ) (ls bs : List ℕ) → AreValues raw start rows t ls bs → AreValues raw start (rows ++ more) t ls bs
@@ -167,7 +180,7 @@ module _ (raw : Raw) (start : List Tern) (rows more : List (List Tern)) where
   values_stay t (l ∷ ls) [] h = absurd h
   values_stay t (l ∷ ls) (b ∷ bs) h = ((h.0.0, value_stays more h.0.1, h.0.2), values_stay t ls bs h.1)
 
-  line_stays : (t : ℕ) (line : List ℕ) → IsTraceLine raw start rows t line → IsTraceLine raw start (rows ++ more) t line
+  pub line_stays : (t : ℕ) (line : List ℕ) → IsTraceLine raw start rows t line → IsTraceLine raw start (rows ++ more) t line
   line_stays t line h = record {
     state = h.state;
     inputs = h.inputs;
@@ -181,14 +194,13 @@ module _ (raw : Raw) (start : List Tern) (rows more : List (List Tern)) where
   }
 
   pub lines_stay : (t : ℕ) (text : List ℕ) → AreLines raw start rows t text → AreLines raw start (rows ++ more) t text
-  lines_stay zero text h = h
-  lines_stay (suc t) text h = (h.0, h.1, lines_stay t h.0 h.2, line_stays t h.1 h.3, h.4)
+  lines_stay =
+      lines_changed (λ t line. IsTraceLine raw start rows t line) (λ t line. IsTraceLine raw start (rows ++ more) t line) line_stays
 
 -- one line more
 pub trace_more : (raw : Raw) (start : List Tern) (rows : List (List Tern)) (row : List Tern) (trace line : List ℕ)
     → IsTrace raw start rows trace → IsTraceLine raw start (rows ++ row ∷ []) (length rows) line
     → IsTrace raw start (rows ++ row ∷ []) (trace ++ line)
 trace_more raw start rows row trace line h k =
-    subst (λ (n : ℕ). AreLines raw start (rows ++ row ∷ []) n (trace ++ line))
-    (sym (add-one (length rows)) ∙ sym (length_push rows row))
-    (trace, line, lines_stay raw start rows (row ∷ []) (length rows) trace h, k, refl)
+    line_more (λ t line. IsTraceLine raw start (rows ++ row ∷ []) t line) rows row trace line
+    (lines_stay raw start rows (row ∷ []) (length rows) trace h) k

@@ -4,6 +4,7 @@ pub mod Codes
 pub mod Contiguous
 pub mod GateOrder
 pub mod InputRows
+pub mod PropertyTrace
 pub mod Trace
 pub mod TraceText
 pub mod state

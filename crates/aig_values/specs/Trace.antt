@@ -25,12 +25,14 @@ pub record IsTraceLine (raw : Raw) (start : List Tern) (rows : List (List Tern))
   pub next_is : AreValues raw start rows t (map (λ x. x.next) raw.latches) next
   pub line_is : line ≡ state ++ (32 ∷ (inputs ++ (32 ∷ (outputs ++ (32 ∷ (next ++ 10 ∷ []))))))
 
--- the lines of the first n frames
+-- the lines of the first n frames, by which line a frame has
+abbrev pub AreLinesBy : (ℕ → List ℕ → Type 0) → ℕ → List ℕ → Type 0
+AreLinesBy IsLine zero text = text ≡ []
+AreLinesBy IsLine (suc t) text =
+    (before : List ℕ) × (line : List ℕ) × AreLinesBy IsLine t before × IsLine t line × (text ≡ before ++ line)
+
 abbrev pub AreLines : Raw → List Tern → List (List Tern) → ℕ → List ℕ → Type 0
-AreLines raw start rows zero text = text ≡ []
-AreLines raw start rows (suc t) text =
-    (before : List ℕ) × (line : List ℕ) × AreLines raw start rows t before × IsTraceLine raw start rows t line
-    × (text ≡ before ++ line)
+AreLines raw start rows n text = AreLinesBy (λ t line. IsTraceLine raw start rows t line) n text
 
 -- the lines of all frames
 abbrev pub IsTrace : Raw → List Tern → List (List Tern) → List ℕ → Type 0

@@ -4,7 +4,7 @@ ghost use Rattle.aig_bytes.specs.Bytes.{Writes};
 ghost use Rattle.aig_base.specs.Circuit.{IsCircuit};
 ghost use Rattle.aig_parts.specs.Literal.{variable};
 ghost use Rattle.aig_bytes.specs.Gathered.{Gathers};
-ghost use Rattle.aig_values.specs.TraceText.{literal_character, line_text, trace_text};
+ghost use Rattle.aig_values.specs.TraceText.{fields_text, literal_character, line_text, property_line_text, trace_text};
 ghost use Rattle.aig_values.specs.state.Fields.{literals_of};
 
 mod short_line;
@@ -165,19 +165,20 @@ fn put_field<R: Row, W: Write>(
     block.put(out, end)
 }
 
-// Puts the line of a frame: state, inputs, outputs, next state.
-fn put_line<R: Row, W: Write>(
+// Puts the fields of a frame, and the byte that ends them: state, inputs, outputs, next state.
+fn put_fields<R: Row, W: Write>(
     out: &mut W,
     block: &mut TraceBlock,
     text: &mut [u8],
     circuit: &Circuit,
     row: &R,
+    end: u8,
 ) -> Result<(), Io>
     requires text { length text.old ≡ 256 }
     requires circuit { IsCircuit circuit.now }
     requires row { (v : ℕ) → v ≤ circuit.now.max_var → R.has row.now v }
     ensures { Gathers W.written W.failures out.old out.new block.old block.new
-        (line_text circuit.now (R.cells row.now)) result }
+        (fields_text circuit.now (R.cells row.now) end) result }
 {
     put_field(
         out,
@@ -209,6 +210,32 @@ fn put_line<R: Row, W: Write>(
         text,
         row,
         Field::NextStates(circuit.latches()),
+        end,
+    )
+}
+
+// Puts the two fields that end a line with properties: bad state properties, constraints.
+fn put_properties<R: Row, W: Write>(
+    out: &mut W,
+    block: &mut TraceBlock,
+    text: &mut [u8],
+    circuit: &Circuit,
+    row: &R,
+) -> Result<(), Io>
+    requires text { length text.old ≡ 256 }
+    requires circuit { IsCircuit circuit.now }
+    requires row { (v : ℕ) → v ≤ circuit.now.max_var → R.has row.now v }
+    ensures { Gathers W.written W.failures out.old out.new block.old block.new
+        ((map (literal_character (R.cells row.now)) circuit.now.bad ++ 32 ∷ [])
+        ++ (map (literal_character (R.cells row.now)) circuit.now.constraints ++ 10 ∷ [])) result }
+{
+    put_field(out, block, text, row, Field::Literals(circuit.bad()), b' ')?;
+    put_field(
+        out,
+        block,
+        text,
+        row,
+        Field::Literals(circuit.constraints()),
         b'\n',
     )
 }
@@ -229,7 +256,27 @@ pub fn write_line<R: Row, W: Write>(
         return write_short_line(out, circuit, row);
     }
     block.clear();
-    put_line(out, block, &mut [0; PIECE], circuit, row)?;
+    put_fields(out, block, &mut [0; PIECE], circuit, row, b'\n')?;
+    block.forward(out)
+}
+
+/// Writes the trace line of a frame with properties: the characters of state, inputs, outputs, next state, bad state
+/// properties and constraints (our own choice). The block is room for them, whatever it holds.
+pub fn write_property_line<R: Row, W: Write>(
+    out: &mut W,
+    block: &mut TraceBlock,
+    circuit: &Circuit,
+    row: &R,
+) -> Result<(), Io>
+    requires circuit { IsCircuit circuit.now }
+    requires row { (v : ℕ) → v ≤ circuit.now.max_var → R.has row.now v }
+    ensures { Writes W.written W.failures out.old out.new (property_line_text circuit.now (R.cells row.now)) result }
+{
+    let mut piece = [0; PIECE];
+    let text = &mut piece[..];
+    block.clear();
+    put_fields(out, block, text, circuit, row, b' ')?;
+    put_properties(out, block, text, circuit, row)?;
     block.forward(out)
 }
 
@@ -248,7 +295,7 @@ fn put_lines<G: Grid, W: Write>(
     let mut piece = [0; PIECE];
     let text = &mut piece[..];
     for frame in 0..grid.rows() {
-        put_line(out, block, text, circuit, &GridRow { grid, frame })?;
+        put_fields(out, block, text, circuit, &GridRow { grid, frame }, b'\n')?;
     }
     Ok(())
 }

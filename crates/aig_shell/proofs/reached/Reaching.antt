@@ -20,7 +20,8 @@ use Rattle.aig_base.specs.Resets.{HasOtherResets}
 use Rattle.aig_base.proofs.values.Resets.{other_resets_back, start_length, value_with}
 use Rattle.aig_sim.specs.declared.witness.verdict.Verdict.TheVariants as verdict
 use Rattle.aig_sim.specs.Reached.{IsAskedFor, IsFirstReached, Reaches, ReachesNone, witness_at}
-use Rattle.aig_sim.proofs.VerdictLemmas.{bad_defined, reached}
+use Rattle.aig_sim.proofs.VerdictLemmas.{reached}
+use Rattle.aig_values.proofs.PropertyLines.{bad_defined}
 use Rattle.aig_values.specs.InputRows.{HaveWidth}
 use Rattle.aig_values.proofs.TraceLemmas.{value_stays}
 use Rattle.aig_shell.specs.Standing.{HoldAt, HoldBefore, IsBroken, IsFirstAt, StartsRight}

@@ -4,7 +4,7 @@ use Rattle.aig_parts.specs.Literal.{variable}
 use Rattle.aig_parts.specs.declared.raw.Raw.{Raw}
 use Rattle.aig_parts.specs.declared.ternary.Tern.TheVariants.{One}
 use Rattle.aig_bench.specs.BenchState.{HasValue}
-use Rattle.aig_sim.proofs.VerdictLemmas.{bad_defined, bad_in_range}
+use Rattle.aig_values.proofs.PropertyLines.{bad_defined, bad_in_range}
 use Rattle.aig_base.proofs.lists.Items.{item_at}
 use Rattle.aig_reduce.proofs.looks.is_bad.Goals as goal
 

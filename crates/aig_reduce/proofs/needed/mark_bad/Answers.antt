@@ -1,7 +1,7 @@
 use Rattle.std.proofs.Common.{◌≡◌, ◌≤◌, length, Some, slice_get, ap, ◌∙◌, arith}
 use Rattle.aig_parts.specs.Literal.{variable}
 use Rattle.aig_parts.specs.declared.raw.Raw.{Raw}
-use Rattle.aig_sim.proofs.VerdictLemmas.{bad_in_range}
+use Rattle.aig_values.proofs.PropertyLines.{bad_in_range}
 use Rattle.aig_base.proofs.lists.Items.{item_at}
 use Rattle.aig_reduce.proofs.NeededLemmas.{bad_needed, one_added}
 use Rattle.aig_reduce.proofs.needed.mark_bad.Goals as goal

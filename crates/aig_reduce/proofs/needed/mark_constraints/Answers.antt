@@ -2,7 +2,7 @@ use Rattle.std.proofs.Common.{◌≡◌, ◌≤◌, length, Some, slice_get, ref
 use Rattle.std.proofs.lemmas.List.{length-set}
 use Rattle.aig_parts.specs.Literal.{variable}
 use Rattle.aig_parts.specs.declared.raw.Raw.{Raw}
-use Rattle.aig_sim.proofs.VerdictLemmas.{constraint_in_range}
+use Rattle.aig_values.proofs.PropertyLines.{constraint_in_range}
 use Rattle.aig_base.proofs.lists.Items.{item_at}
 use Rattle.aig_reduce.proofs.NeededLemmas.{added_then, constraint_needed, none_added, one_added}
 use Rattle.aig_reduce.proofs.needed.mark_constraints.Goals as goal

@@ -3,7 +3,8 @@ use Rattle.std.proofs.lemmas.Bool.{false≢true}
 use Rattle.aig_parts.specs.declared.raw.Raw.{Raw}
 use Rattle.aig_sim.specs.state.Checking.{ReadsNotOne}
 use Rattle.aig_base.proofs.lists.Items.{item_at}
-use Rattle.aig_sim.proofs.VerdictLemmas.{constraint_in_range, right_more, reads_one, no_literal_after}
+use Rattle.aig_sim.proofs.VerdictLemmas.{right_more, reads_one, no_literal_after}
+use Rattle.aig_values.proofs.PropertyLines.{constraint_in_range}
 use Rattle.aig_sim.proofs.witness.first_failure.Goals as goal
 
 pub literal_in-requires : goal.literal_in-requires

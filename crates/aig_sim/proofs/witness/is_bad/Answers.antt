@@ -2,7 +2,8 @@ use Rattle.std.proofs.Common.{length, sym, ap, ◌∙◌, arith}
 use Rattle.std.proofs.lemmas.Bool.{false≢true}
 use Rattle.aig_parts.specs.declared.raw.Raw.{Raw}
 use Rattle.aig_base.proofs.lists.Items.{item_at}
-use Rattle.aig_sim.proofs.VerdictLemmas.{bad_in_range, reads_one}
+use Rattle.aig_sim.proofs.VerdictLemmas.{reads_one}
+use Rattle.aig_values.proofs.PropertyLines.{bad_in_range}
 use Rattle.aig_sim.proofs.witness.is_bad.Goals as goal
 
 pub literal_in-requires : goal.literal_in-requires

@@ -4,7 +4,8 @@ use Rattle.aig_base.specs.Circuit.{IsCircuit}
 use Rattle.aig_sim.specs.state.Checking.{IsFirstFailure, ReadsNotOne, HasRun}
 use Rattle.aig_sim.specs.Verdict.{StartsWrong}
 use Rattle.aig_sim.proofs.VerdictLemmas.{both, property_same, run_begins, other_start, not_held, not_reached, reached}
-use Rattle.aig_sim.proofs.VerdictLemmas.{last_frame, shows_not_one, shown_not_one, bad_defined}
+use Rattle.aig_sim.proofs.VerdictLemmas.{last_frame, shows_not_one, shown_not_one}
+use Rattle.aig_values.proofs.PropertyLines.{bad_defined}
 use Rattle.aig_sim.proofs.witness.judge.Goals as goal
 
 pub returns-in-Some : goal.returns-in-Some

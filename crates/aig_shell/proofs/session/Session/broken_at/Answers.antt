@@ -4,7 +4,7 @@ use Rattle.aig_parts.specs.declared.raw.Raw.{Raw}
 use Rattle.aig_parts.specs.declared.ternary.Tern.TheVariants.{One}
 use Rattle.aig_base.specs.Circuit.{IsCircuit}
 use Rattle.aig_bench.specs.BenchState.{HasValue}
-use Rattle.aig_sim.proofs.VerdictLemmas.{constraint_defined}
+use Rattle.aig_values.proofs.PropertyLines.{constraint_defined}
 use Rattle.aig_values.proofs.Evaluation.{items_more}
 use Rattle.aig_base.proofs.lists.Items.{item_at}
 use Rattle.aig_shell.proofs.tables.FirstRuns.{other_value, same_value}

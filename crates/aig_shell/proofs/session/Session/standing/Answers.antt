@@ -3,7 +3,7 @@ use Rattle.aig_base.specs.Circuit.{IsCircuit}
 use Rattle.aig_base.specs.Value.{start_of}
 use Rattle.aig_bench.specs.BenchState.{BenchState}
 use Rattle.aig_sim.proofs.ReachedLemmas.{reaches_none}
-use Rattle.aig_sim.proofs.VerdictLemmas.{bad_defined}
+use Rattle.aig_values.proofs.PropertyLines.{bad_defined}
 use Rattle.aig_values.specs.InputRows.{HaveWidth}
 use Rattle.aig_shell.specs.Session.{own_circuit}
 use Rattle.aig_shell.proofs.reached.Reaching.{first_reached, none_reached}

@@ -3,7 +3,7 @@ use Rattle.std.proofs.lemmas.List.Elements.{All-map}
 use Rattle.aig_parts.specs.declared.latch.Latch.{Latch}
 use Rattle.aig_parts.specs.Literal.{variable}
 use Rattle.aig_base.proofs.circuits.Circuits.{input_in_range, latch_in_range, next_in_range, output_in_range}
-use Rattle.aig_values.specs.TraceText.{literal_character, line_text}
+use Rattle.aig_values.specs.TraceText.{fields_text, literal_character, line_text}
 use Rattle.aig_values.proofs.FieldLemmas.{all_have, shown}
 use Rattle.aig_values.proofs.ShortLines.{four_fields}
 use Rattle.aig_values.proofs.trace_line.short_line.spell_line.Goals as goal
@@ -31,7 +31,7 @@ spell_at-requires-clause-row g c =
     (next_in_range c.args.circuit.now c.requires.circuit.sound))
 
 pub returns-clause-line : goal.returns-clause-line
-unfolding line_text
+unfolding line_text fields_text
 returns-clause-line g c =
     let cells = g.R.Row.cells c.args.row.now in
     let latches = c.args.circuit.now.latches in
