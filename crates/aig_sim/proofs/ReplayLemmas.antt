@@ -25,10 +25,11 @@ use Rattle.aig_sim.specs.state.Machine.{Steps}
 use Rattle.aig_sim.specs.state.Replaying.{BeginsRun, NoneReported, HasReplayed, WritesFrames, WritesRun}
 use Rattle.aig_sim.specs.state.Running.{RunText, Recorded}
 use Rattle.aig_values.specs.Characters.{character}
+use Rattle.aig_values.specs.PropertyTrace.{IsPropertyTrace}
 use Rattle.aig_values.specs.Trace.{IsTrace}
 use Rattle.aig_sim.specs.WitnessText.{Witness, SpellsWitness, IsAdmitted, HasWitnessFault, witness_rows_text}
 use Rattle.aig_sim.proofs.DumpedLemmas.{ending_is}
-use Rattle.aig_sim.proofs.RunTexts.{trace_goes_on, dump_goes_on}
+use Rattle.aig_sim.proofs.RunTexts.{trace_goes_on, properties_go_on, dump_goes_on}
 use Rattle.aig_values.proofs.TraceLemmas.{first_states}
 use Rattle.aig_sim.proofs.VerdictLemmas.{row_was_read}
 
@@ -146,6 +147,11 @@ module _ {raw : Raw} {w : Witness} {states : List Tern} {rows : List ℕ} {frame
   trace_on =
       trace_goes_on raw ready.circuit w.start w.rows (record { latches = ready.latches; inputs = ready.rows_are.widths })
 
+  properties_on : (t : ℕ) (text : List ℕ) → t ≤ length w.rows → IsPropertyTrace raw w.start (take t w.rows) text
+      → (rest : List ℕ) × IsPropertyTrace raw w.start w.rows (text ++ rest)
+  properties_on =
+      properties_go_on raw ready.circuit w.start w.rows (record { latches = ready.latches; inputs = ready.rows_are.widths })
+
   dump_on : (t : ℕ) (text : List ℕ) → t ≤ length w.rows → AreDumped raw w.start (take t w.rows) text
       → (rest : List ℕ) × AreDumped raw w.start w.rows (text ++ rest)
   dump_on =
@@ -156,6 +162,11 @@ module _ {raw : Raw} {w : Witness} {states : List Tern} {rows : List ℕ} {frame
         → WritesFrames (λ raw start rows text. IsTrace raw start rows text) raw w written failures old new r
         → WritesRun (λ raw start rows text. IsTrace raw start rows text) raw w written failures old new r
     trace_written h = run_written trace_on h
+
+    pub properties_written : {old new : X} {r : Result (Unit {0}) E}
+        → WritesFrames (λ raw start rows text. IsPropertyTrace raw start rows text) raw w written failures old new r
+        → WritesRun (λ raw start rows text. IsPropertyTrace raw start rows text) raw w written failures old new r
+    properties_written h = run_written properties_on h
 
     pub dump_no_header : {F : Type 0} {old new : X} {e : F} {r : Result (Unit {0}) E}
         → Writes {T = Unit {0}} written failures old new (header raw) (Err e) → IsErr r

@@ -25,7 +25,7 @@ pub use witness::fault::WitnessFault;
 pub use witness::reach_fault::ReachFault;
 pub use witness::reached::{Reached, first_reached};
 pub use witness::reader::{Witness, read_witness, witness_property};
-pub use witness::replay::{dump_witness, trace_witness};
+pub use witness::replay::{dump_witness, trace_properties, trace_witness};
 pub use witness::replay_fault::ReplayFault;
 pub use witness::run::{Run, read_run};
 pub use witness::verdict::Verdict;

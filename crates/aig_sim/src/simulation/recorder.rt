@@ -7,7 +7,7 @@ ghost use Rattle.aig_values.specs.state.Frame.{HoldsAll};
 
 use crate::simulation::machine::Machine;
 use aig_base::{Io, Write};
-use aig_values::trace_line::{TraceBlock, write_line};
+use aig_values::trace_line::{TraceBlock, write_line, write_property_line};
 
 /// Writes the text of each frame.
 pub trait Recorder {
@@ -77,5 +77,42 @@ impl Recorder for TraceRecorder {
         _frame: u64,
     ) -> Result<(), Io> {
         write_line(out, &mut self.block, machine.circuit(), machine)
+    }
+}
+
+/// Writes the lines of a trace with properties.
+#[derive(Drop)]
+pub struct PropertyRecorder {
+    block: TraceBlock,
+}
+
+impl PropertyRecorder {
+    /// Room for 4,096 bytes of a line.
+    pub fn new() -> PropertyRecorder {
+        PropertyRecorder {
+            block: TraceBlock::new(),
+        }
+    }
+}
+
+impl Recorder for PropertyRecorder {
+    ghost use Rattle.aig_values.specs.PropertyTrace.{IsPropertyTrace};
+    ghost use Rattle.aig_values.specs.TraceText.{property_line_text};
+
+    ghost is_text = { λ raw start rows text. IsPropertyTrace raw start rows text };
+
+    ghost fits = { λ r raw. Unit {0} };
+
+    ghost has_recorded = { λ r raw start rows. Unit {0} };
+
+    ghost frame_text = { λ r raw t cells. property_line_text raw cells };
+
+    fn record<W: Write>(
+        &mut self,
+        out: &mut W,
+        machine: &Machine<'_>,
+        _frame: u64,
+    ) -> Result<(), Io> {
+        write_property_line(out, &mut self.block, machine.circuit(), machine)
     }
 }
