@@ -11,6 +11,7 @@ use Rattle.aig_command.specs.declared.run_fault.RunFault.{RunFault}
 use Rattle.aig_command.specs.declared.run_fault.RunFault.TheVariants as run_faults
 use Rattle.aig_command.proofs.Files.{MeansNoFault, ends_of_file}
 use Rattle.aig_command.proofs.Written.{ends_map, got_none}
+use Rattle.aig_commands.specs.declared.check.Shown.{Shown}
 use Rattle.aig_commands.specs.Check.{Checks, ChecksAndTraces, OfProperty}
 use Rattle.aig_commands.specs.state.Asked.{RefusesAsked}
 
@@ -63,6 +64,6 @@ pub checks_witness : (text : List ℕ) (raw : Raw) → IsOfWitness Checks text r
 checks_witness text raw =
     record { circuit = λ fault bytes h. h; other = λ found asked bytes h. h; refuses = λ fault h. (h, refl) }
 
-pub traces_witness : (text : List ℕ) (raw : Raw) → IsOfWitness ChecksAndTraces text raw
-traces_witness text raw =
+pub traces_witness : (shown : Shown) (text : List ℕ) (raw : Raw) → IsOfWitness (ChecksAndTraces shown) text raw
+traces_witness shown text raw =
     record { circuit = λ fault bytes h. h; other = λ found asked bytes h. h; refuses = λ fault h. (h, refl) }

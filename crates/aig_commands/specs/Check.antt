@@ -1,17 +1,21 @@
 -- What `check` answers and writes. How a verdict is written is our own choice.
--- Examples: `aag 1 1 0 0 0 1/2/2/` and `1/b0//1/./`: `confirmed/`, with its trace ` 1  /confirmed/`; for property 1 this
--- witness is refused, as it is one of property 0.
+-- Examples: `aag 1 1 0 0 0 1/2/2/` and `1/b0//1/./`: `confirmed/`, with its trace ` 1  /confirmed/`, with properties
+-- ` 1   1 /confirmed/`; for property 1 this witness is refused, as it is one of property 0.
 use Rattle.std.specs.Prelude.{◌≡◌, ◌≢◌, ℕ, List, [], ◌++◌, Option, None, Some, Result, Ok, Err, codes}
 use Rattle.std.specs.Fmt.{decimal}
+use Rattle.aig_parts.specs.declared.ternary.Tern.{Tern}
 use Rattle.aig_parts.specs.declared.raw.Raw.{Raw}
 use Rattle.aig_sim.specs.declared.witness.verdict.Verdict.{Verdict}
 use Rattle.aig_sim.specs.declared.witness.verdict.Verdict.TheVariants.{Initial, Constraint, NotBad, Confirmed}
 use Rattle.aig_sim.specs.Replayed.{ReportsRun}
 use Rattle.aig_sim.specs.Verdict.{IsVerdict, IsConfirmed}
 use Rattle.aig_sim.specs.WitnessText.{Witness, SpellsWitness, IsAdmitted, IsWitnessOf, HasWitnessFault}
+use Rattle.aig_values.specs.PropertyTrace.{IsPropertyTrace}
 use Rattle.aig_values.specs.Trace.{IsTrace}
 use Rattle.aig_command.specs.declared.run_fault.RunFault.{RunFault}
 use Rattle.aig_command.specs.declared.run_fault.RunFault.TheVariants as run_faults
+use Rattle.aig_commands.specs.declared.check.Shown.{Shown}
+use Rattle.aig_commands.specs.declared.check.Shown.TheVariants.{Properties, Trace}
 
 -- a verdict's line
 abbrev pub verdict_text : Verdict → List ℕ
@@ -40,13 +44,18 @@ abbrev pub Checks : List ℕ → Raw → Result Verdict RunFault → List ℕ �
 Checks text raw (Ok verdict) written = ShowsVerdict raw text verdict × (written ≡ verdict_text verdict)
 Checks text raw (Err fault) written = RefusesWitness text raw fault written
 
+-- the trace of a run: that of `sim`, or with properties
+abbrev pub IsShown : Shown → Raw → List Tern → List (List Tern) → List ℕ → Type 0
+IsShown Trace raw start rows text = IsTrace raw start rows text
+IsShown Properties raw start rows text = IsPropertyTrace raw start rows text
+
 -- what `check --trace` answers and writes: the trace of the witness's run, and then the verdict's line
-abbrev pub ChecksAndTraces : List ℕ → Raw → Result Verdict RunFault → List ℕ → Type 0
-ChecksAndTraces text raw (Ok verdict) written =
+abbrev pub ChecksAndTraces : Shown → List ℕ → Raw → Result Verdict RunFault → List ℕ → Type 0
+ChecksAndTraces shown text raw (Ok verdict) written =
     ShowsVerdict raw text verdict
-    × ((trace : List ℕ) × ReportsRun (λ raw start rows reported. IsTrace raw start rows reported) raw text trace
+    × ((trace : List ℕ) × ReportsRun (λ raw start rows reported. IsShown shown raw start rows reported) raw text trace
     × (written ≡ trace ++ verdict_text verdict))
-ChecksAndTraces text raw (Err fault) written = RefusesWitness text raw fault written
+ChecksAndTraces shown text raw (Err fault) written = RefusesWitness text raw fault written
 
 -- What a command on a witness answers and writes that may be asked for a property: of a witness of that property what
 -- `Means` says, and no other is accepted. If it is asked for none, of each witness what `Means` says.

@@ -5,14 +5,26 @@ ghost use Rattle.aig_bytes.specs.Flow.{flow};
 ghost use Rattle.aig_command.specs.Command.{OfFile};
 ghost use Rattle.aig_command.specs.Command.{CommandEnds};
 ghost use Rattle.aig_commands.specs.GoesWell.{GoesWell};
-ghost use Rattle.aig_commands.specs.Check.{verdict_text, Checks, ChecksAndTraces, OfProperty};
+ghost use Rattle.aig_commands.specs.Check.{verdict_text, Checks, ChecksAndTraces, IsShown, OfProperty};
 ghost use Rattle.aig_commands.specs.state.Asked.{RefusesAsked};
+ghost use Rattle.aig_sim.specs.Replayed.{Replays};
 ghost use Rattle.aig_sim.specs.WitnessText.{IsWitnessOf};
 
 use aig_base::{Circuit, Io, Write, write_all, write_number};
 use aig_command::{RunFault, read_circuit};
-use aig_sim::{ReplayFault, Verdict, check_witness, trace_witness, witness_property};
+use aig_sim::{
+    ReplayFault, Verdict, check_witness, trace_properties, trace_witness, witness_property,
+};
 use std::alloc::Global;
+
+/// What the trace of a witness's run shows of each frame.
+#[derive(Clone, Copy, Drop)]
+pub enum Shown {
+    /// What `sim` shows: state, inputs, outputs and next state.
+    Trace,
+    /// After them the bad state properties and the constraints.
+    Properties,
+}
 
 /// Writes the line of a latch that starts at a wrong value.
 fn write_initial<W: Write>(latch: u32, out: &mut W) -> Result<(), Io>
@@ -121,18 +133,36 @@ pub fn check<W: Write>(
     check_circuit(alloc, &circuit, witness, out)
 }
 
+/// Writes the trace of a witness's run.
+fn write_trace<W: Write>(
+    alloc: Global,
+    circuit: &Circuit,
+    witness: &[u8],
+    shown: Shown,
+    out: &mut W,
+) -> Result<(), ReplayFault>
+    ensures { Replays (λ raw start rows text. IsShown shown raw start rows text) circuit.now witness.now
+        (flow W.written W.failures out.old out.new) result }
+{
+    match shown {
+        Shown::Trace => trace_witness(alloc, circuit, witness, out),
+        Shown::Properties => trace_properties(alloc, circuit, witness, out),
+    }
+}
+
 /// Writes the trace of a witness's run, and then the line of its verdict, which is known.
 fn write_run<W: Write>(
     alloc: Global,
     circuit: &Circuit,
     witness: &[u8],
+    shown: Shown,
     out: &mut W,
 ) -> Result<Verdict, RunFault>
     ensures { CommandEnds (flow W.written W.failures out.old out.new) RunFault.Output
-        (ChecksAndTraces witness.now circuit.now) result }
+        (ChecksAndTraces shown witness.now circuit.now) result }
 {
     let verdict = check_witness(alloc, circuit, witness)?;
-    match trace_witness(alloc, circuit, witness, out) {
+    match write_trace(alloc, circuit, witness, shown, out) {
         Ok(()) => {}
         Err(ReplayFault::Witness(why)) => return Err(RunFault::Witness(why)),
         Err(ReplayFault::Io) => return Err(RunFault::Output),
@@ -144,18 +174,19 @@ fn write_run<W: Write>(
 }
 
 /// The command `check --trace`: checks a witness as `check` does, and writes the trace of its run before the verdict's
-/// line. At a refusal nothing is written.
+/// line, with properties for `--properties`. At a refusal nothing is written.
 pub fn check_and_trace<W: Write>(
     alloc: Global,
     circuit: &[u8],
     witness: &[u8],
     property: Option<u32>,
+    shown: Shown,
     out: &mut W,
 ) -> Result<Verdict, RunFault>
     ensures ends { CommandEnds (flow W.written W.failures out.old out.new) RunFault.Output
-        (OfFile circuit.now (OfProperty property ChecksAndTraces witness.now)) result }
+        (OfFile circuit.now (OfProperty property (ChecksAndTraces shown) witness.now)) result }
 {
     let read = read_circuit(alloc, circuit)?;
     refuse_other(&read, witness, property)?;
-    write_run(alloc, &read, witness, out)
+    write_run(alloc, &read, witness, shown, out)
 }

@@ -24,6 +24,7 @@ use Rattle.aig_format.specs.Header.{header_line, tail}
 use Rattle.aig_format.specs.Spelling.{ascii, binary, lines, names_text, property_lines}
 use Rattle.aig_format.specs.declared.reader.header.Format.TheVariants.{Ascii, Binary}
 use Rattle.aig_sat.specs.declared.proof.fault.ProofFault.TheVariants as proof_faults
+use Rattle.aig_values.specs.PropertyTrace.{IsPropertyTrace}
 use Rattle.aig_values.specs.Trace.{IsTrace}
 use Rattle.aig_bench.specs.Edit.{append_gate, edited}
 use Rattle.aig_sim.specs.Replayed.{ReportsRun}
@@ -47,6 +48,7 @@ use Rattle.aig_command.specs.declared.run_fault.RunFault.TheVariants as runs
 use Rattle.aig_refute.specs.Checked.{check_reads_failed}
 use Rattle.aig_refute.specs.Unreachable.{HasNoRun, IsUnreachable, IsUnreachableWithin}
 use Rattle.aig_script.specs.BenchFiles.{circuit_text, stimulus_rows_text}
+use Rattle.aig_commands.specs.declared.check.Shown.TheVariants.{Properties, Trace}
 use Rattle.aig_commands.specs.Check.{Checks, ChecksAndTraces, ShowsVerdict}
 use Rattle.aig_commands.specs.Cnf.{WritesFormula}
 use Rattle.aig_signals.specs.declared.form.Form.TheVariants.{Json, Text}
@@ -304,9 +306,37 @@ shown_verdict = record {
 checked : Checks (codes "1\nb0\n\n1\n.\n") bad_input (Ok Confirmed) (codes "confirmed\n")
 checked = (shown_verdict, refl)
 
-checked_with_trace : ChecksAndTraces (codes "1\nb0\n\n1\n.\n") bad_input (Ok Confirmed)
+checked_with_trace : ChecksAndTraces Trace (codes "1\nb0\n\n1\n.\n") bad_input (Ok Confirmed)
     (codes " 1  \nconfirmed\n")
 checked_with_trace = (shown_verdict, (codes " 1  \n", replayed_one, refl))
+
+-- with properties the bad state is 1
+replayed_properties : ReportsRun (λ raw start rows text. IsPropertyTrace raw start rows text) bad_input
+    (codes "1\nb0\n\n1\n.\n") (codes " 1   1 \n")
+replayed_properties = record {
+  witness = of_one;
+  spells = spelled_one;
+  admitted = (omega arith, omega arith);
+  reported_is = (
+    [],
+    codes " 1   1 \n",
+    refl,
+    record {
+      fields = codes " 1  ";
+      bad = codes "1";
+      constraints = [];
+      fields_are = replayed_one.reported_is.3;
+      bad_are = ((One, value.Value.input 0 0 2 One (One ∷ []) refl refl refl, refl), tt);
+      constraints_are = tt;
+      line_is = refl;
+    },
+    refl,
+  );
+}
+
+checked_with_properties : ChecksAndTraces Properties (codes "1\nb0\n\n1\n.\n") bad_input (Ok Confirmed)
+    (codes " 1   1 \nconfirmed\n")
+checked_with_properties = (shown_verdict, (codes " 1   1 \n", replayed_properties, refl))
 
 -- ---- bad states that no run reaches
 

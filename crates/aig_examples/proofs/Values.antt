@@ -15,7 +15,7 @@ use Rattle.aig_values.specs.Contiguous.{AreContiguous}
 use Rattle.aig_values.specs.GateOrder.{IsGateOrder, IsSourceOrEarlier}
 use Rattle.aig_values.specs.InputRows.{with_cell}
 use Rattle.aig_values.specs.Trace.{IsTrace}
-use Rattle.aig_values.specs.TraceText.{line_text}
+use Rattle.aig_values.specs.TraceText.{fields_text, line_text}
 use Rattle.aig_values.specs.state.Frame.{HoldsAll}
 use Rattle.aig_values.specs.state.LiteralCodes.{by_literal}
 use Rattle.aig_values.specs.state.Padded.{IsPadded}
@@ -110,7 +110,7 @@ trace_of_11 = (
 
 -- the cells 0, 1, 1, 1, 1 give ` 11 1 /`
 line_of_cells : line_text two_gates (Zero ∷ One ∷ One ∷ One ∷ One ∷ []) ≡ codes " 11 1 \n"
-unfolding line_text
+unfolding line_text fields_text
 line_of_cells = refl
 
 -- the cells 0, 1, 1, 1, 1 hold frame 0 with `11/`

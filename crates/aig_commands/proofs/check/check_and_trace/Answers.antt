@@ -10,8 +10,8 @@ pub returns : goal.returns
 returns g c =
     record {
       ends =
-          asked_ends ChecksAndTraces c.args.witness.now c.in_ok-read.read
-          (traces_witness c.args.witness.now c.in_ok-read.read)
+          asked_ends (ChecksAndTraces c.args.shown) c.args.witness.now c.in_ok-read.read
+          (traces_witness c.args.shown c.args.witness.now c.in_ok-read.read)
           (flow g.W.Write.written g.W.Write.failures c.args.out.now c.write_run.new.out) c.args.circuit.now c.in_ok-read.ensures.circuit
           c.args.property c.in_ok-refuse_other.ensures.ok c.write_run.result c.write_run.ensures;
     }
@@ -22,10 +22,10 @@ returns-in_err-refuse_other g c =
       ends =
           answered c.from_residual-in_err-refuse_other.result c.in_err-refuse_other.field-0.0
           (CommandEnds (flow g.W.Write.written g.W.Write.failures c.args.out.now c.args.out.now) run_faults.Output
-          (OfFile c.args.circuit.now (OfProperty c.args.property ChecksAndTraces c.args.witness.now)))
+          (OfFile c.args.circuit.now (OfProperty c.args.property (ChecksAndTraces c.args.shown) c.args.witness.now)))
           c.from_residual-in_err-refuse_other.ensures.1
-          (refused_ends ChecksAndTraces c.args.witness.now c.in_ok-read.read
-          (traces_witness c.args.witness.now c.in_ok-read.read)
+          (refused_ends (ChecksAndTraces c.args.shown) c.args.witness.now c.in_ok-read.read
+          (traces_witness c.args.shown c.args.witness.now c.in_ok-read.read)
           g.W.Write.written g.W.Write.failures c.args.out.now c.args.circuit.now c.in_ok-read.ensures.circuit c.args.property
           c.in_err-refuse_other.field-0.0 c.in_err-refuse_other.ensures.fault);
     }
@@ -36,8 +36,8 @@ returns-in_err-read g c =
       ends =
           answered c.from_residual.result (run_faults.Circuit c.in_err-read.field-0.0)
           (CommandEnds (flow g.W.Write.written g.W.Write.failures c.args.out.now c.args.out.now) run_faults.Output
-          (OfFile c.args.circuit.now (OfProperty c.args.property ChecksAndTraces c.args.witness.now)))
+          (OfFile c.args.circuit.now (OfProperty c.args.property (ChecksAndTraces c.args.shown) c.args.witness.now)))
           c.from_residual.ensures.1
           (file_refused g.W.Write.written g.W.Write.failures c.args.out.now run_faults.Output
-          (OfProperty c.args.property ChecksAndTraces c.args.witness.now) c.args.circuit.now c.in_err-read.field-0.0 c.in_err-read.ensures.fault);
+          (OfProperty c.args.property (ChecksAndTraces c.args.shown) c.args.witness.now) c.args.circuit.now c.in_err-read.field-0.0 c.in_err-read.ensures.fault);
     }

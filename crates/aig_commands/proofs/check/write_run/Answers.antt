@@ -16,8 +16,8 @@ returns-in-Err-Io g c =
     let v = c.in_ok-verdict.verdict in
     CommandEnds.breaks_off (Ok v) (reported ++ verdict_text v)
     (shows_so c.args.circuit.now c.args.witness.now v w spelled admitted shown (λ e. c.in_ok-verdict.ensures.confirmed e w spelled), (reported, reports, refl))
-    (got_part g.W.Write.written g.W.Write.failures c.args.out.now c.trace_witness.new.out (reported ++ verdict_text v) _
-    (trace_stopped g.W.Write.written g.W.Write.failures c.args.out.now c.trace_witness.new.out reported (verdict_text v)
+    (got_part g.W.Write.written g.W.Write.failures c.args.out.now c.write_trace.new.out (reported ++ verdict_text v) _
+    (trace_stopped g.W.Write.written g.W.Write.failures c.args.out.now c.write_trace.new.out reported (verdict_text v)
     done beginning wrote count))
 
 pub returns-in-Ok-write_verdict : goal.returns-in-Ok-write_verdict
@@ -29,7 +29,7 @@ returns-in-Ok-write_verdict g c =
     (shows_so c.args.circuit.now c.args.witness.now v w spelled admitted shown (λ e. c.in_ok-verdict.ensures.confirmed e w spelled), (reported, reports, refl))
     (got_all g.W.Write.written g.W.Write.failures c.args.out.now c.write_verdict.new.out (reported ++ verdict_text v) v
     (both_written g.W.Write.written g.W.Write.failures c.args.out.now c.write_verdict.new.out reported (verdict_text v)
-    c.trace_witness.new.out wrote none v c.in-Ok-write_verdict.ensures.ok c.in-Ok-write_verdict.ensures.count))
+    c.write_trace.new.out wrote none v c.in-Ok-write_verdict.ensures.ok c.in-Ok-write_verdict.ensures.count))
 
 pub returns-in-Err : goal.returns-in-Err
 returns-in-Err g c =
@@ -41,12 +41,12 @@ returns-in-Err g c =
     (shows_so c.args.circuit.now c.args.witness.now v w spelled admitted shown (λ e. c.in_ok-verdict.ensures.confirmed e w spelled), (reported, reports, refl))
     (got_part g.W.Write.written g.W.Write.failures c.args.out.now c.write_verdict.new.out (reported ++ verdict_text v) _
     (line_stopped g.W.Write.written g.W.Write.failures c.args.out.now c.write_verdict.new.out reported (verdict_text v)
-    c.trace_witness.new.out wrote none done beginning line c.in-Err.ensures.count))
+    c.write_trace.new.out wrote none done beginning line c.in-Err.ensures.count))
 
 pub returns-in_err-verdict : goal.returns-in_err-verdict
 returns-in_err-verdict g c =
     answered c.from_residual.result (run_faults.Witness c.in_err-verdict.field-0.0)
-    (CommandEnds (flow g.W.Write.written g.W.Write.failures c.args.out.now c.args.out.now) run_faults.Output (ChecksAndTraces c.args.witness.now c.args.circuit.now))
+    (CommandEnds (flow g.W.Write.written g.W.Write.failures c.args.out.now c.args.out.now) run_faults.Output (ChecksAndTraces c.args.shown c.args.witness.now c.args.circuit.now))
     c.from_residual.ensures.1 (CommandEnds.writes_all [] (c.in_err-verdict.ensures.fault, refl) (got_none g.W.Write.written g.W.Write.failures c.args.out.now))
 
 pub returns-in-Err-Witness : goal.returns-in-Err-Witness
