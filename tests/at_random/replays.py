@@ -1,6 +1,6 @@
-"""Small random circuits and witnesses: the verdict, the trace (`aig check --trace`) and the dump (`aig wave --witness`,
-read back by library/dump_reader.py) are those of library/reference.py, of the circuit with the witness's start as its
-resets."""
+"""Small random circuits and witnesses: the verdict, the trace (`aig check --trace`), the trace with properties and the
+dump (`aig wave --witness`, read back by library/dump_reader.py) are those of library/reference.py, of the circuit with
+the witness's start as its resets."""
 
 from at_random.cases import Wrong, each
 from library.broken import circuit, values as random_values
@@ -58,11 +58,11 @@ def case(program, rng):
     rows = [random_values(rng, len(parts.inputs)) for _ in range(rng.randrange(1, 6))]
     write("circuit", text)
     write("witness", f"1\nb{bad}\n{start}\n" + "".join(row + "\n" for row in rows) + ".\n")
-    commands = (["check"], ["check", "--trace"], ["wave", "--witness"])
-    checked, traced, waved = (program.run(*words, "circuit", "witness") for words in commands)
+    commands = (["check"], ["check", "--trace"], ["check", "--trace", "--properties"], ["wave", "--witness"])
+    checked, traced, listed, waved = (program.run(*words, "circuit", "witness") for words in commands)
     if bad == len(parts.bad):
-        if not checked == traced == waved == refused("witness: property"):
-            raise Wrong(f"{checked}, {traced} and {waved} at a property that is not there")
+        if not checked == traced == listed == waved == refused("witness: property"):
+            raise Wrong(f"{checked}, {traced}, {listed} and {waved} at a property that is not there")
         return "refused"
     replay = started(text, start)
     known = values(replay, rows)
@@ -72,8 +72,11 @@ def case(program, rng):
         raise Wrong(f"{checked} for {verdict}")
     if traced != Ended(status, (trace(replay, rows) + verdict).encode(), b""):
         raise Wrong(f"another trace: {traced}")
-    dump = Dump(waved.out)
     wanted = shown(parts, known)
+    lines = zip(trace(replay, rows).splitlines(), wanted["bad"], wanted["constraints"])
+    if listed != Ended(status, ("".join(" ".join(line) + "\n" for line in lines) + verdict).encode(), b""):
+        raise Wrong(f"another trace with properties: {listed}")
+    dump = Dump(waved.out)
     if (waved.status, waved.err, dump.times) != (0, b"", list(range(len(rows) + 1))):
         raise Wrong(f"another dump: {waved}")
     if {scope: dump.of(scope) for scope in wanted} != wanted:

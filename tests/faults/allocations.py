@@ -30,6 +30,7 @@ RUNS = (
     ("cnf", ["cnf", "--frames", "3", "guarded_latch"]),
     ("check", ["check", f"{EXAMPLES}/wraps.aag", f"{EXAMPLES}/wraps.wit"]),
     ("check with a trace", ["check", "--trace", f"{EXAMPLES}/wraps.aag", f"{EXAMPLES}/wraps.wit"]),
+    ("check with properties", ["check", "--trace", "--properties", f"{EXAMPLES}/wraps.aag", f"{EXAMPLES}/wraps.wit"]),
     ("check of a run", ["check", "--alive", "--frames", "3", f"{EXAMPLES}/wraps.aag", f"{EXAMPLES}/wraps.wit"]),
     ("wave of a witness", ["wave", "--witness", f"{EXAMPLES}/wraps.aag", f"{EXAMPLES}/wraps.wit"]),
     ("info", ["info", f"{EXAMPLES}/two_gates.aag"]),

@@ -98,6 +98,8 @@ RUNS = (
     ("why --of b1", [("circuit", BAD_INPUT), ("stimulus", b"1\n")], "output", 1, b"aig: why: name\n", [b""]),
     ("check --trace", [("circuit", BAD_INPUT), ("witness", b"1\nb0\n\nx\n.\n")], "output",
      1, b"", [b" x  \nnot bad\n"]),
+    ("check --trace --properties", [("circuit", BAD_INPUT), ("witness", b"1\nb0\n\nx\n.\n")], "output",
+     1, b"", [b" x   x \nnot bad\n"]),
     ("wave --witness", [("circuit", BAD_INPUT), ("witness", b"1\nb0\n\nx\n1\n.\n")], "output", 0, b"",
      [WITNESS_HEADER + b'#0\n$dumpvars\nx!\nx"\n$end\n#1\n1!\n1"\n#2\n']),
     ("wave --witness", [("circuit", BAD_INPUT), ("witness", b"1\nb1\n\nx\n.\n")], "output",

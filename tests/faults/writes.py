@@ -114,6 +114,7 @@ RUNS = (
     ("check with a trace and another verdict", "check --trace bad_input witness", {"witness": "1\nb0\n\n0\n.\n"},
      OUTPUT),
     ("check with a trace of more than a block", "check --trace bad_input witness", {"witness": MANY_FRAMES}, OUTPUT),
+    ("check with properties", "check --trace --properties bad_input witness", {"witness": MANY_FRAMES}, OUTPUT),
     ("check with a trace of a refused witness", "check --trace bad_input witness", {"witness": "1\nb1\n\n0\n.\n"},
      refused("witness: property")),
     ("wave of a witness", "wave --witness bad_input witness", {"witness": "1\nb0\n\n1\n.\n"}, OUTPUT),

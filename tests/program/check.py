@@ -161,7 +161,8 @@ def alive(rows):
     rows.refuses("a run that is too long to be alive", words, "witness: limit", witness=frames_of(1, 65537) + ".\n")
     rows.refuses("a circuit wins over a run", "check --alive cycle witness", "circuit: cycle 2")
     rows.fails("no file of a run", "check --alive bad_input nowhere", "witness")
-    for words in ("--alive --trace", "--alive --property 0", "--frames 1", "--frames 1 --trace", "--alive --frames -1",
+    for words in ("--alive --trace", "--alive --properties", "--alive --trace --properties", "--alive --property 0",
+                  "--properties --frames 1", "--frames 1", "--frames 1 --trace", "--alive --frames -1",
                   "--alive --frames 01", "--alive --frames 4294967296", "--alive --frames"):
         got = rows.run("check", *words.split(" "), "bad_input", "witness")
         rows.tally.check(f"check: {words}", got.status == 2 and not got.out, got)

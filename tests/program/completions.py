@@ -58,7 +58,8 @@ SPLIT = (
     (["select", "--"], ["--as", "--explain", "--from", "--help", "--names", "--progress", "--property", "--to"]),
     (["select", "--from", "=", "o"], ["outputs"]),
     (["select", "--as", ""], ["bad", "outputs"]),
-    (["check", "--"], ["--alive", "--explain", "--frames", "--help", "--progress", "--property", "--trace"]),
+    (["check", "--"],
+     ["--alive", "--explain", "--frames", "--help", "--progress", "--properties", "--property", "--trace"]),
     (["check", "--alive", "--frames", "3", "a"], ["a.aag"]),
     (["witness", "--"],
      ["--alive", "--certificate", "--explain", "--frames", "--help", "--model", "--progress", "--property", "--step"]),
@@ -82,6 +83,7 @@ SPLIT = (
     (["sim", "a.aag", ""], ["a.aag", "b.aig", "notes", "rows.stim", "sub", "with space.aag"]),
     (["wave", "--witness", "a"], ["a.aag"]),
     (["check", "--trace", "a.aag", "ro"], ["rows.stim"]),
+    (["check", "--trace", "--properties", "a"], ["a.aag"]),
     (["check", "-$(touch hacked)", "a"], ["a.aag"]),
     (["check", "$(touch hacked)", "ro"], ["rows.stim"]),
 )

@@ -1,5 +1,5 @@
-"""Rows of `aig check --trace` and `aig wave --witness`: the runs of witnesses, whatever their verdicts, as traces and
-as dumps; refused witnesses, of which nothing is written; and which file a failure names."""
+"""Rows of `aig check --trace` and `aig wave --witness`: the runs of witnesses, whatever their verdicts, as traces, with
+properties or without, and as dumps; refused witnesses, of which nothing is written; and which file a failure names."""
 
 from library.circuits import write_all
 from library.dump_reader import Dump
@@ -21,15 +21,18 @@ GUARDED = (FRONT + scope("inputs", "wire", ("!", "i0"), ('"', "i1")) + scope("ba
            + scope("constraints", "wire", ("$", "c0")) + BEHIND)
 CONSTRAINED = "aag 2 2 0 0 0 1 1\n2\n4\n2\n4\n"
 
-# What is run, the circuit, the lines of the witness after its property, its trace, its verdict and its dump.
+# What is run, the circuit, the lines of the witness after its property, its trace, the bad states and the constraints
+# of each frame, its verdict and its dump.
 REPLAYS = (
-    ("a free latch that starts at 1", FREE, "1\n\n\n\n", "1  0 0\n0  1 1\n1  0 0\n", "confirmed",
+    ("a free latch that starts at 1", FREE, "1\n\n\n\n", "1  0 0\n0  1 1\n1  0 0\n", "1 /0 /1 ", "confirmed",
      TOGGLES + TOGGLED + '1!\n0"\n1#\n#3\n'),
-    ("a bad state that is not reached", FREE, "1\n\n\n", "1  0 0\n0  1 1\n", "not bad", TOGGLES + TOGGLED),
-    ("an unknown start", FREE, "x\n\n", "x  x x\n", "not bad", TOGGLES + UNKNOWN),
-    ("a start that the reset does not allow", RESET, "1\n\n\n", "1  0 0\n0  1 1\n", "initial 0", TOGGLES + TOGGLED),
-    ("a start at x that the reset does not allow", RESET, "x\n\n", "x  x x\n", "initial 0", TOGGLES + UNKNOWN),
-    ("a constraint that does not hold", CONSTRAINED, "\n11\n1x\n11\n", " 11  \n 1x  \n 11  \n", "constraint 1 0",
+    ("a bad state that is not reached", FREE, "1\n\n\n", "1  0 0\n0  1 1\n", "1 /0 ", "not bad", TOGGLES + TOGGLED),
+    ("an unknown start", FREE, "x\n\n", "x  x x\n", "x ", "not bad", TOGGLES + UNKNOWN),
+    ("a start that the reset does not allow", RESET, "1\n\n\n", "1  0 0\n0  1 1\n", "1 /0 ", "initial 0",
+     TOGGLES + TOGGLED),
+    ("a start at x that the reset does not allow", RESET, "x\n\n", "x  x x\n", "x ", "initial 0", TOGGLES + UNKNOWN),
+    ("a constraint that does not hold", CONSTRAINED, "\n11\n1x\n11\n", " 11  \n 1x  \n 11  \n", "1 1/1 x/1 1",
+     "constraint 1 0",
      GUARDED + '#0\n$dumpvars\n1!\n1"\n1#\n1$\n$end\n#1\nx"\nx$\n#2\n1"\n1$\n#3\n'),
 )
 
@@ -48,16 +51,20 @@ FAILURES = (
     ("circuit", ("nowhere witness", "nowhere nowhere", ". witness", ". .")),
     ("witness", ("circuit nowhere", "circuit .", "cycle nowhere", ". nowhere")),
 )
-COMMANDS = ("check --trace", "wave --witness")
+COMMANDS = ("check --trace", "check --trace --properties", "wave --witness")
 
 
 def replays(program, tally, _):
     rows = Rows("replays", program, tally)
     write_all()
-    for name, circuit, lines, trace, verdict, dump in REPLAYS:
+    for name, circuit, lines, trace, shown, verdict, dump in REPLAYS:
         texts = {"circuit": circuit, "witness": f"1\nb0\n{lines}.\n"}
         status = 0 if verdict == "confirmed" else 1
         rows.gives(f"{name}, its trace", "check --trace circuit witness", f"{trace}{verdict}\n", status, **texts)
+        with_shown = "".join(f"{line} {fields}\n" for line, fields in zip(trace.splitlines(), shown.split("/")))
+        for words in ("--trace --properties", "--properties --trace"):
+            rows.gives(f"{name}, {words}", f"check {words} circuit witness", f"{with_shown}{verdict}\n", status,
+                       **texts)
         rows.gives(f"{name}, its dump", "wave --witness circuit witness", dump, **texts)
         rows.gives(f"{name}, without a trace", "check circuit witness", f"{verdict}\n", status, **texts)
         agrees(rows, name, ["circuit", "witness"])
@@ -72,13 +79,15 @@ def replays(program, tally, _):
 
 
 def agrees(rows, name, files):
-    """The dump of a run, read back, has the values of its trace, and ends after it."""
-    traced, ended = (rows.program.run(*command.split(" "), *files) for command in COMMANDS)
-    lines = traced.out.decode().splitlines()[:-1]
+    """The dump of a run, read back, has the values of its trace and its properties, and ends after it."""
+    traced, shown, ended = (rows.program.run(*command.split(" "), *files) for command in COMMANDS)
+    lines, with_shown = (it.out.decode().splitlines()[:-1] for it in (traced, shown))
     dump = Dump(ended.out)
     fields = [dump.of(scope_name) for scope_name in ("latches", "inputs", "outputs")]
     rows.tally.compare(f"replays: {name}, read back", [" ".join(field) for field in zip(*fields)],
                        [line.rsplit(" ", 1)[0] for line in lines])
+    fields = [lines, *(dump.of(scope_name) for scope_name in ("bad", "constraints"))]
+    rows.tally.compare(f"replays: {name}, its properties", with_shown, [" ".join(field) for field in zip(*fields)])
     rows.tally.compare(f"replays: {name}, its end", (dump.times[-1], ended._replace(out=b"")),
                        (len(lines), Ended(0, b"", b"")))
 

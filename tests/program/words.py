@@ -18,6 +18,8 @@ REFUSALS = (
     ("a dump of a witness without one", ["wave", "--witness", "two_gates"]),
     ("a flag that is given twice", ["wave", "--witness", "--witness", "two_gates", "two_gates"]),
     ("a flag with a value", ["check", "--trace=1", "two_gates", "two_gates"]),
+    ("properties without a trace", ["check", "--properties", "two_gates", "two_gates"]),
+    ("properties of another command", ["wave", "--witness", "--properties", "two_gates", "two_gates"]),
     ("a flag of another command", ["sim", "--trace", "two_gates", "two_gates"]),
     ("names of another command", ["toaig", "--names", "--to", "aag", "two_gates"]),
     ("names of no circuit", ["info", "--names"]),

@@ -98,8 +98,8 @@ abbrev pub witness : Rule
 witness = needed (place (codes "WITNESS"))
 
 abbrev pub on_witnesses : List Shape
-on_witnesses = command (codes "check") (flag (codes "trace") ∷ property ∷ bound (flag (codes "alive"))
-    ∷ bound (number (codes "frames") (codes "K")) ∷ circuit ∷ witness ∷ [])
+on_witnesses = command (codes "check") (flag (codes "trace") ∷ bound (flag (codes "properties")) ∷ property
+    ∷ bound (flag (codes "alive")) ∷ bound (number (codes "frames") (codes "K")) ∷ circuit ∷ witness ∷ [])
     ∷ command (codes "witness") (named (codes "model") ∷ bound (number (codes "frames") (codes "K"))
     ∷ flag (codes "step") ∷ bound (named (codes "certificate")) ∷ bound (flag (codes "alive")) ∷ property ∷ circuit
     ∷ bound (place (codes "STIM")) ∷ [])

@@ -330,6 +330,14 @@ pub const TRACE: Argument = Argument {
     need: Need::Never,
 };
 
+/// The fields that `check --trace` shows beside those of `sim`.
+pub const TRACED_PROPERTIES: Argument = Argument {
+    name: "properties",
+    help: "With --trace, show bad states and constraints too",
+    kind: Kind::Flag,
+    need: Need::With("trace", &["alive", "K"]),
+};
+
 pub const NAMES: Argument = Argument {
     name: "names",
     help: "Print the entries with their names instead",

@@ -160,7 +160,8 @@ count from 0:
 The exit status is 0 for confirmed, and 1 for any other verdict.
 
 With --trace, check prints the run before the verdict, one line per frame as sim
-does, whatever the verdict is.
+does, whatever the verdict is. With --properties, each line has two more fields:
+the bad state properties and the constraints.
 
 With --property, check accepts only a witness of this property, and rejects any
 other with status 1: confirmed then says that property P is reached.

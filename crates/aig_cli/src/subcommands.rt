@@ -118,6 +118,7 @@ static WITNESSES: [Subcommand; 4] = [
         usage: None,
         arguments: &[
             arguments::TRACE,
+            arguments::TRACED_PROPERTIES,
             arguments::CHECKED,
             arguments::CHECKS_ALIVE,
             arguments::CHECKED_FRAMES,

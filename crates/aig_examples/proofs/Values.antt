@@ -1,20 +1,24 @@
 -- The examples of the definitions of `aig_values`.
 use Rattle.std.proofs.Common.{zero, inl, inr, List, subst, ◌≡◌, ℕ, suc, ◌+◌, ◌*◌, [], ◌∷◌, Some, slice_get, refl, arith}
-use Rattle.std.specs.Prelude.{codes, map, take}
+use Rattle.std.specs.Prelude.{None, codes, map, take}
 use Rattle.std.specs.Int.Bits.{bit_and}
 use Rattle.aig_parts.specs.Literal.{variable}
 use Rattle.aig_parts.specs.Ternary.{kleene_and}
 use Rattle.aig_parts.specs.declared.gate.Gate.{Gate}
+use Rattle.aig_parts.specs.declared.raw.Raw.{Raw}
 use Rattle.aig_parts.specs.declared.ternary.Tern.TheVariants.{Zero, One, X}
 use Rattle.aig_base.specs.Grounded as by
 use Rattle.aig_base.specs.Sections.{IsGate}
+use Rattle.aig_base.specs.Value as value
+use Rattle.aig_base.specs.Value.{Value}
 use Rattle.aig_values.specs.Cells.{literal_value, with_new_cell}
 use Rattle.aig_values.specs.Characters.{character}
 use Rattle.aig_values.specs.Codes.{bits_of}
 use Rattle.aig_values.specs.Contiguous.{AreContiguous}
 use Rattle.aig_values.specs.GateOrder.{IsGateOrder, IsSourceOrEarlier}
 use Rattle.aig_values.specs.InputRows.{with_cell}
-use Rattle.aig_values.specs.Trace.{IsTrace}
+use Rattle.aig_values.specs.PropertyTrace.{IsPropertyTrace}
+use Rattle.aig_values.specs.Trace.{IsTrace, IsTraceLine}
 use Rattle.aig_values.specs.TraceText.{fields_text, line_text}
 use Rattle.aig_values.specs.state.Frame.{HoldsAll}
 use Rattle.aig_values.specs.state.LiteralCodes.{by_literal}
@@ -107,6 +111,62 @@ trace_of_11 = (
   },
   refl,
 )
+
+-- input 2 is bad, and its negation a constraint: of `1/` the trace with properties is ` 1   1 0/`
+abbrev own_constraint : Raw
+own_constraint = record {
+  max_var = 1;
+  inputs = 2 ∷ [];
+  latches = [];
+  outputs = [];
+  bad = 2 ∷ [];
+  constraints = 3 ∷ [];
+  justice = [];
+  fairness = [];
+  gates = [];
+  symbols = [];
+  comment = None;
+}
+
+input_is_one : Value own_constraint [] ((One ∷ []) ∷ []) 0 2 One
+input_is_one = value.input 0 0 2 One (One ∷ []) refl refl refl
+
+constraint_is_zero : Value own_constraint [] ((One ∷ []) ∷ []) 0 3 Zero
+constraint_is_zero = value.negated 0 3 One (omega arith) (omega arith) input_is_one
+
+properties_of_1 : IsTrace own_constraint [] ((One ∷ []) ∷ []) (codes " 1  \n")
+    × IsPropertyTrace own_constraint [] ((One ∷ []) ∷ []) (codes " 1   1 0\n")
+properties_of_1 = (
+  ([], codes " 1  \n", refl, fields, refl),
+  (
+    [],
+    codes " 1   1 0\n",
+    refl,
+    record {
+      fields = codes " 1  ";
+      bad = codes "1";
+      constraints = codes "0";
+      fields_are = fields;
+      bad_are = ((One, input_is_one, refl), tt);
+      constraints_are = ((Zero, constraint_is_zero, refl), tt);
+      line_is = refl;
+    },
+    refl,
+  ),
+)
+  where
+    fields : IsTraceLine own_constraint [] ((One ∷ []) ∷ []) 0 (codes " 1  \n")
+    fields = record {
+      state = [];
+      inputs = codes "1";
+      outputs = [];
+      next = [];
+      state_is = tt;
+      inputs_are = ((One, input_is_one, refl), tt);
+      outputs_are = tt;
+      next_is = tt;
+      line_is = refl;
+    }
 
 -- the cells 0, 1, 1, 1, 1 give ` 11 1 /`
 line_of_cells : line_text two_gates (Zero ∷ One ∷ One ∷ One ∷ One ∷ []) ≡ codes " 11 1 \n"

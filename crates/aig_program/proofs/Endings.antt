@@ -1,7 +1,7 @@
 -- How a command's function ends, from how the command does.
 use Rattle.std.proofs.Common.{◌≡◌, ◌≢◌, ◌⊎◌, inl, inr, ℕ, ◌+◌, ◌≤◌, List, [], ◌++◌, Result, Ok, Err, refl, sym, ◌∙◌, ap, subst, arith}
 use Rattle.std.proofs.lemmas.List.{append-nil, append_assoc}
-use Rattle.std.specs.Prelude.{Bool, true, false, IsTrue, Option, None, Some, IfErr, IfSome, OnOk}
+use Rattle.std.specs.Prelude.{IsTrue, Option, None, Some, IfErr, IfSome, OnOk}
 use Rattle.std.specs.Result.{IsErrAnd}
 use Rattle.aig_bytes.specs.Bytes.{IsAtEnd, IsBeginning, before}
 use Rattle.aig_bytes.specs.Flow.{Flow, flow}
@@ -14,6 +14,7 @@ use Rattle.aig_sim.specs.declared.witness.verdict.Verdict.{Verdict}
 use Rattle.aig_sim.specs.declared.witness.verdict.Verdict.TheVariants.{Initial, Constraint, NotBad, Confirmed}
 use Rattle.aig_command.specs.Command.{BreaksOff, CommandEnds, EndsReading, Gave, Got, OfFile, OfReader, Text}
 use Rattle.aig_command.specs.Flushed.{IsFlushed, flushes, fails}
+use Rattle.aig_commands.specs.declared.check.Shown.{Shown}
 use Rattle.aig_command.specs.declared.run_fault.RunFault.{RunFault}
 use Rattle.aig_command.specs.declared.run_fault.RunFault.TheVariants as run_faults
 use Rattle.aig_files.specs.declared.exit.Exit.{Exit}
@@ -303,33 +304,33 @@ ok_flushed {T = T} P out fault answer r (told, flushes kept count, is) p = ok_of
 ok_flushed {T = T} P out fault answer r (told, fails kept count, is) p = ok_of {T = T} P (Err fault) r is tt
 
 -- a good end of a check is that of a confirmed witness
-confirmed_file : (out : Flow Seen) (fault : RunFault) (trace : Bool) (asked : Option ℕ) (file text : List ℕ)
+confirmed_file : (out : Flow Seen) (fault : RunFault) (shown : Option Shown) (asked : Option ℕ) (file text : List ℕ)
     (answer : Result Verdict RunFault) (r : Result (Unit {0}) Exit)
-    → CommandEnds out fault (OfFile file (ChecksWitness trace asked text)) answer → r ≡ end_of_verdict answer
+    → CommandEnds out fault (OfFile file (ChecksWitness shown asked text)) answer → r ≡ end_of_verdict answer
     → OnOk r (AreConfirmed asked file text)
-confirmed_file out fault trace asked file text answer (Err e) a is = tt
-confirmed_file out fault trace asked file text (Err why) (Ok done) a is = cc
-confirmed_file out fault trace asked file text (Ok (Initial latch)) (Ok done) a is = cc
-confirmed_file out fault trace asked file text (Ok (Constraint frame constraint)) (Ok done) a is = cc
-confirmed_file out fault trace asked file text (Ok NotBad) (Ok done) a is = cc
-confirmed_file out fault true None file text (Ok Confirmed) (Ok done) (CommandEnds.writes_all bytes (raw, is_file, means) got) is =
+confirmed_file out fault shown asked file text answer (Err e) a is = tt
+confirmed_file out fault shown asked file text (Err why) (Ok done) a is = cc
+confirmed_file out fault shown asked file text (Ok (Initial latch)) (Ok done) a is = cc
+confirmed_file out fault shown asked file text (Ok (Constraint frame constraint)) (Ok done) a is = cc
+confirmed_file out fault shown asked file text (Ok NotBad) (Ok done) a is = cc
+confirmed_file out fault (Some shown) None file text (Ok Confirmed) (Ok done) (CommandEnds.writes_all bytes (raw, is_file, means) got) is =
     (raw, is_file, means.0, tt)
-confirmed_file out fault false None file text (Ok Confirmed) (Ok done) (CommandEnds.writes_all bytes (raw, is_file, means) got) is =
+confirmed_file out fault None None file text (Ok Confirmed) (Ok done) (CommandEnds.writes_all bytes (raw, is_file, means) got) is =
     (raw, is_file, means.0, tt)
-confirmed_file out fault true (Some property) file text (Ok Confirmed) (Ok done) (CommandEnds.writes_all bytes (raw, is_file, (of, means)) got) is =
+confirmed_file out fault (Some shown) (Some property) file text (Ok Confirmed) (Ok done) (CommandEnds.writes_all bytes (raw, is_file, (of, means)) got) is =
     (raw, is_file, means.0, of)
-confirmed_file out fault false (Some property) file text (Ok Confirmed) (Ok done) (CommandEnds.writes_all bytes (raw, is_file, (of, means)) got) is =
+confirmed_file out fault None (Some property) file text (Ok Confirmed) (Ok done) (CommandEnds.writes_all bytes (raw, is_file, (of, means)) got) is =
     (raw, is_file, means.0, of)
 
-pub confirmed_end : (out : Flow Seen) (fault : RunFault) (trace : Bool) (asked : Option ℕ) (file text : List ℕ)
+pub confirmed_end : (out : Flow Seen) (fault : RunFault) (shown : Option Shown) (asked : Option ℕ) (file text : List ℕ)
     (r : Result (Unit {0}) Exit)
-    → Ends out fault end_of_verdict (OfFile file (ChecksWitness trace asked text)) r → OnOk r (AreConfirmed asked file text)
-confirmed_end out fault trace asked file text r (as_meant answer said is) =
-    confirmed_file out fault trace asked file text answer r said is
-confirmed_end out fault trace asked file text (Err e) (unwritten broken is) = tt
-confirmed_end out fault trace asked file text (Ok done) (unwritten broken is) = let no : ⊥ = cc in absurd no
-confirmed_end out fault trace asked file text (Err e) (unread exit is why none) = tt
-confirmed_end out fault trace asked file text (Ok done) (unread exit is why none) = let no : ⊥ = cc in absurd no
+    → Ends out fault end_of_verdict (OfFile file (ChecksWitness shown asked text)) r → OnOk r (AreConfirmed asked file text)
+confirmed_end out fault shown asked file text r (as_meant answer said is) =
+    confirmed_file out fault shown asked file text answer r said is
+confirmed_end out fault shown asked file text (Err e) (unwritten broken is) = tt
+confirmed_end out fault shown asked file text (Ok done) (unwritten broken is) = let no : ⊥ = cc in absurd no
+confirmed_end out fault shown asked file text (Err e) (unread exit is why none) = tt
+confirmed_end out fault shown asked file text (Ok done) (unread exit is why none) = let no : ⊥ = cc in absurd no
 
 -- a good end of a check of the constraints is that of a run that keeps them
 alive_file : (out : Flow Seen) (fault : RunFault) (asked : Option ℕ) (file text : List ℕ)

@@ -16,6 +16,8 @@ use Rattle.aig_command.specs.Position.{IsPositionIn}
 use Rattle.aig_files.specs.Source.{source_remaining}
 use Rattle.aig_files.specs.declared.source.Source.{Source}
 use Rattle.aig_cli.specs.Held.{HoldsFlag, HoldsNumber}
+use Rattle.aig_commands.specs.declared.check.Shown.{Shown}
+use Rattle.aig_commands.specs.declared.check.Shown.TheVariants.{Properties, Trace}
 use Rattle.aig_commands.specs.declared.question.Question.{Question}
 use Rattle.aig_commands.specs.declared.question.Question.TheVariants as questions
 use Rattle.aig_why.specs.declared.command.Span.{Span}
@@ -124,6 +126,12 @@ abbrev pub HoldsForm : ArgMatches → Form → Type 0
 HoldsForm matches Text = HoldsFlag matches (codes "json") false
 HoldsForm matches Json = HoldsFlag matches (codes "json") true
 
+-- there is a trace exactly if that flag is given, and it shows properties exactly if theirs is
+abbrev pub HoldsShown : ArgMatches → Option Shown → Type 0
+HoldsShown matches None = HoldsFlag matches (codes "trace") false
+HoldsShown matches (Some Trace) = HoldsFlag matches (codes "trace") true × HoldsFlag matches (codes "properties") false
+HoldsShown matches (Some Properties) = HoldsFlag matches (codes "trace") true × HoldsFlag matches (codes "properties") true
+
 -- The numbers of a command are those that the matches hold, and its form is the one that its options and flags choose.
 abbrev pub HoldsOptions : {F : Type 0} → ArgMatches → Command (Source F) → Type 0
 HoldsOptions matches (commands.Toaig it) = HoldsFormat matches it.to
@@ -135,8 +143,7 @@ HoldsOptions matches (commands.UnrollAndMap it) =
     HoldsNumber matches (codes "K") (Some it.frames) × HoldsFormat matches it.to
     × (first_value (found_of matches) (codes "map") ≡ Some it.map.now)
 HoldsOptions matches (commands.Check it) =
-    HoldsFlag matches (codes "alive") false × HoldsFlag matches (codes "trace") it.with_trace
-    × HoldsReached matches it.circuit it.property
+    HoldsFlag matches (codes "alive") false × HoldsShown matches it.shown × HoldsReached matches it.circuit it.property
 HoldsOptions matches (commands.CheckAlive it) =
     HoldsFlag matches (codes "alive") true × HoldsNumber matches (codes "K") it.frames
 HoldsOptions matches (commands.Cnf it) = HoldsQuestion matches it.circuit it.question

@@ -52,7 +52,7 @@ EndsAsMeant out left (commands.UnrollAndMap it) result =
     OnOk result (IfSome (left it.circuit) (λ file. Completes out (OfFile file (UnrollsKept it.frames it.to))))
 EndsAsMeant out left (commands.Check it) result =
     IfSome (left it.circuit) (λ file. IfSome (left it.witness) (λ text.
-    Ends out run_faults.Output end_of_verdict (OfFile file (ChecksWitness it.with_trace it.property text)) result))
+    Ends out run_faults.Output end_of_verdict (OfFile file (ChecksWitness it.shown it.property text)) result))
 EndsAsMeant out left (commands.CheckAlive it) result =
     IfSome (left it.circuit) (λ file. IfSome (left it.witness) (λ text.
     Ends out run_faults.Output end_of_alive (OfFile file (ChecksRun it.frames text)) result))

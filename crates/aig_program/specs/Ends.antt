@@ -1,7 +1,7 @@
 -- How the program takes a command's answer, and which bytes its writer gets. That this writer is standard output, and
 -- what reaches that, no clause says.
 -- Examples: `bench` with a faulty stimulus ends with the stimulus's fault; `not bad` ends as `NotConfirmed`.
-use Rattle.std.specs.Prelude.{◌≡◌, ◌⊎◌, ℕ, List, [], Bool, true, false, IsTrue, Option, None, Some, Result, Ok, Err, IfSome}
+use Rattle.std.specs.Prelude.{◌≡◌, ◌⊎◌, ℕ, List, [], IsTrue, Option, None, Some, Result, Ok, Err, IfSome}
 use Rattle.aig_bytes.specs.Bytes.{IsBeginning}
 use Rattle.aig_bytes.specs.Flow.{Flow, flow}
 use Rattle.aig_parts.specs.declared.fault.Fault.TheVariants as circuits
@@ -23,6 +23,7 @@ use Rattle.aig_files.specs.declared.part.Part.TheVariants as parts
 use Rattle.aig_commands.specs.Check.{Checks, ChecksAndTraces, OfProperty, ShowsVerdict}
 use Rattle.aig_commands.specs.CheckAlive.{ShowsRun}
 use Rattle.aig_commands.specs.Select.{SelectsNamed}
+use Rattle.aig_commands.specs.declared.check.Shown.{Shown}
 use Rattle.aig_commands.specs.declared.select.NamedSelection.{NamedSelection}
 
 -- what is seen of a writer: the bytes that it got, where it says which, and how many calls failed
@@ -127,7 +128,7 @@ EndsSelectingNamed out from into positions text to file result =
     × (s.positions.now ≡ positions)
     × (s.names.now ≡ text) × OfFile file (SelectsNamed s to) answer bytes) result
 
--- what `check` means, with `--trace` or without, for the property that is asked for, if one is
-abbrev pub ChecksWitness : Bool → Option ℕ → List ℕ → Raw → Result Verdict RunFault → List ℕ → Type 0
-ChecksWitness true asked text = OfProperty asked ChecksAndTraces text
-ChecksWitness false asked text = OfProperty asked Checks text
+-- what `check` means, with a trace that shows this or with none, for the property that is asked for, if one is
+abbrev pub ChecksWitness : Option Shown → Option ℕ → List ℕ → Raw → Result Verdict RunFault → List ℕ → Type 0
+ChecksWitness (Some shown) asked text = OfProperty asked (ChecksAndTraces shown) text
+ChecksWitness None asked text = OfProperty asked Checks text

@@ -11,6 +11,7 @@ use crate::why::why;
 use crate::witnesses::{check, reduce, wave_witness, witness};
 use aig_base::{PropertySection, Write};
 use aig_command::Given;
+use aig_commands::check::Shown;
 use aig_commands::question::Question;
 use aig_files::{Exit, Kept, Terminal};
 use aig_format::Format;
@@ -104,10 +105,10 @@ pub struct UnrollAndMap<'a, F> {
     pub map: &'a str,
 }
 
-/// `check`: the verdict on a witness, of a property if one is asked for; with `--trace` after its run.
+/// `check`: the verdict on a witness, of a property if one is asked for; with `--trace` after its run, which is shown so.
 #[derive(Drop)]
 pub struct Check<F> {
-    pub with_trace: bool,
+    pub shown: Option<Shown>,
     pub property: Option<u32>,
     pub circuit: F,
     pub witness: F,

@@ -22,14 +22,14 @@ pub fn check<F: Read + Drop, W: Write>(alloc: Global, it: Check<F>, out: &mut W)
         (λ file. IfSome (F.remaining it.witness) (AreConfirmed it.property file))) }
     ensures ends { IfSome (F.remaining it.circuit) (λ file. IfSome (F.remaining it.witness) (λ text.
         Ends (seen W.written W.failures out.old out.new) RunFault.Output end_of_verdict
-        (OfFile file (ChecksWitness it.with_trace it.property text)) result)) }
+        (OfFile file (ChecksWitness it.shown it.property text)) result)) }
 {
     let circuit = read_whole(alloc, it.circuit, Part::Circuit)?;
     let witness = read_whole(alloc, it.witness, Part::Witness)?;
     let file = circuit.as_slice();
     let text = witness.as_slice();
     let read = Check {
-        with_trace: it.with_trace,
+        shown: it.shown,
         property: it.property,
         circuit: file,
         witness: text,
@@ -40,14 +40,24 @@ pub fn check<F: Read + Drop, W: Write>(alloc: Global, it: Check<F>, out: &mut W)
 fn write_verdict<W: Write>(alloc: Global, it: Check<&[u8]>, out: &mut W) -> Result<(), Exit>
     ensures { Ends (seen W.written W.failures out.old out.new) RunFault.Output end_of_verdict
         (OfFile it.entry.circuit.now
-        (ChecksWitness it.entry.with_trace it.entry.property it.entry.witness.now)) result }
+        (ChecksWitness it.entry.shown it.entry.property it.entry.witness.now)) result }
 {
-    if it.with_trace {
-        let done = check::check_and_trace(alloc, it.circuit, it.witness, it.property, out);
-        confirmed(done, out)
-    } else {
-        let done = check::check(alloc, it.circuit, it.witness, it.property, out);
-        confirmed(done, out)
+    match it.shown {
+        Some(shown) => {
+            let done = check::check_and_trace(
+                alloc,
+                it.circuit,
+                it.witness,
+                it.property,
+                shown,
+                out,
+            );
+            confirmed(done, out)
+        }
+        None => {
+            let done = check::check(alloc, it.circuit, it.witness, it.property, out);
+            confirmed(done, out)
+        }
     }
 }
 

@@ -1,7 +1,10 @@
 //! Witnesses.
 use crate::parts::{of_file, writes};
 use aig_base::Circuit;
-use aig_sim::{ReplayFault, Verdict, WitnessFault, check_witness, dump_witness, trace_witness};
+use aig_sim::{
+    ReplayFault, Verdict, WitnessFault, check_witness, dump_witness, trace_properties,
+    trace_witness,
+};
 use std::alloc::Global;
 
 // A latch that is 0 and 1 in turn is the bad state.
@@ -58,6 +61,18 @@ fn traces(alloc: Global, circuit: &mut Circuit) -> bool {
 #[test]
 fn the_trace_of_a_witness(rt: HostRuntime) {
     assert!(rt; of_file(rt.alloc(), UNINITIALISED, traces));
+}
+
+fn lists(alloc: Global, circuit: &mut Circuit) -> bool {
+    writes(alloc, 100, b"1 0  0 1 \n0 x  1 0 \n", |out| {
+        trace_properties(alloc, circuit, FROM_ONE, out) == Ok(())
+    })
+}
+
+// With properties each line ends with the bad state and no constraint.
+#[test]
+fn the_properties_of_a_witness(rt: HostRuntime) {
+    assert!(rt; of_file(rt.alloc(), UNINITIALISED, lists));
 }
 
 fn dumps(alloc: Global, circuit: &mut Circuit) -> bool {

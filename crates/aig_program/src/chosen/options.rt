@@ -1,11 +1,12 @@
 //! The options of a command, as the parser found them.
 ghost use Rattle.std.specs.Prelude.{◌≡◌, IfOk, Some, codes};
 ghost use Rattle.aig_cli.specs.Held.{HoldsNumber};
-ghost use Rattle.aig_program.specs.Chosen.{HoldsForm, HoldsFormat, HoldsSection, HoldsSpan, property_text};
+ghost use Rattle.aig_program.specs.Chosen.{HoldsForm, HoldsFormat, HoldsSection, HoldsShown, HoldsSpan, property_text};
 ghost use Rattle.aig_program.specs.ChosenFiles.{HoldsKept};
 
 use aig_base::PropertySection;
 use aig_cli::{has_flag, number_of, text_of};
+use aig_commands::check::Shown;
 use aig_files::{Exit, Kept};
 use aig_format::Format;
 use aig_signals::Form;
@@ -68,6 +69,20 @@ pub fn form_of(matches: &ArgMatches<'_>) -> Form
         Form::Json
     } else {
         Form::Text
+    }
+}
+
+/// Returns what the trace shows, if there is one: also the properties, if they are asked for.
+pub fn shown_of(matches: &ArgMatches<'_>) -> Option<Shown>
+    ensures held { HoldsShown matches.now result }
+{
+    if !has_flag(matches, "trace") {
+        return None;
+    }
+    if has_flag(matches, "properties") {
+        Some(Shown::Properties)
+    } else {
+        Some(Shown::Trace)
     }
 }
 

@@ -5,6 +5,7 @@ ghost use Rattle.aig_program.specs.Chosen.{HoldsOptions, command_name};
 ghost use Rattle.aig_program.specs.ChosenFiles.{HoldsFiles};
 
 use crate::chosen::named_files::{open_circuit, open_named};
+use crate::chosen::options::shown_of;
 use crate::chosen::properties::open_circuit_and_reached;
 use crate::chosen::solvers::open_model_witness;
 use crate::command::{Check, CheckAlive, Command, Reduce, Witness};
@@ -29,7 +30,7 @@ pub fn open_check<'m, 't, R: Files + AllocGlobal + Clock + Eprint>(
     let (circuit, property) = open_circuit_and_reached(terminal, matches)?;
     let witness = open_named(terminal, matches, "WITNESS", Part::Witness)?;
     Ok(Command::Check(Check {
-        with_trace: has_flag(matches, "trace"),
+        shown: shown_of(matches),
         property,
         circuit,
         witness,

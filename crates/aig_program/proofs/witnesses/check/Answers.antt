@@ -15,7 +15,7 @@ returns-clause-confirmed g c =
     (λ xs. IfSome (g.F.Read.remaining c.args.it.witness) (AreConfirmed c.args.it.property xs))
     (ok_whole c.write_verdict.result (g.F.Read.remaining c.args.it.witness) text
     (slice_whole (g.F.Read.remaining c.args.it.witness) _ _ c.as_slice-text.ensures.value c.in_ok-witness.ensures.whole) (AreConfirmed c.args.it.property file)
-    (confirmed_end _ _ c.args.it.with_trace c.args.it.property file text c.write_verdict.result c.write_verdict.ensures))
+    (confirmed_end _ _ c.args.it.shown c.args.it.property file text c.write_verdict.result c.write_verdict.ensures))
 
 pub returns-in_err-circuit-clause-confirmed : goal.returns-in_err-circuit-clause-confirmed
 returns-in_err-circuit-clause-confirmed g c =
@@ -35,10 +35,10 @@ returns-clause-ends g c =
     of_whole (g.F.Read.remaining c.args.it.circuit) file
     (slice_whole (g.F.Read.remaining c.args.it.circuit) _ _ c.as_slice-file.ensures.value c.in_ok-circuit.ensures.whole)
     (λ xs. IfSome (g.F.Read.remaining c.args.it.witness)
-    (λ ys. Ends out run_faults.Output end_of_verdict (OfFile xs (ChecksWitness c.args.it.with_trace c.args.it.property ys)) c.write_verdict.result))
+    (λ ys. Ends out run_faults.Output end_of_verdict (OfFile xs (ChecksWitness c.args.it.shown c.args.it.property ys)) c.write_verdict.result))
     (of_whole (g.F.Read.remaining c.args.it.witness) text
     (slice_whole (g.F.Read.remaining c.args.it.witness) _ _ c.as_slice-text.ensures.value c.in_ok-witness.ensures.whole)
-    (λ ys. Ends out run_faults.Output end_of_verdict (OfFile file (ChecksWitness c.args.it.with_trace c.args.it.property ys)) c.write_verdict.result)
+    (λ ys. Ends out run_faults.Output end_of_verdict (OfFile file (ChecksWitness c.args.it.shown c.args.it.property ys)) c.write_verdict.result)
     c.write_verdict.ensures)
 
 pub returns-in_err-circuit-clause-ends : goal.returns-in_err-circuit-clause-ends
@@ -48,8 +48,8 @@ returns-in_err-circuit-clause-ends g c =
     let out = seen w f c.args.out.now c.args.out.now in
     let r = c.from_residual in
     of_any (g.F.Read.remaining c.args.it.circuit)
-    (λ xs. IfSome (g.F.Read.remaining c.args.it.witness) (λ ys. Ends out run_faults.Output end_of_verdict (OfFile xs (ChecksWitness c.args.it.with_trace c.args.it.property ys)) r.result))
-    (λ xs. of_any (g.F.Read.remaining c.args.it.witness) (λ ys. Ends out run_faults.Output end_of_verdict (OfFile xs (ChecksWitness c.args.it.with_trace c.args.it.property ys)) r.result)
+    (λ xs. IfSome (g.F.Read.remaining c.args.it.witness) (λ ys. Ends out run_faults.Output end_of_verdict (OfFile xs (ChecksWitness c.args.it.shown c.args.it.property ys)) r.result))
+    (λ xs. of_any (g.F.Read.remaining c.args.it.witness) (λ ys. Ends out run_faults.Output end_of_verdict (OfFile xs (ChecksWitness c.args.it.shown c.args.it.property ys)) r.result)
     (λ ys. (ends_unread (nothing w f c.args.out.now) r.result c.in_err-circuit.field-0.0 parts.Circuit c.in_err-circuit.ensures.fails r.ensures.1)))
 
 pub returns-in_err-witness-clause-ends : goal.returns-in_err-witness-clause-ends
@@ -59,6 +59,6 @@ returns-in_err-witness-clause-ends g c =
     let out = seen w f c.args.out.now c.args.out.now in
     let r = c.from_residual-in_err-witness in
     of_any (g.F.Read.remaining c.args.it.circuit)
-    (λ xs. IfSome (g.F.Read.remaining c.args.it.witness) (λ ys. Ends out run_faults.Output end_of_verdict (OfFile xs (ChecksWitness c.args.it.with_trace c.args.it.property ys)) r.result))
-    (λ xs. of_any (g.F.Read.remaining c.args.it.witness) (λ ys. Ends out run_faults.Output end_of_verdict (OfFile xs (ChecksWitness c.args.it.with_trace c.args.it.property ys)) r.result)
+    (λ xs. IfSome (g.F.Read.remaining c.args.it.witness) (λ ys. Ends out run_faults.Output end_of_verdict (OfFile xs (ChecksWitness c.args.it.shown c.args.it.property ys)) r.result))
+    (λ xs. of_any (g.F.Read.remaining c.args.it.witness) (λ ys. Ends out run_faults.Output end_of_verdict (OfFile xs (ChecksWitness c.args.it.shown c.args.it.property ys)) r.result)
     (λ ys. (ends_unread (nothing w f c.args.out.now) r.result c.in_err-witness.field-0.0 parts.Witness c.in_err-witness.ensures.fails r.ensures.1)))
