@@ -12,7 +12,7 @@ _aig() {
         [wave]="--witness --explain --progress --help"
         [bench]="--circuit-out --stimulus-out --explain --progress --help"
         [shell]="--witness --explain --progress --help"
-        [check]="--trace --property --alive --frames --explain --progress --help"
+        [check]="--trace --properties --property --alive --frames --explain --progress --help"
         [witness]="--model --frames --step --certificate --alive --property --explain --progress --help"
         [reduce]="--explain --progress --help"
         [why]="--of --frame --depth --witness --json --explain --progress --help"
