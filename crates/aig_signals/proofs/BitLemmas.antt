@@ -32,12 +32,12 @@ words_more h now new all xs ys x is pushed e =
     ∙ ap (λ zs. now ++ zs) (sym (filter_map-append h (x ∷ []) ys)) ∙ ap (λ zs. now ++ filter_map h zs) (sym is) ∙ e
 
 -- the first of some numbers
-numbers_step : (k n : ℕ) → k < n → range_with_len k (n - k) ≡ k ∷ range_with_len (k + 1) (n - (k + 1))
+pub numbers_step : (k n : ℕ) → k < n → range_with_len k (n - k) ≡ k ∷ range_with_len (k + 1) (n - (k + 1))
 numbers_step k n lt =
     let e : n - k ≡ suc (n - (k + 1)) = omega (arith, lt) in
     ap (range_with_len k) e
 
-no_numbers : (k n : ℕ) → n ≤ k → range_with_len k (n - k) ≡ []
+pub no_numbers : (k n : ℕ) → n ≤ k → range_with_len k (n - k) ≡ []
 no_numbers k n le =
     let e : n - k ≡ 0 = omega (arith, le) in
     ap (range_with_len k) e

@@ -1,4 +1,6 @@
 pub mod BitLemmas
+pub mod CalledLemmas
+pub mod CalledWords
 pub mod Defined
 pub mod EntryLemmas
 pub mod JsonLemmas

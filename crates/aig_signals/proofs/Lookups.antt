@@ -64,7 +64,7 @@ module _ (test : ℕ → Bool) where
   ]
 
 module _ (raw : Raw) (name : List ℕ) (rule : Rule) where
-  section_step : (kinds : List Kind) (i : ℕ) (d : Kind) → i < length kinds
+  pub section_step : (kinds : List Kind) (i : ℕ) (d : Kind) → i < length kinds
       → in_sections raw name rule (drop i kinds)
       ≡ or_else (in_section raw name rule (get_or kinds i d)) (in_sections raw name rule (drop (i + 1) kinds))
   section_step kinds i d lt = ap (in_sections raw name rule) (drop_more kinds i d lt)

@@ -8,7 +8,10 @@ use Rattle.aig_signals.specs.declared.lookup.Rule.{Rule}
 use Rattle.aig_signals.specs.declared.lookup.Rule.TheVariants as rule
 use Rattle.aig_signals.specs.Bits.{bits_named}
 use Rattle.aig_signals.specs.Lookup.{or_else, alone, entry_literal, entry_by, literals_by, signal_literals}
-use Rattle.aig_signals.specs.Lookup.{signal_named, literals_called, IsPlain, MeansPlainly, IsNoName, Means, Unknown}
+use Rattle.aig_signals.specs.Lookup as lookup
+use Rattle.aig_signals.specs.Lookup.{literals_called, IsPlain, MeansPlainly, IsNoName, Means, Unknown}
+use Rattle.aig_signals.specs.state.Called.{by_names}
+use Rattle.aig_signals.proofs.CalledLemmas.{or_assoc}
 
 module _ (raw : Raw) (name : List ℕ) where
   -- the literal that a rule finds
@@ -17,36 +20,37 @@ module _ (raw : Raw) (name : List ℕ) where
 
   -- the literals of the signal that is found
   abbrev pub by_signal : Option (List ℕ)
-  by_signal = option_map (signal_literals raw) (signal_named raw name)
+  by_signal = option_map (signal_literals raw) (lookup.signal_named raw name)
+
+  pub first_named : (l : ℕ) → Some l ≡ by_rule rule.FirstName → Some (alone l) ≡ by_names raw name
+  first_named l h = λ i. or_else (or_else (option_map alone (h i)) by_signal) (literals_by raw name rule.FurtherWord)
+
+  pub signal_named : (ls : List ℕ) → None ≡ by_rule rule.FirstName → Some ls ≡ by_signal → Some ls ≡ by_names raw name
+  signal_named ls h s = λ i. or_else (or_else (option_map alone (h i)) (s i)) (literals_by raw name rule.FurtherWord)
+
+  pub further_named : (o : Option ℕ) → None ≡ by_rule rule.FirstName → None ≡ by_signal → o ≡ by_rule rule.FurtherWord
+      → option_map alone o ≡ by_names raw name
+  further_named o h s f = λ i. or_else (or_else (option_map alone (h i)) (s i)) (option_map alone (f i))
 
   -- the rules after further words
   abbrev last : Option (List ℕ)
   last = or_else (bits_named raw name) (literals_by raw name rule.Position)
 
-  pub first_called : (l : ℕ) → Some l ≡ by_rule rule.FirstName → Some (alone l) ≡ literals_called raw name
+  rules_joined : or_else (by_names raw name) last ≡ literals_called raw name
   unfolding literals_called
-  first_called l h = λ i. or_else (option_map alone (h i)) (or_else by_signal (or_else (literals_by raw name rule.FurtherWord) last))
+  rules_joined =
+      or_assoc (or_else (literals_by raw name rule.FirstName) by_signal) (literals_by raw name rule.FurtherWord) last
+      ∙ or_assoc (literals_by raw name rule.FirstName) by_signal (or_else (literals_by raw name rule.FurtherWord) last)
 
-  pub signal_called : (ls : List ℕ) → None ≡ by_rule rule.FirstName → Some ls ≡ by_signal → Some ls ≡ literals_called raw name
-  unfolding literals_called
-  signal_called ls h s = λ i. or_else (option_map alone (h i)) (or_else (s i) (or_else (literals_by raw name rule.FurtherWord) last))
+  pub names_called : (ls : List ℕ) → Some ls ≡ by_names raw name → Some ls ≡ literals_called raw name
+  names_called ls h = (λ i. or_else (h i) last) ∙ rules_joined
 
-  pub further_called : (l : ℕ) → None ≡ by_rule rule.FirstName → None ≡ by_signal → Some l ≡ by_rule rule.FurtherWord
-      → Some (alone l) ≡ literals_called raw name
-  unfolding literals_called
-  further_called l h s f = λ i. or_else (option_map alone (h i)) (or_else (s i) (or_else (option_map alone (f i)) last))
+  pub bits_called : (ls : List ℕ) → None ≡ by_names raw name → Some ls ≡ bits_named raw name → Some ls ≡ literals_called raw name
+  bits_called ls h b = (λ i. or_else (h i) (or_else (b i) (literals_by raw name rule.Position))) ∙ rules_joined
 
-  pub bits_called : (ls : List ℕ) → None ≡ by_rule rule.FirstName → None ≡ by_signal → None ≡ by_rule rule.FurtherWord
-      → Some ls ≡ bits_named raw name → Some ls ≡ literals_called raw name
-  unfolding literals_called
-  bits_called ls h s f b =
-      λ i. or_else (option_map alone (h i)) (or_else (s i) (or_else (option_map alone (f i)) (or_else (b i) (literals_by raw name rule.Position))))
-
-  pub last_called : (o : Option ℕ) → None ≡ by_rule rule.FirstName → None ≡ by_signal → None ≡ by_rule rule.FurtherWord
-      → None ≡ bits_named raw name → o ≡ by_rule rule.Position → option_map alone o ≡ literals_called raw name
-  unfolding literals_called
-  last_called o h s f b p =
-      λ i. or_else (option_map alone (h i)) (or_else (s i) (or_else (option_map alone (f i)) (or_else (b i) (option_map alone (p i)))))
+  pub last_called : (o : Option (List ℕ)) → None ≡ by_names raw name → None ≡ bits_named raw name
+      → o ≡ literals_by raw name rule.Position → o ≡ literals_called raw name
+  last_called o h b p = (λ i. or_else (h i) (or_else (b i) (p i))) ∙ rules_joined
 
   pub plain_called : (ls : List ℕ) → Some ls ≡ literals_called raw name → IsPlain raw name ls
   plain_called ls h = subst (λ (o : Option (List ℕ)). MeansPlainly raw name o ls) h refl

@@ -1,5 +1,5 @@
 -- Runs of entries, put together from the last entry to the first.
-use Rattle.std.proofs.Common.{◌≡◌, ℕ, zero, suc, ◌+◌, ◌-◌, ◌<◌, ◌≤◌, Bool, true, false, List, [], ◌∷◌, ◌++◌, length}
+use Rattle.std.proofs.Common.{◌≡◌, ℕ, zero, suc, ◌+◌, ◌-◌, ◌<◌, ◌≤◌, Bool, true, false, List, [], ◌∷◌, ◌++◌, length, get_or}
 use Rattle.std.proofs.Common.{Some, All, inl, inr, refl, sym, ap, subst, ◌∙◌, arith}
 use Rattle.std.specs.Prelude.{reverse}
 use Rattle.std.proofs.lemmas.List.{reverse-append}
@@ -96,6 +96,13 @@ found_all P test (y ∷ ys) x h is = elim (cases_Bool (test y)) [
   | inr fails ↦
       found_all P test ys x (All-tail P y ys h) (sym (rw fails refl) ∙ is)
 ]
+
+-- each of them is
+pub signal_at : (raw : Raw) (signals : List Signal) (i : ℕ) (signal : Signal) → signals ≡ signals_of raw → i < length signals
+    → signal ≡ get_or signals i signal → IsThere raw signal
+signal_at raw signals i signal is lt at =
+    subst (IsThere raw) (sym (at ∙ ap (λ (xs : List Signal). get_or xs i signal) is))
+    (sections_there raw sections i signal (subst (λ (xs : List Signal). i < length xs) is lt))
 
 -- one that is found is
 pub signal_there : (raw : Raw) (signals : List Signal) (test : Signal → Bool) (signal : Signal) → signals ≡ signals_of raw

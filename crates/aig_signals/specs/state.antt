@@ -1,3 +1,4 @@
+pub mod Called
 pub mod Found
 pub mod Json
 pub mod NameHash

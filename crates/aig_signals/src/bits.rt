@@ -175,7 +175,7 @@ fn bits_between(
 }
 
 /// The literals of all bits from the least index to the greatest, unless one is missing.
-fn all_bits(alloc: Global, bits: &[WordBit]) -> Result<Option<List<Lit>>, Memory>
+pub(crate) fn all_bits(alloc: Global, bits: &[WordBit]) -> Result<Option<List<Lit>>, Memory>
     ensures { IfOk result (λ found. found ≡ spec.all_bits bits.now) }
 {
     match bits.split_first() {

@@ -3,6 +3,7 @@
 #![tactic(auto)]
 
 mod bits;
+mod called;
 mod form;
 mod hash;
 mod json;
@@ -16,9 +17,10 @@ mod signal;
 mod text;
 mod value;
 
+pub use called::{SignalNames, look_up};
 pub use form::Form;
 pub use json::write_name;
-pub use lookup::{entry_named, look_up};
+pub use lookup::entry_named;
 pub use names::{push_first_name, push_readable};
 pub use naming::SectionNaming;
 pub use property::fault::{NamesFault, PropertyFault};

@@ -2,26 +2,23 @@
 ghost use Rattle.std.specs.Prelude.{◌≡◌, ◌∷◌, ◌<◌, ◌≤◌, ◌-◌, ℕ, All, List, length, map, option_copied, option_map};
 ghost use Rattle.std.specs.Prelude.{IfOk, IfSome, IfNone};
 ghost use Rattle.std.specs.List.{range_with_len};
-ghost use Rattle.aig_parts.specs.Literal.{negation, variable};
-ghost use Rattle.aig_base.specs.Sections.{IsDefined};
+ghost use Rattle.aig_parts.specs.Literal.{negation};
 ghost use Rattle.aig_signals.specs.Lookup as spec;
 ghost use Rattle.aig_signals.specs.Lookup.{least, entry_literal, in_sections, signal_literals, signal_named};
-ghost use Rattle.aig_signals.specs.Lookup.{literals_called, IsPlain, IsNoName, Means, Unknown};
 ghost use Rattle.aig_signals.specs.Names.{literal_of, literals_of};
 ghost use Rattle.aig_signals.specs.Signals as signals_spec;
+ghost use Rattle.aig_signals.specs.state.Called.{by_names};
 
-use crate::bits::literals_of_words;
 use crate::names::{has_further_name, push_first_name};
 use crate::section::{SECTIONS, count_of, literal_at};
 use crate::signal::Signal;
 use aig_base::{Circuit, Kind, List, Lit, Memory};
-use aig_certificate::literal_of;
 use aig_names::push_position;
 use std::alloc::Global;
 
 /// What gives an entry a name.
 #[derive(Clone, Copy, Drop)]
-enum Rule {
+pub(crate) enum Rule {
     /// The first word of its symbol; without one, its letter and position.
     FirstName,
     /// A word after the first.
@@ -107,7 +104,7 @@ impl<'a> NameSearch<'a> {
 }
 
 /// The literals of neighbours of a section, from the first up to the end.
-fn literals_between(
+pub(crate) fn literals_between(
     alloc: Global,
     circuit: &Circuit,
     kind: Kind,
@@ -139,7 +136,7 @@ fn signal_of<'a>(signals: &'a [Signal], name: &[u8]) -> Option<&'a Signal>
 }
 
 /// A list of one literal, where there is one.
-fn list_of(alloc: Global, literal: Option<Lit>) -> Result<Option<List<Lit>>, Memory>
+pub(crate) fn list_of(alloc: Global, literal: Option<Lit>) -> Result<Option<List<Lit>>, Memory>
     ensures { IfOk result (λ list. list ≡ option_map spec.alone literal) }
 {
     match literal {
@@ -175,15 +172,15 @@ fn signal_literals(
     }
 }
 
-/// The literals that a name is that of, without numbers and `!`.
-fn literals_called(
+/// What a name is that of by first names, by vectors and by further words.
+pub(crate) fn literals_by_names(
     alloc: Global,
     circuit: &Circuit,
     signals: &[Signal],
     name: &[u8],
 ) -> Result<Option<List<Lit>>, Memory>
     requires { signals.now ≡ signals_spec.signals_of circuit.now }
-    ensures { IfOk result (λ found. found ≡ literals_called circuit.now name.now) }
+    ensures { IfOk result (λ found. found ≡ by_names circuit.now name.now) }
 {
     let search = NameSearch { circuit, name };
     let first = search.literal_by(alloc, Rule::FirstName)?;
@@ -195,37 +192,24 @@ fn literals_called(
         return Ok(Some(literals));
     }
     let further = search.literal_by(alloc, Rule::FurtherWord)?;
-    if let Some(literal) = further {
-        return list_of(alloc, Some(literal));
-    }
-    let bits = literals_of_words(alloc, circuit, name)?;
-    if let Some(literals) = bits {
-        return Ok(Some(literals));
-    }
-    let last = search.literal_by(alloc, Rule::Position)?;
-    list_of(alloc, last)
+    list_of(alloc, further)
 }
 
-/// The literals that a name means without `!`.
-fn plain(
+/// What a name is that of by its letter and position.
+pub(crate) fn literal_placed(
     alloc: Global,
     circuit: &Circuit,
-    signals: &[Signal],
     name: &[u8],
 ) -> Result<Option<List<Lit>>, Memory>
-    requires { signals.now ≡ signals_spec.signals_of circuit.now }
-    ensures plain { IfOk result (λ found. IfSome found (IsPlain circuit.now name.now)) }
-    ensures none { IfOk result (λ found. IfNone found (IsNoName circuit.now name.now)) }
+    ensures { IfOk result (λ found. found ≡ spec.literals_by circuit.now name.now Rule.Position) }
 {
-    let called = literals_called(alloc, circuit, signals, name)?;
-    match called {
-        Some(literals) => Ok(Some(literals)),
-        None => list_of(alloc, literal_of(circuit, name)),
-    }
+    let search = NameSearch { circuit, name };
+    let found = search.literal_by(alloc, Rule::Position)?;
+    list_of(alloc, found)
 }
 
 /// Each of these literals negated.
-fn negated(alloc: Global, literals: &[Lit]) -> Result<List<Lit>, Memory>
+pub(crate) fn negated(alloc: Global, literals: &[Lit]) -> Result<List<Lit>, Memory>
     ensures { IfOk result (λ list. list ≡ map negation literals.now) }
 {
     let mut list = List::new(alloc);
@@ -236,7 +220,7 @@ fn negated(alloc: Global, literals: &[Lit]) -> Result<List<Lit>, Memory>
 }
 
 /// What comes after a `!` in a name that begins with one.
-fn after_not(name: &[u8]) -> Option<&[u8]>
+pub(crate) fn after_not(name: &[u8]) -> Option<&[u8]>
     ensures some { IfSome result (λ rest. name.now ≡ 33 ∷ rest.now) }
     ensures none { IfNone result ((rest : List ℕ) → name.now ≡ 33 ∷ rest → ⊥) }
 {
@@ -246,32 +230,11 @@ fn after_not(name: &[u8]) -> Option<&[u8]>
     }
 }
 
-/// The literals that a name means, from bit 0 up; none where it means none. The signals are those of the circuit.
-/// Linear in the circuit and its names.
-pub fn look_up(
-    alloc: Global,
-    circuit: &Circuit,
-    signals: &[Signal],
-    name: &[u8],
-) -> Result<Option<List<Lit>>, Memory>
-    requires { signals.now ≡ signals_spec.signals_of circuit.now }
-    ensures means { IfOk result (λ found. IfSome found (Means circuit.now name.now)) }
-    ensures unknown { IfOk result (λ found. IfNone found (Unknown circuit.now name.now)) }
-    ensures range { IfOk result (λ found. IfSome found (All (λ l. variable l ≤ circuit.now.max_var))) }
-    ensures defined { IfOk result (λ found. IfSome found (All (λ l. IsDefined circuit.now (variable l)))) }
-{
-    circuit.facts();
-    let found = plain(alloc, circuit, signals, name)?;
-    if let Some(literals) = found {
-        return Ok(Some(literals));
-    }
-    let Some(rest) = after_not(name) else {
-        return Ok(None);
-    };
-    let bits = plain(alloc, circuit, signals, rest)?;
-    match bits {
-        Some(literals) => Ok(Some(negated(alloc, literals.as_slice())?)),
-        None => Ok(None),
+/// A name without a `!` in front.
+pub(crate) fn without_not(name: &[u8]) -> &[u8] {
+    match name.first() {
+        Some(first) if *first == b'!' => &name[1..],
+        _ => name,
     }
 }
 
