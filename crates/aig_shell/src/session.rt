@@ -25,10 +25,13 @@ use crate::session::run_kept::{FirstRun, KeptRun};
 use aig_base::{Circuit, Definition, Latch, List, Lit, Memory, Tern};
 use aig_bench::{Bench, BenchFault};
 use aig_command::RunFault;
-use aig_signals::{Signal, decimal_of, look_up, signals_of};
+use aig_signals::{Signal, SignalNames, decimal_of, signals_of};
 use aig_sim::{PlaneGrid, Stimulus};
 use aig_why::Run;
 use std::alloc::Global;
+
+/// How many words of a line are looked up at once; fewer are looked up one by one.
+const MANY: usize = 8;
 
 /// A circuit with a start and rows, as they are now, and what is known of them.
 pub(crate) struct Session {
@@ -225,6 +228,38 @@ impl Session {
         }
     }
 
+    /// The names of the circuit, for these words: what many words mean is found in one walk over the names.
+    pub(crate) fn names_for(&self, words: &[&[u8]]) -> Result<SignalNames<'_>, Memory>
+        requires session { IsSession self.now }
+        ensures { IfOk result (λ names. names ≡ self.now.run.bench.pair.circuit) }
+    {
+        let signals = self.signals.as_slice();
+        if words.len() < MANY {
+            return Ok(SignalNames::of(self.alloc, self.circuit(), signals));
+        }
+        SignalNames::among(self.alloc, self.circuit(), signals, words)
+    }
+
+    /// The literals that a word means, from bit 0 up, by the names of the circuit.
+    pub(crate) fn literals_among<'a>(
+        &self,
+        names: &SignalNames<'_>,
+        word: &'a [u8],
+    ) -> Result<List<Lit>, Refusal<'a>>
+        requires circuit { names.now ≡ self.now.run.bench.pair.circuit }
+        ensures ok { IfOk result (Means self.now.run.bench.pair.circuit word.now) }
+        ensures range { IfOk result (All (λ l. variable l ≤ self.now.run.bench.pair.circuit.max_var)) }
+        ensures defined { IfOk result (All (λ l. IsDefined self.now.run.bench.pair.circuit (variable l))) }
+        ensures err { IfErr result (λ refusal. refusal ≢ Refusal.Memory →
+            Unknown self.now.run.bench.pair.circuit word.now) }
+    {
+        let found = names.look_up(self.alloc, word)?;
+        match found {
+            Some(literals) => Ok(literals),
+            None => Err(self.unknown(word)),
+        }
+    }
+
     /// The literals that a word means, from bit 0 up.
     pub(crate) fn literals<'a>(&self, word: &'a [u8]) -> Result<List<Lit>, Refusal<'a>>
         requires session { IsSession self.now }
@@ -234,11 +269,8 @@ impl Session {
         ensures err { IfErr result (λ refusal. refusal ≢ Refusal.Memory →
             Unknown self.now.run.bench.pair.circuit word.now) }
     {
-        let found = look_up(self.alloc, self.circuit(), self.signals.as_slice(), word)?;
-        match found {
-            Some(literals) => Ok(literals),
-            None => Err(self.unknown(word)),
-        }
+        let names = SignalNames::of(self.alloc, self.circuit(), self.signals.as_slice());
+        self.literals_among(&names, word)
     }
 
     /// The literal that a word means.

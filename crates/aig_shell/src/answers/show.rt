@@ -16,7 +16,7 @@ use crate::session::Session;
 use crate::session::frames::{Frames, SHOWN};
 use aig_base::{Lit, Memory, Tern};
 use aig_prompt::{Row, Table};
-use aig_signals::push_table_value;
+use aig_signals::{SignalNames, push_table_value};
 
 /// The frames that are shown where none are named: all, or the last ones. Says how many are left out.
 fn shown_frames(text: &mut Vec<u8>, all: Frames) -> Result<Frames, Memory>
@@ -121,8 +121,14 @@ impl Session {
     }
 
     /// The row of a name, at frames up to the end.
-    fn named_row<'a>(&self, name: &'a [u8], first: u32, end: u32) -> Result<Row, Refusal<'a>>
-        requires session { IsSession self.now }
+    fn named_row<'a>(
+        &self,
+        known: &SignalNames<'_>,
+        name: &'a [u8],
+        first: u32,
+        end: u32,
+    ) -> Result<Row, Refusal<'a>>
+        requires circuit { known.now ≡ self.now.run.bench.pair.circuit }
         requires order { first ≤ end }
         requires within { end ≤ length self.now.run.bench.pair.rows }
         ensures ok { IfOk result (λ row. IsRowOf self.now.run.bench.pair first (end - first) name.now (row_of row)) }
@@ -131,9 +137,33 @@ impl Session {
     {
         // Its contract says that it is a circuit.
         self.circuit().facts();
-        let literals = self.literals(name)?;
+        let literals = self.literals_among(known, name)?;
         let row = self.row(name, literals.as_slice(), first, end)?;
         Ok(row)
+    }
+
+    /// The rows of names, at frames up to the end, where what they mean was looked up.
+    fn rows_among<'a>(
+        &self,
+        known: &SignalNames<'_>,
+        names: &[&'a [u8]],
+        first: u32,
+        end: u32,
+    ) -> Result<Vec<Row>, Refusal<'a>>
+        requires circuit { known.now ≡ self.now.run.bench.pair.circuit }
+        requires order { first ≤ end }
+        requires within { end ≤ length self.now.run.bench.pair.rows }
+        ensures ok { IfOk result (λ rows.
+            IsShown self.now.run.bench.pair first (end - first) (map (λ w. w.now) names.now) (map row_of rows.items)) }
+        ensures err { IfErr result (λ refusal. refusal ≢ Refusal.Memory → (t n : ℕ) (rows : List TableRow) →
+            IsShown self.now.run.bench.pair t n (map (λ w. w.now) names.now) rows → ⊥) }
+    {
+        let mut rows = Vec::new(self.alloc);
+        for name in names {
+            let row = self.named_row(known, *name, first, end)?;
+            rows.push(row)?;
+        }
+        Ok(rows)
     }
 
     /// The rows of names, at frames up to the end.
@@ -146,12 +176,8 @@ impl Session {
         ensures err { IfErr result (λ refusal. refusal ≢ Refusal.Memory → (t n : ℕ) (rows : List TableRow) →
             IsShown self.now.run.bench.pair t n (map (λ w. w.now) names.now) rows → ⊥) }
     {
-        let mut rows = Vec::new(self.alloc);
-        for name in names {
-            let row = self.named_row(*name, first, end)?;
-            rows.push(row)?;
-        }
-        Ok(rows)
+        let known = self.names_for(names)?;
+        self.rows_among(&known, names, first, end)
     }
 
     /// Adds a table of the values of names, at the frames that are named, or at all.

@@ -2,7 +2,7 @@ use Rattle.std.proofs.Common.{ℕ, List, Bor, ◌-◌}
 use Rattle.aig_prompt.specs.Table.{row_of}
 use Rattle.aig_shell.specs.Tables.{IsRowOf}
 use Rattle.aig_shell.proofs.tables.Shown.{handed_on, no_rows, rows_more}
-use Rattle.aig_shell.proofs.session.Session.rows.Goals as goal
+use Rattle.aig_shell.proofs.session.Session.rows_among.Goals as goal
 
 pub returns-in_err-row-clause-err : goal.returns-in_err-row-clause-err
 returns-in_err-row-clause-err c =
