@@ -3,18 +3,20 @@ use Rattle.std.proofs.Common.{◌≡◌, inl, inr, ℕ, ◌+◌, ◌<◌, ◌≤
 use Rattle.std.proofs.Common.{map, Option, None, Some, IfSome, refl, sym, ap, subst, ◌∙◌, append_assoc, append-nil, arith}
 use Rattle.std.specs.Prelude.{if◌then◌else◌, option_map, filter_map, flat_map, is_some}
 use Rattle.std.specs.List.{range_with_len}
+use Rattle.std.specs.Map.{lookup}
 use Rattle.std.specs.Str.{bytes_eq}
 use Rattle.std.proofs.lemmas.Bool.{cases_Bool}
 use Rattle.std.proofs.lemmas.List.{drop_more, drop_all}
 use Rattle.std.proofs.lemmas.List.Elements.{filter_map-append}
 use Rattle.std.proofs.lemmas.Slice.Eq.{bytes_eq-Decides}
+use Rattle.aig_parts.specs.declared.raw.Raw.{Raw}
 use Rattle.aig_parts.specs.declared.symbols.Kind.{Kind}
 use Rattle.aig_names.specs.Vectors.{bit_of}
-use Rattle.aig_signals.specs.Bits.{index_in, word_bit}
+use Rattle.aig_signals.specs.Bits.{all_bits, bits_named, index_in, word_bit, word_bits}
 use Rattle.aig_signals.specs.declared.bits.WordBit.{WordBit}
-use Rattle.aig_signals.specs.state.Called.{emptied, with_words}
-use Rattle.aig_signals.proofs.BitLemmas.{no_numbers, numbers_step}
-use Rattle.aig_signals.proofs.CalledLemmas.{bytes_turned}
+use Rattle.aig_signals.specs.state.Called.{AreByWords, AreWords, emptied, with_words}
+use Rattle.aig_signals.proofs.BitLemmas.{named_is, no_numbers, numbers_step}
+use Rattle.aig_signals.proofs.CalledLemmas.{bytes_turned, there}
 
 same_bytes : (xs ys : List ℕ) → bytes_eq xs ys ≡ true → xs ≡ ys
 same_bytes xs ys h = (bytes_eq-Decides xs ys).0 h
@@ -161,3 +163,27 @@ sections_apart f kinds i d lt = ap (flat_map f) (drop_more kinds i d lt)
 
 pub no_sections : (f : Kind → List WordBit) (kinds : List Kind) (i : ℕ) → length kinds ≤ i → flat_map f (drop i kinds) ≡ []
 no_sections f kinds i le = ap (flat_map f) (drop_all i kinds le)
+
+-- what a text is that of by its words, once more is kept
+pub kept_one : (raw : Raw) (table : List ℕ → Option (List WordBit)) (name : List ℕ) (bits shown : List WordBit)
+    (found : Option (List ℕ)) (old new : List ℕ → Option (Option (List ℕ))) → AreWords raw table → table name ≡ Some bits
+    → shown ≡ bits → found ≡ all_bits shown → AreByWords raw old
+    → ((x : List ℕ) → new x ≡ (if bytes_eq x name then Some found else old x)) → AreByWords raw new
+kept_one raw table name bits shown found old new known here same is before put x =
+    let words : bits ≡ word_bits raw name = there (λ b. b ≡ word_bits raw name) (table name) bits here (known name) in
+    let by : found ≡ bits_named raw name = is ∙ named_is raw name shown (same ∙ words) in
+    elim (cases_Bool (bytes_eq x name)) [
+      | inl holds ↦
+          let e : x ≡ name = same_bytes x name holds in
+          let there : new x ≡ Some found = put x ∙ ap (λ (b : Bool). if b then Some found else old x) holds in
+          subst (λ (o : Option (Option (List ℕ))). IfSome o (λ f. f ≡ bits_named raw x)) (sym there)
+          (by ∙ ap (bits_named raw) (sym e))
+      | inr fails ↦
+          let there : new x ≡ old x = put x ∙ ap (λ (b : Bool). if b then Some found else old x) fails in
+          subst (λ (o : Option (Option (List ℕ))). IfSome o (λ f. f ≡ bits_named raw x)) (sym there) (before x)
+    ]
+
+-- no text
+pub kept_none : {K : Type 0} (P : List ℕ → Option (List ℕ) → Type 0) (test : List ℕ → K → Bool) (entries : List (K × Option (List ℕ)))
+    → entries ≡ [] → (x : List ℕ) → IfSome (lookup (test x) entries) (P x)
+kept_none P test entries none x = subst (λ es. IfSome (lookup (test x) es) (P x)) (sym none) tt

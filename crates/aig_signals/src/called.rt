@@ -13,7 +13,7 @@ ghost use Rattle.aig_signals.specs.state.Called.{by_names};
 mod table;
 mod words;
 
-use crate::bits::{all_bits, literals_of_words};
+use crate::bits::literals_of_words;
 use crate::called::table::{LiteralTable, hash_of};
 use crate::called::words::WordTable;
 use crate::lookup::{Rule, after_not, list_of, literal_placed, literals_by_names, negated};
@@ -87,6 +87,21 @@ fn words_found(
     Ok(table)
 }
 
+/// What was found of the texts X by words X[n].
+fn bits_found(
+    alloc: Global,
+    circuit: &Circuit,
+    texts: &[&[u8]],
+) -> Result<LiteralTable, Memory>
+    ensures { IfOk result (λ table. (x : List ℕ) → IfSome (get_by (λ key. bytes_eq x key.items) table)
+        (λ found. found ≡ bits_named circuit.now x)) }
+{
+    let words = words_found(alloc, circuit, texts)?;
+    let mut found = IndexMap::with_hasher(alloc, hash_of(texts));
+    words::keep_all(alloc, &mut found, &words, texts)?;
+    Ok(found)
+}
+
 /// The names of a circuit, and what is known before of some texts. One walk over the names for each rule finds what all
 /// of these texts mean, and each is then looked up in tables of the texts. Contracts see the circuit.
 pub struct SignalNames<'a> {
@@ -94,7 +109,8 @@ pub struct SignalNames<'a> {
     signals: &'a [Signal],
     /// By first names, by vectors and by further words.
     named: LiteralTable,
-    words: WordTable,
+    /// By words X[n].
+    bits: LiteralTable,
     /// By letters and positions.
     placed: LiteralTable,
 }
@@ -106,7 +122,7 @@ impl<'a> Drop for SignalNames<'a> {
             circuit: _,
             signals: _,
             named: _,
-            words: _,
+            bits: _,
             placed: _,
         } = self;
     }
@@ -117,7 +133,7 @@ impl<'a> Model for SignalNames<'a> {
     ghost use Rattle.std.specs.Str.{bytes_eq};
     ghost use Rattle.indexmap.specs.IndexMap.{get_by};
     ghost use Rattle.aig_parts.specs.declared.raw.Raw.{Raw};
-    ghost use Rattle.aig_signals.specs.Bits.{word_bits};
+    ghost use Rattle.aig_signals.specs.Bits.{bits_named};
     ghost use Rattle.aig_signals.specs.Lookup.{literals_by};
     ghost use Rattle.aig_signals.specs.Signals.{signals_of};
     ghost use Rattle.aig_signals.specs.declared.lookup.Rule.TheVariants as rule;
@@ -129,7 +145,7 @@ impl<'a> Model for SignalNames<'a> {
 
     ghost invariant = { λ n. (n.signals.now ≡ signals_of n.circuit.now)
         × ((x : List ℕ) → IfSome (get_by (λ key. bytes_eq x key.items) n.named) (λ f. f ≡ by_names n.circuit.now x))
-        × ((x : List ℕ) → IfSome (get_by (λ key. bytes_eq x key.items) n.words) (λ b. b ≡ word_bits n.circuit.now x))
+        × ((x : List ℕ) → IfSome (get_by (λ key. bytes_eq x key.items) n.bits) (λ f. f ≡ bits_named n.circuit.now x))
         × ((x : List ℕ) → IfSome (get_by (λ key. bytes_eq x key.items) n.placed)
         (λ f. f ≡ literals_by n.circuit.now x rule.Position)) };
 }
@@ -145,13 +161,13 @@ impl<'a> SignalNames<'a> {
             circuit,
             signals,
             named: IndexMap::with_hasher(alloc, hash_of(&[])),
-            words: IndexMap::with_hasher(alloc, hash_of(&[])),
+            bits: IndexMap::with_hasher(alloc, hash_of(&[])),
             placed: IndexMap::with_hasher(alloc, hash_of(&[])),
         }
     }
 
     /// Those of a circuit, for these texts. Linear in the circuit, its names and the texts; it takes memory for each
-    /// text, for what it means and for each word X[n] where X is one of the texts.
+    /// text, for what it is that of and for each word X[n] where X is one of the texts.
     pub fn among(
         alloc: Global,
         circuit: &'a Circuit,
@@ -162,13 +178,13 @@ impl<'a> SignalNames<'a> {
         ensures { IfOk result (λ names. names ≡ circuit.now) }
     {
         let named = names_found(alloc, circuit, signals, texts)?;
-        let words = words_found(alloc, circuit, texts)?;
+        let bits = bits_found(alloc, circuit, texts)?;
         let placed = positions_found(alloc, circuit, texts)?;
         Ok(SignalNames {
             circuit,
             signals,
             named,
-            words,
+            bits,
             placed,
         })
     }
@@ -187,8 +203,8 @@ impl<'a> SignalNames<'a> {
     fn by_words(&self, alloc: Global, name: &[u8]) -> Result<Option<List<Lit>>, Memory>
         ensures { IfOk result (λ found. found ≡ bits_named self.now name.now) }
     {
-        match self.words.get(name) {
-            Some(bits) => all_bits(alloc, bits.as_slice()),
+        match self.bits.get(name) {
+            Some(found) => copy_found(alloc, found),
             None => literals_of_words(alloc, self.circuit, name),
         }
     }

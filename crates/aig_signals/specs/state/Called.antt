@@ -1,6 +1,7 @@
 -- What tables have of texts while the names of a circuit are looked at.
-use Rattle.std.specs.Prelude.{ℕ, Bool, true, false, if◌then◌else◌, List, [], ◌++◌, Option, None, Some, option_map}
+use Rattle.std.specs.Prelude.{◌≡◌, ℕ, Bool, true, false, if◌then◌else◌, List, [], ◌++◌, Option, None, Some, IfSome, option_map}
 use Rattle.aig_parts.specs.declared.raw.Raw.{Raw}
+use Rattle.aig_signals.specs.Bits.{bits_named, word_bits}
 use Rattle.aig_signals.specs.declared.bits.WordBit.{WordBit}
 use Rattle.aig_signals.specs.declared.lookup.Rule.TheVariants as rule
 use Rattle.aig_signals.specs.Lookup.{alone, literals_by, or_else, signal_literals, signal_named}
@@ -27,6 +28,14 @@ with_words more old = option_map (λ was. was ++ more) old
 abbrev pub emptied : Bool → Option (List WordBit) → Option (List WordBit)
 emptied true old = option_map (λ was. []) old
 emptied false old = old
+
+-- the table has all words X[n] of each of its texts X
+abbrev pub AreWords : Raw → (List ℕ → Option (List WordBit)) → Type 0
+AreWords raw table = (x : List ℕ) → IfSome (table x) (λ words. words ≡ word_bits raw x)
+
+-- the table has what each of its texts X is that of by its words X[n]
+abbrev pub AreByWords : Raw → (List ℕ → Option (Option (List ℕ))) → Type 0
+AreByWords raw table = (x : List ℕ) → IfSome (table x) (λ found. found ≡ bits_named raw x)
 
 -- what a name is that of by first names, vectors and further words
 abbrev pub by_names : Raw → List ℕ → Option (List ℕ)

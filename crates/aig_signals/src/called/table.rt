@@ -35,7 +35,7 @@ pub(crate) fn hash_of(texts: &[&[u8]]) -> NameHash {
 }
 
 /// Keeps what was found of a text.
-fn put(
+pub(crate) fn put(
     alloc: Global,
     table: &mut LiteralTable,
     name: &[u8],

@@ -3,14 +3,16 @@ ghost use Rattle.std.specs.Prelude.{◌≡◌, ◌∷◌, ℕ, List, [], Some, I
 ghost use Rattle.std.specs.Prelude.{if◌then◌else◌};
 ghost use Rattle.std.specs.Str.{bytes_eq};
 ghost use Rattle.indexmap.specs.IndexMap.{get_by};
+ghost use Rattle.aig_parts.specs.declared.raw.Raw.{Raw};
 ghost use Rattle.aig_names.specs.Names.{words};
 ghost use Rattle.aig_signals.specs.Bits as bits_spec;
 ghost use Rattle.aig_signals.specs.Bits.{word_bit};
 ghost use Rattle.aig_signals.specs.Names.{readable};
-ghost use Rattle.aig_signals.specs.state.Called.{emptied, with_words};
+ghost use Rattle.aig_signals.specs.state.Called.{AreByWords, AreWords, emptied, with_words};
 
-use crate::bits::WordBit;
-use crate::called::table::hash_of;
+use crate::bits::{WordBit, all_bits};
+use crate::called::table;
+use crate::called::table::{LiteralTable, hash_of};
 use crate::hash::NameHash;
 use crate::lookup::without_not;
 use crate::names::push_readable;
@@ -180,4 +182,45 @@ pub(crate) fn note_all(
         ≡ with_words (bits_spec.word_bits circuit.now x) (get_by (λ key. bytes_eq x key.items) table.old)) }
 {
     note_sections(alloc, table, circuit, &SECTIONS)
+}
+
+/// Keeps what a text X is that of by its words X[n], if they are in the table and it was not kept before.
+fn keep_bits(
+    alloc: Global,
+    found: &mut LiteralTable,
+    words: &WordTable,
+    name: &[u8],
+) -> Result<(), Memory>
+    ensures { (raw : Raw) → AreWords raw (λ x. get_by (λ key. bytes_eq x key.items) words.now)
+        → AreByWords raw (λ x. get_by (λ key. bytes_eq x key.items) found.old)
+        → OnOk result (AreByWords raw (λ x. get_by (λ key. bytes_eq x key.items) found.new)) }
+{
+    if found.contains_key(name) {
+        return Ok(());
+    }
+    match words.get(name) {
+        Some(bits) => {
+            let literals = all_bits(alloc, bits.as_slice())?;
+            table::put(alloc, found, name, literals)
+        }
+        None => Ok(()),
+    }
+}
+
+/// Keeps what these texts X are that of by their words X[n], with and without a `!` in front.
+pub(crate) fn keep_all(
+    alloc: Global,
+    found: &mut LiteralTable,
+    words: &WordTable,
+    texts: &[&[u8]],
+) -> Result<(), Memory>
+    ensures { (raw : Raw) → AreWords raw (λ x. get_by (λ key. bytes_eq x key.items) words.now)
+        → AreByWords raw (λ x. get_by (λ key. bytes_eq x key.items) found.old)
+        → OnOk result (AreByWords raw (λ x. get_by (λ key. bytes_eq x key.items) found.new)) }
+{
+    for wanted in texts {
+        keep_bits(alloc, found, words, wanted)?;
+        keep_bits(alloc, found, words, without_not(wanted))?;
+    }
+    Ok(())
 }

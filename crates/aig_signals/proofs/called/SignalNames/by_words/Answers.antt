@@ -1,10 +1,8 @@
-use Rattle.std.proofs.Common.{◌≡◌, IfOk, List, sym, ap, subst, ◌∙◌}
+use Rattle.std.proofs.Common.{◌≡◌, IfOk, sym, ap, subst, ◌∙◌}
 use Rattle.std.specs.Prelude.{option_copied}
 use Rattle.std.proofs.lemmas.Result.{IfOk-weaker}
 use Rattle.aig_parts.specs.declared.raw.Raw.{Raw}
-use Rattle.aig_signals.specs.Bits.{all_bits, bits_named, word_bits}
-use Rattle.aig_signals.specs.declared.bits.WordBit.{WordBit}
-use Rattle.aig_signals.proofs.BitLemmas.{named_is}
+use Rattle.aig_signals.specs.Bits.{bits_named}
 use Rattle.aig_signals.proofs.CalledLemmas.{there}
 use Rattle.aig_signals.proofs.called.SignalNames.by_words.Goals as goal
 
@@ -12,10 +10,11 @@ pub returns-in-Some : goal.returns-in-Some
 returns-in-Some c =
     let raw = c.self.inside.circuit.now in
     let name = c.args.name.now in
-    let known = there (λ b. b ≡ word_bits raw name) _ c.in-Some.bits.now (sym c.get.ensures.value ∙ ap option_copied c.in-Some.is)
+    let known = there (λ f. f ≡ bits_named raw name) _ c.in-Some.found.now (sym c.get.ensures.value ∙ ap option_copied c.in-Some.is)
     (c.self.invariant.2 name) in
-    subst (λ (r : Raw). IfOk c.all_bits.result (λ found. found ≡ bits_named r name)) c.self.view_is
-    (IfOk-weaker c.all_bits.result _ _ (λ found e. e ∙ named_is raw name c.as_slice.result.now (c.as_slice.ensures ∙ known)) c.all_bits.ensures)
+    subst (λ (r : Raw). IfOk c.copy_found.result (λ found. found ≡ bits_named r name)) c.self.view_is
+    (IfOk-weaker c.copy_found.result _ _ (λ found e. e ∙ known) c.copy_found.ensures)
+
 
 pub returns-in-None : goal.returns-in-None
 returns-in-None c =
