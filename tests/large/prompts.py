@@ -1,6 +1,6 @@
 """Lines at the prompt and arguments that ask for many things at once: a value at 65,536 frames, the name that is nearest to
-a word among 100,000, and 16,000 properties by their names. If each frame of a line cost all later frames, or each name of
-the arguments a walk over all names, they would take minutes."""
+a word among 100,000, 2,100 names of 100,000 in a line, and 16,000 properties by their names. If each frame of a line cost
+all later frames, or each name of a line or of the arguments a walk over all names, they would take minutes."""
 
 import resource
 
@@ -26,6 +26,7 @@ def runs():
     yield "a value at 65,536 frames", at_all_frames()
     yield "a value of 4,096 inputs at 650 frames", of_a_vector()
     yield "the name that is nearest, of 100,000", nearest()
+    yield "2,100 names of 100,000 in a line", many_names()
     yield "16,000 properties by their names", named_properties()
 
 
@@ -72,6 +73,29 @@ def nearest():
     lines = f"show {word}\nshow {far}\n" * 10
     near = f"no: no name {word}; do you mean {names[50_000]}?\nno: no name {far}\n"
     return ("shell", "circuit", "rows"), lines, near * 10
+
+
+def many_names():
+    """Inputs that are 1 at odd positions: with first names and a word that many have, in vectors of four with a further
+    name each, and with words of vectors after the first. A gate is an input and the next one, so it is 0."""
+    names = [f"top.scalar_{at:05} all[0]" for at in range(40_000)]
+    names += [f"vec{at // 4:05}[{at % 4}] alias_{at:05}" for at in range(40_000)]
+    names += [f"x{at} w{at // 4:05}[{at % 4}]" for at in range(NAMES - 80_000)]
+    gates = [2 * (1 + NAMES + gate) for gate in range(300)]
+    write("circuit", f"aag {NAMES + 300} {NAMES} 0 0 300\n" + "".join(f"{2 * at + 2}\n" for at in range(NAMES))
+          + "".join(f"{literal} {2 * at + 4} {2 * at + 2}\n" for at, literal in enumerate(gates))
+          + "".join(f"i{at} {name}\n" for at, name in enumerate(names)))
+    write("rows", "01" * (NAMES // 2) + "\n")
+    many = range(300)
+    kinds = [(f"top.scalar_{39_999 - at:05}", (at + 1) % 2) for at in many] + [(f"vec{9_999 - at:05}", "a") for at in many]
+    kinds += [(f"alias_{39_999 - at:05}", (at + 1) % 2) for at in many] + [(f"w{4_999 - at:05}", "a") for at in many]
+    kinds += [(f"i{NAMES - 1 - at}", (at + 1) % 2) for at in many]
+    kinds += [(literal, 0) for literal in gates] + [(f"!{literal}", 1) for literal in gates]
+    same = [("all", 0)] * 2_000
+    lines = "".join(f"show {' '.join(str(name) for name, _ in shown)}\n" for shown in (kinds, same))
+    tables = "".join(f"{name:<{width}} {value}\n" for shown, width in ((kinds, 16), (same, 5))
+                     for name, value in [("frame", 0), *shown])
+    return ("shell", "circuit", "rows"), lines, tables
 
 
 def named_properties():
