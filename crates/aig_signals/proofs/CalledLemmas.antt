@@ -1,8 +1,7 @@
 -- Tables of texts, while more is found of each text.
-use Rattle.std.proofs.Common.{◌≡◌, inl, inr, ℕ, zero, suc, ◌+◌, ◌<◌, ◌≤◌, Bool, true, false, List, [], ◌∷◌, ◌++◌, length}
-use Rattle.std.proofs.Common.{get_or, drop, map, Option, None, Some, IfSome, refl, sym, ap, subst, ◌∙◌, add-one, arith}
-use Rattle.std.proofs.Common.{append_assoc, append-nil}
-use Rattle.std.specs.Prelude.{if◌then◌else◌, option_map, find, filter_map}
+use Rattle.std.proofs.Common.{◌≡◌, inl, inr, ℕ, ◌+◌, ◌<◌, ◌≤◌, Bool, true, false, List, [], ◌∷◌, length}
+use Rattle.std.proofs.Common.{get_or, drop, Option, None, Some, IfSome, refl, sym, ap, subst, ◌∙◌, add-one}
+use Rattle.std.specs.Prelude.{if◌then◌else◌, option_map}
 use Rattle.std.specs.Str.{bytes_eq}
 use Rattle.std.proofs.lemmas.Bool.{cases_Bool, true≢false}
 use Rattle.std.proofs.lemmas.List.{drop_more, drop_all}
@@ -26,9 +25,9 @@ pub bytes_turned : (xs ys : List ℕ) → bytes_eq xs ys ≡ bytes_eq ys xs
 bytes_turned xs ys = elim (cases_Bool (bytes_eq ys xs)) [
   | inl holds ↦ (bytes_eq-Decides xs ys).1 (sym (same_bytes ys xs holds)) ∙ sym holds
   | inr fails ↦ elim (cases_Bool (bytes_eq xs ys)) [
-      | inl other ↦ absurd (true≢false (sym ((bytes_eq-Decides ys xs).1 (sym (same_bytes xs ys other))) ∙ fails))
-      | inr other ↦ other ∙ sym fails
-    ]
+    | inl other ↦ absurd (true≢false (sym ((bytes_eq-Decides ys xs).1 (sym (same_bytes xs ys other))) ∙ fails))
+    | inr other ↦ other ∙ sym fails
+  ]
 ]
 
 or_none : {X : Type 0} (o : Option X) → or_else o None ≡ o

@@ -74,11 +74,7 @@ fn positions_found(
 }
 
 /// The words X[n] of each text X.
-fn words_found(
-    alloc: Global,
-    circuit: &Circuit,
-    texts: &[&[u8]],
-) -> Result<WordTable, Memory>
+fn words_found(alloc: Global, circuit: &Circuit, texts: &[&[u8]]) -> Result<WordTable, Memory>
     ensures { IfOk result (λ table. (x : List ℕ) → IfSome (get_by (λ key. bytes_eq x key.items) table)
         (λ bits. bits ≡ word_bits circuit.now x)) }
 {
@@ -88,11 +84,7 @@ fn words_found(
 }
 
 /// What was found of the texts X by words X[n].
-fn bits_found(
-    alloc: Global,
-    circuit: &Circuit,
-    texts: &[&[u8]],
-) -> Result<LiteralTable, Memory>
+fn bits_found(alloc: Global, circuit: &Circuit, texts: &[&[u8]]) -> Result<LiteralTable, Memory>
     ensures { IfOk result (λ table. (x : List ℕ) → IfSome (get_by (λ key. bytes_eq x key.items) table)
         (λ found. found ≡ bits_named circuit.now x)) }
 {

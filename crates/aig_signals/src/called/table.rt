@@ -72,12 +72,7 @@ fn wants(table: &LiteralTable, name: &[u8]) -> bool
 }
 
 /// Notes a name of an entry with this literal.
-fn note(
-    alloc: Global,
-    table: &mut LiteralTable,
-    name: &[u8],
-    literal: Lit,
-) -> Result<(), Memory>
+fn note(alloc: Global, table: &mut LiteralTable, name: &[u8], literal: Lit) -> Result<(), Memory>
     ensures { OnOk result ((x : List ℕ) → get_by (λ key. bytes_eq x key.items) table.new
         ≡ or_found (if_named (bytes_eq name.now x) literal) (get_by (λ key. bytes_eq x key.items) table.old)) }
 {

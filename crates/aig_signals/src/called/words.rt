@@ -26,12 +26,7 @@ use std::alloc::Global;
 pub(crate) type WordTable = IndexMap<Vec<u8>, List<WordBit>, NameHash>;
 
 /// Keeps the words X[n] of a text X.
-fn put(
-    alloc: Global,
-    table: &mut WordTable,
-    name: &[u8],
-    bits: List<WordBit>,
-) -> Result<(), Memory>
+fn put(alloc: Global, table: &mut WordTable, name: &[u8], bits: List<WordBit>) -> Result<(), Memory>
     ensures { OnOk result ((x : List ℕ) → get_by (λ key. bytes_eq x key.items) table.new
         ≡ (if bytes_eq x name.now then Some bits else get_by (λ key. bytes_eq x key.items) table.old)) }
 {
@@ -61,11 +56,7 @@ pub(crate) fn table_of(alloc: Global, texts: &[&[u8]]) -> Result<WordTable, Memo
 }
 
 /// The words of a text that is in the table; those that it has there are none then.
-fn taken(
-    alloc: Global,
-    table: &mut WordTable,
-    name: &[u8],
-) -> Result<Option<List<WordBit>>, Memory>
+fn taken(alloc: Global, table: &mut WordTable, name: &[u8]) -> Result<Option<List<WordBit>>, Memory>
     ensures taken { IfOk result (λ bits. bits ≡ get_by (λ key. bytes_eq name.now key.items) table.old) }
     ensures table { OnOk result ((x : List ℕ) → get_by (λ key. bytes_eq x key.items) table.new
         ≡ emptied (bytes_eq name.now x) (get_by (λ key. bytes_eq x key.items) table.old)) }
@@ -77,12 +68,7 @@ fn taken(
 }
 
 /// Notes a bit of X.
-fn note(
-    alloc: Global,
-    table: &mut WordTable,
-    vector: &[u8],
-    bit: WordBit,
-) -> Result<(), Memory>
+fn note(alloc: Global, table: &mut WordTable, vector: &[u8], bit: WordBit) -> Result<(), Memory>
     ensures { OnOk result ((x : List ℕ) → get_by (λ key. bytes_eq x key.items) table.new
         ≡ with_words (if bytes_eq vector.now x then bit ∷ [] else []) (get_by (λ key. bytes_eq x key.items) table.old)) }
 {
@@ -94,12 +80,7 @@ fn note(
 }
 
 /// Notes a word of an entry with this literal, where it is X[n].
-fn note_word(
-    alloc: Global,
-    table: &mut WordTable,
-    word: &[u8],
-    literal: Lit,
-) -> Result<(), Memory>
+fn note_word(alloc: Global, table: &mut WordTable, word: &[u8], literal: Lit) -> Result<(), Memory>
     ensures { OnOk result ((x : List ℕ) → get_by (λ key. bytes_eq x key.items) table.new
         ≡ with_words (filter_map (word_bit x literal) (word.now ∷ [])) (get_by (λ key. bytes_eq x key.items) table.old)) }
 {

@@ -15,7 +15,6 @@ returns-in-Some c =
     subst (λ (r : Raw). IfOk c.copy_found.result (λ found. found ≡ bits_named r name)) c.self.view_is
     (IfOk-weaker c.copy_found.result _ _ (λ found e. e ∙ known) c.copy_found.ensures)
 
-
 pub returns-in-None : goal.returns-in-None
 returns-in-None c =
     subst (λ (r : Raw). IfOk c.literals_of_words.result (λ found. found ≡ bits_named r c.args.name.now)) c.self.view_is

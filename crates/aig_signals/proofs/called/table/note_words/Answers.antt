@@ -1,4 +1,4 @@
-use Rattle.std.proofs.Common.{◌≡◌, ◌∙◌, ◌++◌, ℕ, List, sym, ap}
+use Rattle.std.proofs.Common.{◌≡◌, ◌∙◌, ◌++◌, ℕ, List, ap}
 use Rattle.aig_names.specs.Names.{words}
 use Rattle.aig_signals.specs.Names.{readable}
 use Rattle.aig_signals.specs.state.Called.{if_named}

@@ -1,4 +1,4 @@
-use Rattle.std.proofs.Common.{ℕ, List, [], length, map, filter_map, ap, ◌∙◌, arith}
+use Rattle.std.proofs.Common.{List, [], length, map, filter_map, ap, ◌∙◌, arith}
 use Rattle.std.specs.Str.{bytes_eq}
 use Rattle.indexmap.specs.IndexMap.{get_by}
 use Rattle.aig_names.specs.Names.{words, symbol_of}
