@@ -264,6 +264,27 @@ optional_takes bound bytes n rest nine small h =
         let p = done_is 0 n left rest g in
         (false, more_takes bytes false left e ∙ (λ i. reset_text false (p.0 i) ++ p.1 i), omega (arith, p.0))
 
+-- the number before a byte that was read too
+pub field_number : (bound end : ℕ) (bytes : List ℕ) (n : ℕ) (rest : List ℕ) → field_at bound end bytes ≡ Ok (n, rest)
+    → number_at bound bytes ≡ Ok (n, end ∷ rest)
+unfolding field_at
+field_number bound end bytes n rest h =
+    let a = bind_ok (number_at bound bytes) (λ k. byte_at end k.1 >>= λ e. done k.0 e.1) (n, rest) h in
+    let b = bind_ok (byte_at end a.0.1) (λ e. done a.0.0 e.1) (n, rest) a.2 in
+    let p = done_is a.0.0 n b.0.1 rest b.2 in
+    let left : a.0.1 ≡ end ∷ rest =
+    byte_takes end a.0.1 b.0.0 b.0.1 b.1 ∙ ap (λ (t : List ℕ). end ∷ t) p.1 in
+    a.1 ∙ (λ i. done (p.0 i) (left i))
+
+pub optional_none : (bound : ℕ) (rest : List ℕ) → optional_at bound (10 ∷ rest) ≡ Ok (0, rest)
+unfolding optional_at
+optional_none bound rest = rw (more_line rest) refl
+
+pub optional_some : (bound : ℕ) (bytes : List ℕ) (n : ℕ) (rest : List ℕ) → field_at bound 10 bytes ≡ Ok (n, rest)
+    → optional_at bound (32 ∷ bytes) ≡ Ok (n, rest)
+unfolding optional_at
+optional_some bound bytes n rest h = rw (more_space bytes, h) refl
+
 pub optional_again : (bound : ℕ) (w : Bool) (n : ℕ) (rest : List ℕ) → n ≤ bound → bound < 2 ^ 64
     → optional_at bound (reset_text w n ++ rest) ≡ Ok (n, rest)
 unfolding optional_at

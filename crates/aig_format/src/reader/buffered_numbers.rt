@@ -1,8 +1,8 @@
 //! Numbers that are buffered whole, in one loop over bytes. What is refused here, or goes beyond the buffered bytes, is
 //! left to the readers of tokens, which report the fault and its place.
-ghost use Rattle.std.specs.Prelude.{◌≡◌, ◌+◌, ◌-◌, ◌<◌, ◌≤◌, length, drop, Ok, IfSome};
+ghost use Rattle.std.specs.Prelude.{◌≡◌, ℕ, ◌+◌, ◌-◌, ◌<◌, ◌≤◌, List, length, drop, Ok, IfSome};
 ghost use Rattle.aig_format.specs.Spells.{greatest};
-ghost use Rattle.aig_format.specs.state.Reading.{field_at, groups_at, delta_at};
+ghost use Rattle.aig_format.specs.state.Reading.{number_at, field_at, optional_at, groups_at, delta_at};
 
 use crate::reader::token::BODY;
 
@@ -47,6 +47,22 @@ pub(crate) fn field_in(bytes: &[u8], from: usize, end: u8) -> Option<(u32, usize
         }
     }
     None
+}
+
+/// The two last numbers of a latch's line from a place on, of which the second is 0 where it is left out, and the place
+/// after the line.
+pub(crate) fn next_in(bytes: &[u8], from: usize) -> Option<(u32, u32, usize)>
+    requires room { from + 16 ≤ length bytes.now }
+    ensures numbers { IfSome result (λ n. (reset : List ℕ) × (number_at greatest (drop from bytes.now) ≡ Ok (n.0, reset))
+        × (optional_at greatest reset ≡ Ok (n.1, drop n.2 bytes.now))) }
+    ensures within { IfSome result (λ n. n.2 ≤ from + 16) }
+{
+    if let Some((next, at)) = field_in(bytes, from, b'\n') {
+        return Some((next, 0, at));
+    }
+    let (next, at) = field_in(bytes, from, b' ')?;
+    let (reset, at) = field_in(bytes, at, b'\n')?;
+    Some((next, reset, at))
 }
 
 /// A number of at most four groups of seven bits from a place on, and the place after it.

@@ -7,9 +7,8 @@ ghost use Rattle.aig_format.specs.state.ReadingSections.{literal_at, latch_at, g
 ghost use Rattle.aig_format.specs.state.ReadingSections.{implicit_gate_at, lines_at};
 ghost use Rattle.aig_format.specs.state.Reads.{AddsItems, ReadsAs, ReadsToken};
 
-use crate::reader::buffered_numbers::{delta_in, field_in};
+use crate::reader::buffered_numbers::{delta_in, field_in, next_in};
 use crate::reader::delta::delta;
-use crate::reader::slice::Slice;
 use crate::reader::source::Source;
 use crate::reader::token::{BODY, field, number, optional};
 use crate::reader::token_fault::TokenFault;
@@ -46,14 +45,7 @@ pub(crate) trait Line<Spelling>: Sized + Drop {
         ensures line { IfSome result (λ x. line_at variable buffered.now ≡ Ok (x.0, drop x.1 buffered.now)) }
         ensures within { IfSome result (λ x. x.1 ≤ length buffered.now) }
         ensures holds { IfSome result (λ x. holds variable x.0) }
-        ensures ends { EndsItself (line_at variable) }
-    {
-        let mut front = Slice::new(buffered);
-        let Ok(line) = Self::line(&mut front, variable) else {
-            return None;
-        };
-        Some((line, buffered.len() - front.len()))
-    }
+        ensures ends { EndsItself (line_at variable) };
 }
 
 impl Line<Text> for Lit {
@@ -68,6 +60,15 @@ impl Line<Text> for Lit {
     fn line<S: Source>(s: &mut S, _: u32) -> Result<Lit, TokenFault> {
         let code = field(s, BODY, b'\n')?;
         Ok(Lit::new(code))
+    }
+
+    #[tactic(auto, unfolding(crate::specs::state::ReadingSections::literal_at), using(crate::proofs::Ends::literal_ends))]
+    fn buffered_line(buffered: &[u8], _: u32) -> Option<(Lit, usize)> {
+        if buffered.len() < 8 {
+            return None;
+        }
+        let (code, at) = field_in(buffered, 0, b'\n')?;
+        Some((Lit::new(code), at))
     }
 }
 
@@ -89,6 +90,21 @@ impl Line<Text> for Latch {
             next: Lit::new(next),
             reset: Lit::new(reset),
         })
+    }
+
+    #[tactic(auto, unfolding(crate::specs::state::ReadingSections::latch_at), using(crate::proofs::Ends::latch_ends))]
+    fn buffered_line(buffered: &[u8], _: u32) -> Option<(Latch, usize)> {
+        if buffered.len() < 24 {
+            return None;
+        }
+        let (lit, at) = field_in(buffered, 0, b' ')?;
+        let (next, reset, at) = next_in(buffered, at)?;
+        let latch = Latch {
+            lit: Lit::new(lit),
+            next: Lit::new(next),
+            reset: Lit::new(reset),
+        };
+        Some((latch, at))
     }
 }
 
@@ -146,6 +162,20 @@ impl Line<Implied> for Latch {
             next: Lit::new(next),
             reset: Lit::new(reset),
         })
+    }
+
+    #[tactic(auto, unfolding(crate::specs::state::ReadingSections::implicit_latch_at), using(crate::proofs::Ends::implicit_latch_ends))]
+    fn buffered_line(buffered: &[u8], variable: u32) -> Option<(Latch, usize)> {
+        if buffered.len() < 16 {
+            return None;
+        }
+        let (next, reset, at) = next_in(buffered, 0)?;
+        let latch = Latch {
+            lit: Lit::new(2 * variable),
+            next: Lit::new(next),
+            reset: Lit::new(reset),
+        };
+        Some((latch, at))
     }
 }
 

@@ -23,16 +23,6 @@ impl<'a> Slice<'a> {
     }
 }
 
-impl Slice<'_> {
-    /// How many bytes are left.
-    #[inline]
-    pub(crate) fn len(&self) -> usize
-        ensures { result ≡ length self.now.rest.now }
-    {
-        self.rest.len()
-    }
-}
-
 impl<'a> Source for Slice<'a> {
     ghost reports = { λ _. Unit {0} };
 
