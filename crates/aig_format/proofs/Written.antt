@@ -1,6 +1,6 @@
 -- What is written where nothing that may be left out is.
 use Rattle.std.proofs.Common.{◌<◌, ◌^◌, true, All, map, get_or, take, drop, length, ◌≡◌, ℕ, ◌-◌, arith, List, [], ◌∷◌}
-use Rattle.std.proofs.Common.{◌++◌, Bool, false, cond, refl, sym, ap, ◌∙◌}
+use Rattle.std.proofs.Common.{◌++◌, Bool, false, cond, refl, sym, ap, ◌∙◌, append_assoc}
 use Rattle.std.specs.Prelude.{not, ◌==◌, ◌&&◌}
 use Rattle.std.specs.List.{flat_map, list_all}
 use Rattle.std.specs.Fmt.{decimal}
@@ -21,6 +21,11 @@ use Rattle.aig_format.specs.Spelling.{reset_text, lines}
 
 pub reset_written : (r : ℕ) → (r ≡ 0 → ⊥) → reset_text false r ≡ space ∷ field r line_end
 reset_written r h = ap (λ (b : Bool). cond (not b) (space ∷ field r line_end) (line_end ∷ [])) (ne_eqb r 0 h)
+
+pub next_written : (n r : ℕ) → (r ≡ 0 → ⊥) → field n space ++ field r line_end ≡ decimal n ++ reset_text false r
+next_written n r h =
+    append_assoc (decimal n) (space ∷ []) (field r line_end)
+    ∙ ap (λ (t : List ℕ). decimal n ++ t) (sym (reset_written r h))
 
 -- lines of which nothing is said are written short
 pub plain_lines : {X : Type 0} (line : Bool → X → List ℕ) (xs : List X) → lines line [] xs ≡ flat_map (line false) xs

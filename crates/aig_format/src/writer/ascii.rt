@@ -6,17 +6,15 @@ ghost use Rattle.aig_bytes.specs.Gathered.{Gathers};
 ghost use Rattle.aig_format.specs.Spelling.{latch_line, gate_line, lines, short_ascii};
 
 use crate::reader::header::Format;
-use crate::writer::block::put_number;
 use crate::writer::header::{counts_of, put_header};
-use crate::writer::section::{put_literals, put_names, put_properties, put_reset};
+use crate::writer::section::{put_literals, put_names, put_next, put_properties};
 use aig_base::{Block, Circuit, Fault, Gate, Io, Latch, Write, write_all};
 
 fn put_latch<W: Write>(out: &mut W, block: &mut Block, latch: Latch) -> Result<(), Io>
     ensures { Gathers W.written W.failures out.old out.new block.old block.new (latch_line false latch) result }
 {
     block.put_field(out, latch.lit.value(), b' ')?;
-    put_number(out, block, latch.next.value())?;
-    put_reset(out, block, latch.reset)
+    put_next(out, block, latch.next, latch.reset)
 }
 
 fn put_latches<W: Write>(out: &mut W, block: &mut Block, latches: &[Latch]) -> Result<(), Io>

@@ -1,5 +1,6 @@
 //! Writing the sections that both formats have.
-ghost use Rattle.std.specs.Prelude.{◌≡◌, ◌<◌, ◌^◌, false, length, All, option_copied};
+ghost use Rattle.std.specs.Prelude.{◌≡◌, ◌<◌, ◌^◌, ◌++◌, false, length, All, option_copied};
+ghost use Rattle.std.specs.Fmt.{decimal};
 ghost use Rattle.std.specs.List.{flat_map};
 ghost use Rattle.aig_parts.specs.Formed.{IsFormed};
 ghost use Rattle.aig_bytes.specs.Gathered.{Gathers};
@@ -23,14 +24,20 @@ pub(crate) fn put_literals<W: Write>(
     Ok(())
 }
 
-/// The end of a latch line, with the reset where it is not 0.
-pub(crate) fn put_reset<W: Write>(out: &mut W, block: &mut Block, reset: Lit) -> Result<(), Io>
-    ensures { Gathers W.written W.failures out.old out.new block.old block.new (reset_text false reset) result }
+/// The two last numbers of a latch line, the reset where it is not 0.
+pub(crate) fn put_next<W: Write>(
+    out: &mut W,
+    block: &mut Block,
+    next: Lit,
+    reset: Lit,
+) -> Result<(), Io>
+    ensures { Gathers W.written W.failures out.old out.new block.old block.new (decimal next ++ reset_text false reset)
+        result }
 {
     if reset.value() == 0 {
-        return block.put_all(out, b"\n");
+        return block.put_field(out, next.value(), b'\n');
     }
-    block.put_all(out, b" ")?;
+    block.put_field(out, next.value(), b' ')?;
     block.put_field(out, reset.value(), b'\n')
 }
 
