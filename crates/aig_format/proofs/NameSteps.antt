@@ -15,7 +15,7 @@ use Rattle.std.specs.Map.{keys_of}
 use Rattle.aig_format.specs.Spells.{greatest}
 use Rattle.aig_format.specs.Spelling.{Entry}
 use Rattle.aig_format.specs.state.Reading.{text, Read, first_of, peek_at, number_at}
-use Rattle.aig_format.specs.state.ReadingNames.{count_of, line_at, name_at, entry_at, position_at}
+use Rattle.aig_format.specs.state.ReadingNames.{count_of, line_at, position_at}
 use Rattle.aig_format.proofs.Keys.{is_named_from, not_named_from}
 use Rattle.aig_format.proofs.Steps.{done, done_is, regroup}
 use Rattle.aig_format.specs.state.ReadingSections.{with_front}
@@ -82,43 +82,6 @@ line_cut front [] mid o whole h none so_far = sym so_far
 line_cut front (x ∷ left) mid o whole h none so_far =
     let is = (done_is (Some x) o (x ∷ left) mid h).0 in
     absurd (true≢false (ap is_some is ∙ none))
-
--- ---- a name that is buffered whole
-
-no_front : {X : Type 0} (read : Read (List X)) → with_front [] read ≡ read
-no_front (Ok x) = refl
-no_front (Err e) = refl
-
--- a name that is not empty is one
-one_name : (name new : List ℕ) → line_at (name ++ (line_end ∷ new)) ≡ Ok (name, new) → 0 < length name
-    → name_at (name ++ (line_end ∷ new)) ≡ Ok (name, new)
-unfolding name_at
-one_name [] new h some = absurd (omega (arith, some))
-one_name (x ∷ name) new h some = rw h refl
-
-pub name_whole : (left buffered unread new : List ℕ) (n : ℕ) → left ≡ buffered ++ unread → 0 < length (take n buffered)
-    → All (λ b. b ≢ line_end) (take n buffered) → n < length buffered → slice_get buffered n ≡ Some line_end
-    → new ≡ drop (n + 1) left → name_at left ≡ Ok (take n buffered, new)
-name_whole left buffered unread new n split some other lt end is =
-    let rest : drop (n + 1) left ≡ drop (n + 1) buffered ++ unread =
-    ap (drop (n + 1)) split ∙ drop-append-le (n + 1) buffered unread (omega arith) in
-    let cut : buffered ≡ take n buffered ++ (line_end ∷ drop (n + 1) buffered) =
-    sym (take-append-drop n buffered)
-    ∙ ap (λ (t : List ℕ). take n buffered ++ t)
-    (drop_more buffered n 0 lt ∙ ap (λ (x : ℕ). x ∷ drop (n + 1) buffered) (get_or_from_slice_get buffered n line_end 0 end)) in
-    let all : left ≡ take n buffered ++ (line_end ∷ new) =
-    split ∙ ap (λ (t : List ℕ). t ++ unread) cut
-    ∙ append_assoc (take n buffered) (line_end ∷ drop (n + 1) buffered) unread
-    ∙ ap (λ (t : List ℕ). take n buffered ++ (line_end ∷ t)) (sym (is ∙ rest)) in
-    let line : line_at left ≡ Ok (take n buffered, new) =
-    line_ends [] left left new buffered unread n (first_of left) (line_at left) refl split lt end other is
-    (no_front (line_at left)) in
-    ap name_at all
-    ∙ one_name (take n buffered) new (ap line_at (sym all) ∙ line) some
-
-pub entry_whole : (named : List Entry) (kind : Kind) (p : ℕ) (bytes name new : List ℕ) → name_at bytes ≡ Ok (name, new)
-    → entry_at named kind p bytes ≡ Ok (named ++ ((kind, p), name) ∷ [], new)
-entry_whole named kind p bytes name new h = rw h refl
 
 -- ---- positions
 

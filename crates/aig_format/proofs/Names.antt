@@ -124,7 +124,7 @@ level x n k other kind is h more = by_test (eqb x n) refl h
     by_test true e g = let same : k ≡ kind = cc in eqb-true x n e ∙ sym is ∙ ap letter same
     by_test false e g = more g
 
-kind_takes : (x : ℕ) (kind : Kind) → kind_of x ≡ Some kind → x ≡ letter kind
+pub kind_takes : (x : ℕ) (kind : Kind) → kind_of x ≡ Some kind → x ≡ letter kind
 kind_takes x kind h =
     level x 105 Input _ kind refl h
     (λ h1. level x 108 Latch _ kind refl h1 (λ h2. level x 111 Output _ kind refl h2 (λ h3.

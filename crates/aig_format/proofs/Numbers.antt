@@ -1,8 +1,7 @@
 -- A number that is read is spelled so, and a number that is spelled so is read.
 use Rattle.std.proofs.Common.{◌≡◌, ℕ, zero, suc, ◌+◌, ◌-◌, ◌*◌, ◌/◌, ◌%◌, ◌^◌, ◌<◌, ◌≤◌, Bool, true, false, cond, ltb}
 use Rattle.std.proofs.Common.{eqb, eq-eqb, List, [], ◌∷◌, ◌++◌, Option, Some, None, Result, Ok, Err, refl, sym, ap}
-use Rattle.std.proofs.Common.{◌∙◌, append_assoc, length, drop, length-append, length-drop, arith}
-use Rattle.std.proofs.Math.Seq.{drop-append_seam}
+use Rattle.std.proofs.Common.{◌∙◌, append_assoc, arith}
 use Rattle.std.proofs.lemmas.Bool.{ltb-false, eqb-true}
 use Rattle.std.proofs.lemmas.Bool.Decides.{nat_tests}
 use Rattle.std.proofs.lemmas.Fmt.{decimal_digit, decimal_step, decimal_by_steps}
@@ -294,28 +293,3 @@ optional_again bound false zero rest le small = rw (more_line rest) refl
 optional_again bound false (suc n) rest le small =
     let some : eqb (suc n) 0 ≡ false = grind (arith, nat_tests) in
     rw some (rw (more_space (field (suc n) 10 ++ rest)) (field_again bound 10 (suc n) rest le small (stops_line rest)))
-
--- A number that is read with the blank after it is there without the blank, whatever comes after them.
-pub number_before : (bound : ℕ) (bytes more : List ℕ) (n k : ℕ) → 9 ≤ bound → bound < 2 ^ 64 → k ≤ length bytes
-    → field_at bound 32 bytes ≡ Ok (n, drop k bytes)
-    → (0 < k) × (number_at bound (bytes ++ more) ≡ Ok (n, drop (k - 1) (bytes ++ more)))
-number_before bound bytes more n k nine small within h =
-    let t = field_takes bound 32 bytes n (drop k bytes) nine small h in
-    let after = drop k bytes ++ more in
-    let size : k ≡ length (decimal n) + 1 = omega (
-      arith,
-      ap length t.0,
-      length-append (field n 32) (drop k bytes),
-      length-append (decimal n) (32 ∷ []),
-      length-drop k bytes,
-      within,
-    ) in
-    let at : k - 1 ≡ length (decimal n) = omega (arith, size) in
-    let all : bytes ++ more ≡ decimal n ++ 32 ∷ after = ap (λ (xs : List ℕ). xs ++ more) t.0
-    ∙ append_assoc (field n 32) (drop k bytes) more ∙ append_assoc (decimal n) (32 ∷ []) after in
-    let rest : drop (k - 1) (bytes ++ more) ≡ 32 ∷ after = ap (λ (j : ℕ). drop j (bytes ++ more)) at
-    ∙ ap (drop (length (decimal n))) all ∙ drop-append_seam (decimal n) (32 ∷ after) in (
-      omega (arith, size),
-      ap (number_at bound) all ∙ number_again bound n (32 ∷ after) t.1 small (stops_space after)
-          ∙ ap (done n) (sym rest),
-    )

@@ -147,14 +147,14 @@ symbols_take c (suc n) named bytes all follows rest le h =
         })
 
 -- a symbol's line in pieces
-symbol_apart : (e : Entry) (rest : List ℕ)
+pub symbol_apart : (e : Entry) (rest : List ℕ)
     → symbol_line e ++ rest ≡ letter e.0.0 ∷ (decimal e.0.1 ++ space ∷ (e.1 ++ line_end ∷ rest))
 symbol_apart e rest =
     append_assoc (letter e.0.0 ∷ field e.0.1 space ++ e.1) (line_end ∷ []) rest
     ∙ append_assoc (letter e.0.0 ∷ field e.0.1 space) e.1 (line_end ∷ rest)
     ∙ ap (λ (t : List ℕ). letter e.0.0 ∷ t) (append_assoc (decimal e.0.1) (space ∷ []) (e.1 ++ line_end ∷ rest))
 
-letter_before : (e : Entry) (after : List ℕ) → e.0.1 ≤ greatest
+pub letter_before : (e : Entry) (after : List ℕ) → e.0.1 ≤ greatest
     → letter_at (letter e.0.0 ∷ (decimal e.0.1 ++ space ∷ after)) ≡ Ok (Symbol e.0.0, decimal e.0.1 ++ space ∷ after)
 letter_before e after le =
     let tail : List ℕ = decimal e.0.1 ++ space ∷ after in

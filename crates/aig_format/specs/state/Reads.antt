@@ -1,11 +1,15 @@
 -- What calls that read do to their source.
 use Rattle.std.specs.Prelude.{◌≡◌, ◌≤◌, ◌+◌, ◌++◌, ℕ, List, Result, length, drop}
 use Rattle.aig_parts.specs.declared.fault.Fault.{Fault}
+use Rattle.aig_format.specs.declared.reader.header.Counts.{Counts}
 use Rattle.aig_format.specs.declared.reader.source.Source.{Ghosts}
 use Rattle.aig_format.specs.declared.reader.token_fault.TokenFault.{TokenFault}
 use Rattle.aig_format.specs.FileReading.{Raises}
+use Rattle.aig_format.specs.Spelling.{Entry}
+use Rattle.aig_format.specs.state.Fits.{AreSymbols}
 use Rattle.aig_format.specs.state.ReaderAnswers.{of_token, Gives}
 use Rattle.aig_format.specs.state.Reading.{Read}
+use Rattle.aig_format.specs.state.ReadingNames.{symbols_at}
 use Rattle.aig_format.specs.state.ReadingSections.{lines_at, with_front}
 
 -- What was answered, seen by view, and the bytes that are left are what reading gives, unless memory ran out or a read
@@ -40,3 +44,12 @@ pub record AddsItems {X : Type 0} (line : ℕ → List ℕ → Read X) (first ta
   pub lines : (rest : ℕ) (more : List ℕ)
       → with_front new (lines_at line rest (first + taken) (drop size buffered ++ more))
       ≡ with_front old (lines_at line (taken + rest) first (buffered ++ more))
+
+-- So many symbols are in so many bytes at the front of hand and were added to a list. Whatever comes after hand, reading
+-- them and the rest after old is reading the rest after new.
+pub record AddsSymbols (c : Counts) (count size : ℕ) (buffered : List ℕ) (old new : List Entry) : Type 0 where
+  pub within : size ≤ length buffered
+  pub least : count ≤ size
+  pub symbols : AreSymbols c old → AreSymbols c new
+  pub lines : (rest : ℕ) (more : List ℕ)
+      → symbols_at c (count + rest) old (buffered ++ more) ≡ symbols_at c rest new (drop size buffered ++ more)

@@ -1,15 +1,16 @@
 //! The symbols and the comment.
-ghost use Rattle.std.specs.Prelude.{◌≡◌, ◌≢◌, ℕ, ◌<◌, List, [], ◌∷◌, ◌++◌, length, take, slice_get, Ok, IfOk, OnOk};
-ghost use Rattle.std.specs.Prelude.{Option, Some, IfSome, All, Contains};
+ghost use Rattle.std.specs.Prelude.{◌≡◌, ◌≢◌, ℕ, ◌<◌, ◌≤◌, List, [], ◌∷◌, ◌++◌, length, take, drop, slice_get, Ok, IfOk};
+ghost use Rattle.std.specs.Prelude.{OnOk, Option, Some, IfSome, IfNone, All, Contains};
 ghost use Rattle.std.specs.Map.{keys_of};
 ghost use Rattle.aig_parts.specs.Formed.{IsName};
+ghost use Rattle.aig_parts.specs.Letters.{letter};
+ghost use Rattle.aig_format.specs.Spelling.{symbol_line};
 ghost use Rattle.aig_format.specs.Spells.{greatest};
 ghost use Rattle.aig_format.specs.state.Fits.{AreSymbols};
-ghost use Rattle.aig_format.specs.state.Reading.{number_at};
 ghost use Rattle.aig_format.specs.state.ReadingNames.{count_of, kind_of, after_c_at, letter_at, line_at, name_at};
 ghost use Rattle.aig_format.specs.state.ReadingNames.{position_at, entry_at, symbol_at, symbols_at, names_at};
 ghost use Rattle.aig_format.specs.state.ReadingNames.{BeginsSymbol};
-ghost use Rattle.aig_format.specs.state.Reads.{ReadsAs, ReadsToken};
+ghost use Rattle.aig_format.specs.state.Reads.{AddsSymbols, ReadsAs, ReadsToken};
 
 use crate::reader::buffered_numbers::field_in;
 use crate::reader::header::Counts;
@@ -17,7 +18,7 @@ use crate::reader::source::Source;
 use crate::reader::token::{BODY, byte, number};
 use crate::reader::token_fault::TokenFault;
 use aig_base::{Bytes, Fault, Kind, List, SymbolList, Symbols, line_length};
-use std::alloc::Global;
+use std::alloc::{AllocError, Global};
 
 /// What stands where a symbol line may begin.
 #[derive(Clone, Copy)]
@@ -116,22 +117,6 @@ fn name<S: Source>(s: &mut S, bytes: &mut Vec<u8>) -> Result<(), Fault>
     Ok(())
 }
 
-/// The number of a symbol, in one loop where it and the blank after it are buffered.
-fn position_number<S: Source>(s: &mut S) -> Result<u32, TokenFault>
-    ensures reads { ReadsToken S.Source s.old s.new result (number_at greatest) }
-{
-    let front = s.front();
-    if front.len() < 8 {
-        return number(s, BODY);
-    }
-    let Some((position, after)) = field_in(front, 0, b' ') else {
-        return number(s, BODY);
-    };
-    // The blank stays.
-    s.skip(after - 1);
-    Ok(position)
-}
-
 /// A position of the section that has no name yet.
 #[tactic(auto, unfolding(crate::specs::state::ReadingNames::position_at))]
 fn position<S: Source>(
@@ -145,7 +130,7 @@ fn position<S: Source>(
     ensures fresh { IfOk result (λ p. Contains (keys_of named.now) (kind, p) → ⊥) }
 {
     let at = s.at();
-    let position = position_number(s)?;
+    let position = number(s, BODY)?;
     if position >= counts.of(kind) {
         return Err(TokenFault::Text { at });
     }
@@ -155,21 +140,7 @@ fn position<S: Source>(
     Ok(position)
 }
 
-/// How many bytes the name has that these begin with, where the end of its line is among them too.
-fn buffered_name(bytes: &[u8]) -> Option<usize>
-    ensures name { IfSome result (λ size. IsName (take size bytes.now)) }
-    ensures within { IfSome result (λ size. size < length bytes.now) }
-    ensures ended { IfSome result (λ size. slice_get bytes.now size ≡ Some 10) }
-{
-    let size = line_length(bytes);
-    if size == 0 || size == bytes.len() {
-        return None;
-    }
-    Some(size)
-}
-
-/// Adds the entry whose name comes next. A name that is buffered whole joins the others at once, any other is read into
-/// these bytes first.
+/// Adds the entry whose name comes next, which is read into these bytes first.
 fn entry<S: Source>(
     s: &mut S,
     kind: Kind,
@@ -181,17 +152,12 @@ fn entry<S: Source>(
     ensures reads { ReadsAs S.Source s.old s.new (λ _. all.new) result (entry_at all.old kind position) }
     ensures name { OnOk result ((name : List ℕ) × IsName name × (all.new ≡ all.old ++ ((kind, position), name) ∷ [])) }
 {
-    if let Some(size) = buffered_name(s.front()) {
-        all.push(kind, position, &s.front()[..size])?;
-        s.skip(size + 1);
-        return Ok(());
-    }
     name(s, bytes)?;
     all.push(kind, position, bytes.as_slice())?;
     Ok(())
 }
 
-/// Adds the symbol that stands after its letter. Its name is read into these bytes where it is not buffered whole.
+/// Adds the symbol that stands after its letter. Its name is read into these bytes.
 #[tactic(auto, unfolding(crate::specs::state::ReadingNames::symbol_at))]
 fn symbol<S: Source>(
     s: &mut S,
@@ -208,7 +174,83 @@ fn symbol<S: Source>(
     entry(s, kind, position, all, bytes)
 }
 
-/// Adds all symbols, and answers whether a comment follows.
+/// The section of a letter that a position follows.
+fn section_of(byte: u8) -> Option<Kind>
+    ensures { IfSome result (λ kind. byte ≡ letter kind) }
+{
+    if byte == b'c' {
+        return Some(Kind::Constraint);
+    }
+    kind_of(byte)
+}
+
+/// How many bytes the name has that these begin with, where the end of its line is among them too.
+fn buffered_name(bytes: &[u8]) -> Option<usize>
+    ensures name { IfSome result (λ size. IsName (take size bytes.now)) }
+    ensures within { IfSome result (λ size. size < length bytes.now) }
+    ensures ended { IfSome result (λ size. slice_get bytes.now size ≡ Some 10) }
+{
+    let size = line_length(bytes);
+    if size == 0 || size == bytes.len() {
+        return None;
+    }
+    Some(size)
+}
+
+/// The symbol whose line these bytes begin with, where its end is among them too, and the length of the line.
+fn symbol_in(bytes: &[u8]) -> Option<(Kind, u32, &[u8], usize)>
+    ensures line { IfSome result (λ x. bytes.now ≡ symbol_line ((x.0, x.1), x.2.now) ++ drop x.3 bytes.now) }
+    ensures position { IfSome result (λ x. x.1 ≤ greatest) }
+    ensures name { IfSome result (λ x. IsName x.2.now) }
+    ensures within { IfSome result (λ x. x.3 ≤ length bytes.now) }
+{
+    if bytes.len() < 9 {
+        return None;
+    }
+    let kind = section_of(bytes[0])?;
+    let (position, start) = field_in(bytes, 1, b' ')?;
+    let rest = &bytes[start..];
+    let size = buffered_name(rest)?;
+    Some((kind, position, &rest[..size], start + size + 1))
+}
+
+/// Adds the symbol whose line these bytes begin with, and returns the length of the line. Nothing is added where they
+/// do not hold all of it, or it is to be refused.
+fn push_symbol(
+    bytes: &[u8],
+    counts: &Counts,
+    all: &mut SymbolList,
+) -> Result<Option<usize>, AllocError>
+    ensures added { IfOk result (λ line. IfSome line (λ size. AddsSymbols counts.now 1 size bytes.now all.old all.new)) }
+    ensures none { IfOk result (λ line. IfNone line (all.new ≡ all.old)) }
+{
+    let Some((kind, position, name, size)) = symbol_in(bytes) else {
+        return Ok(None);
+    };
+    if position >= counts.of(kind) || all.contains(kind, position) {
+        return Ok(None);
+    }
+    all.push(kind, position, name)?;
+    Ok(Some(size))
+}
+
+/// Adds the symbols whose lines are buffered whole, one after the other, and returns the length of these lines.
+fn push_symbols(
+    buffered: &[u8],
+    counts: &Counts,
+    all: &mut SymbolList,
+) -> Result<usize, AllocError>
+    ensures { IfOk result (λ size. (count : ℕ) × AddsSymbols counts.now count size buffered.now all.old all.new) }
+{
+    let mut size = 0;
+    while let Some(more) = push_symbol(&buffered[size..], counts, all)? {
+        size += more;
+    }
+    Ok(size)
+}
+
+/// Adds all symbols, and answers whether a comment follows: those that are buffered whole, and byte by byte the one that
+/// goes beyond the buffer, or is refused.
 fn symbols<S: Source>(
     alloc: Global,
     s: &mut S,
@@ -221,6 +263,8 @@ fn symbols<S: Source>(
 {
     let mut name = Vec::new(alloc);
     loop {
+        let size = push_symbols(s.front(), counts, all)?;
+        s.skip(size);
         match letter(s)? {
             Next::End => return Ok(false),
             Next::Comment => return Ok(true),
