@@ -17,14 +17,15 @@ pub(crate) fn put_name(text: &mut Vec<u8>, name: &[u8]) -> Result<Place, AllocEr
     ensures ok { OnOk result (text.new.items ≡ text.old.items ++ name.now) }
     ensures err { OnErr result (text.new.items ≡ text.old.items) }
 {
-    let Ok(start) = u32::try_from(text.len()) else {
+    if text.len().saturating_add(name.len()) > u32::MAX as usize {
         return Err(AllocError);
-    };
-    let Ok(end) = u32::try_from(text.len().saturating_add(name.len())) else {
-        return Err(AllocError);
-    };
+    }
     text.extend_from_slice(name)?;
-    Ok(Place { start, end })
+    let end = text.len();
+    Ok(Place {
+        start: (end - name.len()) as u32,
+        end: end as u32,
+    })
 }
 
 /// The name that stands there.
