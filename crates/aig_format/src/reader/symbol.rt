@@ -227,19 +227,14 @@ fn push_symbol(
     let Some((kind, position, name, size)) = symbol_in(bytes) else {
         return Ok(None);
     };
-    if position >= counts.of(kind) || all.contains(kind, position) {
+    if position >= counts.of(kind) || !all.insert(kind, position, name)? {
         return Ok(None);
     }
-    all.push(kind, position, name)?;
     Ok(Some(size))
 }
 
 /// Adds the symbols whose lines are buffered whole, one after the other, and returns the length of these lines.
-fn push_symbols(
-    buffered: &[u8],
-    counts: &Counts,
-    all: &mut SymbolList,
-) -> Result<usize, AllocError>
+fn push_symbols(buffered: &[u8], counts: &Counts, all: &mut SymbolList) -> Result<usize, AllocError>
     ensures { IfOk result (λ size. (count : ℕ) × AddsSymbols counts.now count size buffered.now all.old all.new) }
 {
     let mut size = 0;

@@ -1,5 +1,6 @@
 //! Symbols as they are read.
-ghost use Rattle.std.specs.Prelude.{◌≡◌, ◌∷◌, ◌++◌, ◌↔◌, [], IsTrue, Contains, IfOk, OnOk, OnErr};
+ghost use Rattle.std.specs.Prelude.{◌≡◌, ◌∷◌, ◌++◌, ◌↔◌, [], IsTrue, false, Contains, IfOk, OnOk};
+ghost use Rattle.std.specs.Prelude.{OnErr};
 ghost use Rattle.std.specs.Map.{keys_of};
 
 use crate::symbols::named::NamedEntries;
@@ -49,16 +50,29 @@ impl SymbolList {
         self.named.contains(kind, position)
     }
 
+    /// Adds the name of an entry, and answers whether it had none. If it had one, nothing changes.
+    pub fn insert(&mut self, kind: Kind, position: u32, name: &[u8]) -> Result<bool, AllocError>
+        ensures fresh { IfOk result (λ b. IsTrue b → self.new ≡ self.old ++ ((kind, position), name.now) ∷ []) }
+        ensures named { IfOk result (λ b. b ≡ false → self.new ≡ self.old) }
+        ensures when { IfOk result (λ b. (b ≡ false) ↔ Contains (keys_of self.old) (kind, position)) }
+        ensures err { OnErr result (self.new ≡ self.old) }
+    {
+        self.entries.reserve(1)?;
+        let place = put_name(&mut self.text, name)?;
+        if !self.named.insert(kind, position)? {
+            return Ok(false);
+        }
+        self.entries.push_reserved(((kind, position), place));
+        Ok(true)
+    }
+
     /// Adds the name of an entry that has none. Where memory is refused nothing changes.
     pub fn push(&mut self, kind: Kind, position: u32, name: &[u8]) -> Result<(), AllocError>
         requires { Contains (keys_of self.old) (kind, position) → ⊥ }
         ensures ok { OnOk result (self.new ≡ self.old ++ ((kind, position), name.now) ∷ []) }
         ensures err { OnErr result (self.new ≡ self.old) }
     {
-        self.entries.reserve(1)?;
-        let place = put_name(&mut self.text, name)?;
-        self.named.insert(kind, position)?;
-        self.entries.push_reserved(((kind, position), place));
+        self.insert(kind, position, name)?;
         Ok(())
     }
 

@@ -1,5 +1,6 @@
 //! Which entries have a name.
-ghost use Rattle.std.specs.Prelude.{◌≡◌, ◌⊎◌, ◌↔◌, ℕ, ◌^◌, ◌<◌, ◌≤◌, [], length, slice_index_or, IsTrue, OnOk, OnErr};
+ghost use Rattle.std.specs.Prelude.{◌≡◌, ◌⊎◌, ◌↔◌, ℕ, ◌^◌, ◌<◌, ◌≤◌, [], length, slice_index_or, IsTrue, false};
+ghost use Rattle.std.specs.Prelude.{IfOk, OnOk, OnErr};
 ghost use Rattle.aig_parts.specs.SymbolPlaces.{Key};
 ghost use Rattle.aig_parts.specs.state.NamedEntries.{section_number, page_of, IsMarkedEntry};
 
@@ -90,14 +91,20 @@ impl NamedEntries {
         Ok(())
     }
 
-    /// Notes that an entry has a name. Where memory is refused none more has one.
-    pub(crate) fn insert(&mut self, kind: Kind, position: u32) -> Result<(), AllocError>
+    /// Notes that an entry has a name, and answers whether it had none. Where memory is refused none more has one.
+    pub(crate) fn insert(&mut self, kind: Kind, position: u32) -> Result<bool, AllocError>
         ensures ok { OnOk result ((k : Key) → IsMarkedEntry self.new k
             ↔ (IsMarkedEntry self.old k ⊎ (k ≡ (kind, position)))) }
+        ensures had { IfOk result (λ fresh. (fresh ≡ false) ↔ IsMarkedEntry self.old (kind, position)) }
         ensures err { OnErr result ((k : Key) → IsMarkedEntry self.new k ↔ IsMarkedEntry self.old k) }
     {
         let page = page_of(kind, position);
+        let number = (position % PAGE) as usize;
         self.make_pages(page + 1)?;
-        self.pages[page].insert((position % PAGE) as usize)
+        if self.pages[page].contains(number) {
+            return Ok(false);
+        }
+        self.pages[page].insert(number)?;
+        Ok(true)
     }
 }
