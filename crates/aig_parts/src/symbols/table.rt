@@ -54,10 +54,16 @@ fn key_number(entry: (Kind, u32)) -> u64
 fn are_ascending(entries: &[((Kind, u32), Place)]) -> bool
     ensures { IsTrue result → Ascend entries.now }
 {
+    if entries.is_empty() {
+        return true;
+    }
+    let mut before = key_number(entries[0].0);
     for place in 1..entries.len() {
-        if key_number(entries[place - 1].0) >= key_number(entries[place].0) {
+        let number = key_number(entries[place].0);
+        if before >= number {
             return false;
         }
+        before = number;
     }
     true
 }

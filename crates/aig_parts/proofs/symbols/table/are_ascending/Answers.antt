@@ -1,4 +1,4 @@
-use Rattle.std.proofs.Common.{ℕ, ◌-◌, ◌<◌, get_or, List, subst, arith}
+use Rattle.std.proofs.Common.{◌≡◌, ℕ, ◌-◌, ◌+◌, ◌<◌, get_or, List, ap, sym, subst, ◌∙◌, arith}
 use Rattle.std.proofs.lemmas.List.{take_all}
 use Rattle.aig_parts.specs.declared.symbols.places.Place.{Place}
 use Rattle.aig_parts.specs.SymbolPlaces.{Key}
@@ -9,15 +9,20 @@ use Rattle.aig_parts.proofs.symbols.table.are_ascending.Goals as goal
 pub loop-place-preserved : goal.loop-place-preserved
 loop-place-preserved c =
     let es = c.args.entries.now in
-    let i = c.loop-place.place in
-    let up : key_number (get_or es (i - 1) nowhere).0 < key_number (get_or es i nowhere).0 =
-    subst (λ (n : ℕ). n < key_number (get_or es i nowhere).0) c.key_number.ensures
-    (subst (λ (n : ℕ). c.key_number.result < n) c.key_number-in-loop-place.ensures c.if-key_number.false) in (
-      omega arith,
-      ascend_more es i nowhere c.loop-place.invariant.0 c.loop-place-test.true up c.loop-place.invariant.1,
-    )
+    let place = c.loop-place.place in
+    let i = c.loop-place.invariant in
+    let number = c.key_number-number.ensures in
+    let up : key_number (get_or es (place - 1) nowhere).0 < key_number (get_or es place nowhere).0 =
+    subst (λ (n : ℕ). n < key_number (get_or es place nowhere).0) i.last
+    (subst (λ (n : ℕ). c.loop-place.before < n) number c.if-before-number.false) in
+    let same : place ≡ place + 1 - 1 = omega arith in
+    record {
+      some = omega arith;
+      ascend = ascend_more es place nowhere i.some c.loop-place-test.true up i.ascend;
+      last = number ∙ ap (λ (n : ℕ). key_number (get_or es n nowhere).0) same;
+    }
 
 pub returns : goal.returns
 returns c _ =
     subst (λ (xs : List (Key × Place)). Ascend xs)
-    (take_all c.loop-place.place c.args.entries.now c.loop-place-test.false) c.loop-place.invariant.1
+    (take_all c.loop-place.place c.args.entries.now c.loop-place-test.false) c.loop-place.invariant.ascend
