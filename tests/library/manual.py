@@ -11,7 +11,7 @@ from library.helptext import commands, examples, grouped
 from library.roff import Markdown, code_block, filled, lines, literal, prose, sections
 from library.runs import REPOSITORY, contents
 
-DATE = "2026-11-28"
+DATE = "2026-11-29"
 SEE_ALSO = ("abc", "gtkwave", "yosys")
 FILES = {
     "share/doc/aig/examples":

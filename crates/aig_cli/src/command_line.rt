@@ -17,7 +17,7 @@ use std::fmt;
 
 /// The program's version. A program does not know how it was built: `rt ci` proves what it builds, and
 /// `tools/build_unproved.sh` replaces this text in a program that was not proved.
-static VERSION: &str = "0.2.0 (proved where rt ci built it)";
+static VERSION: &str = "0.3.0 (proved where rt ci built it)";
 
 fn program<'a>(alloc: Global) -> Result<Command<'a>, AllocError>
     ensures app { IfOk result (λ c. app_of c ≡ program_of []) }

@@ -22,7 +22,7 @@ from .values import X
 from .verdict import Verdict
 from .verdicts.tools import Stop, Stopped
 
-__version__ = "0.2.0"
+__version__ = "0.3.0"
 
 __all__ = [
     "AigError", "Bench", "Certified", "Circuit", "EditError", "Entry", "Formula", "OutOfMemory", "Solved", "Stop",
