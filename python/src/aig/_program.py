@@ -27,6 +27,8 @@ def program() -> str:
     on the path."""
     named = os.environ.get("AIG_PROGRAM")
     if named:
+        if not shutil.which(named):
+            raise FileNotFoundError(f"there is no program {named}, which AIG_PROGRAM names")
         return named
     installed = Path(sysconfig.get_path("scripts"), "aig")
     found = str(installed) if installed.exists() else shutil.which("aig")

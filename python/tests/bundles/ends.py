@@ -218,6 +218,12 @@ def yosys(program, tally, _):
         os.environ["PATH"] = usual
     tally.check("yosys: missing", status == 1 and "there is no program yosys" in err, (status, err))
     tally.check("yosys: no folder", not Path("out").exists())
+    os.environ["AIG_PROGRAM"], usual = str(Path("no-such-aig").resolve()), os.environ["AIG_PROGRAM"]
+    try:
+        status, _, err = called("run", source, "--out", "out")
+    finally:
+        os.environ["AIG_PROGRAM"] = usual
+    tally.check("yosys: no aig", status == 3 and "there is no program" in err, (status, err))
 
 
 def bounds(_, tally, __):

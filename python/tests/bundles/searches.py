@@ -226,5 +226,7 @@ def options(tally):
     os.environ["AIG_PROGRAM"], usual = os.path.abspath("no-such-aig"), os.environ["AIG_PROGRAM"]
     try:
         tally.compare("words: no aig", run(out="no_aig")[0], 3)
+        status, _, err = called("recheck", "out")
+        tally.check("words: recheck without aig", status == 3 and "there is no program" in err, (status, err))
     finally:
         os.environ["AIG_PROGRAM"] = usual

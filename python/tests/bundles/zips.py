@@ -43,6 +43,9 @@ def zips(_, tally, __):
     tally.compare("zips: packed by another program", judged("made.zip"), good)
     shutil.make_archive("folder", "zip", ".", path)
     tally.compare("zips: packed with its folder", judged("folder.zip"), good)
+    with zipfile.ZipFile("folder.zip", "a") as file:
+        file.writestr(f"{Path(path).name}/.lock", b"")
+    tally.compare("zips: packed with the lock of a run", judged("folder.zip"), good)
 
 
 def _entries(path):

@@ -21,6 +21,8 @@ MOST_OF_MANIFEST = 1 << 26
 # Of the list of files in a .zip.
 MOST_OF_LIST = 1 << 25
 PLAIN_FILE = 0o100000
+# By this file a run keeps others out of its folder. A .zip of the folder may have it, and nothing reads it.
+LOCK = ".lock"
 _ENCRYPTED = 1
 _PACKED = (zipfile.ZIP_STORED, zipfile.ZIP_DEFLATED)
 
@@ -93,8 +95,8 @@ class _Zip:
     def _look(self, entry: zipfile.ZipInfo) -> None:
         name = entry.filename.rstrip("/") if entry.is_dir() else entry.filename
         plain = name[len(self._top):] if name.startswith(self._top) else name
-        is_plain = PLAIN.fullmatch(plain) is not None and "\0" not in entry.orig_filename
-        expect(is_plain, f"the .zip has the name {name!r}")
+        is_plain = plain == LOCK or PLAIN.fullmatch(plain) is not None
+        expect(is_plain and "\0" not in entry.orig_filename, f"the .zip has the name {name!r}")
         expect(not entry.flag_bits & _ENCRYPTED, f"{name} is encrypted")
         expect(entry.compress_type in _PACKED, f"{name} is packed in a strange way")
         kind = stat.S_IFMT(entry.external_attr >> 16)

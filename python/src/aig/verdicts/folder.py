@@ -16,7 +16,7 @@ try:
 except ImportError:  # no Unix
     fcntl = None  # type: ignore[assignment]
 
-from .bundle import MOST_BYTES, PLAIN_FILE, PlainFolder, Wrong, sum_of
+from .bundle import LOCK, MOST_BYTES, PLAIN_FILE, PlainFolder, Wrong, sum_of
 from .manifest import MANIFEST, as_json
 from .row import Row
 
@@ -57,7 +57,7 @@ class Folder:
         self.sums: Dict[str, str] = {}
         path.mkdir(parents=True, exist_ok=True)
         flags = os.O_RDWR | os.O_CREAT | os.O_CLOEXEC | os.O_NOFOLLOW | os.O_NONBLOCK
-        self._lock: Optional[int] = os.open(path / ".lock", flags, 0o666)
+        self._lock: Optional[int] = os.open(path / LOCK, flags, 0o666)
         if fcntl is not None:
             try:
                 fcntl.flock(self._lock, fcntl.LOCK_EX | fcntl.LOCK_NB)
