@@ -49,7 +49,7 @@ build/lib/libaig.a: $(SOURCES) $(LIBRARY_SOURCES)
 	@tools/unproved_library.py build/lib
 
 test: build/aig build/aig_callers build/lib/libaig.a
-	@echo "Running all tests on build/aig. CONTRIBUTING.md says how long that takes."
+	@echo "Running all tests on build/aig: about ten minutes on two processors."
 	@tests/all.py --crates build/aig
 
 prove:
