@@ -313,6 +313,7 @@ checked_with_trace = (shown_verdict, (codes " 1  \n", replayed_one, refl))
 -- with properties the bad state is 1
 replayed_properties : ReportsRun (λ raw start rows text. IsPropertyTrace raw start rows text) bad_input
     (codes "1\nb0\n\n1\n.\n") (codes " 1   1 \n")
+unfolding replayed_one
 replayed_properties = record {
   witness = of_one;
   spells = spelled_one;
