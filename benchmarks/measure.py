@@ -624,7 +624,7 @@ def plot(programs, chosen):
                 for name, words in anew(programs, *measured.words, measured.gates):
                     note(f"anew, {name}", "any", measured.gates, *least(min(chosen.times, 3), words))
     if chosen.svg:
-        write(chosen.svg, drawing.drawn(series, "gates", "time of an edit of one input bit"))
+        write(chosen.svg, drawing.drawn(series, "gates", "time of an edit of one input bit").encode())
 
 
 def making():
