@@ -62,13 +62,15 @@ install: $(PROGRAM) $(addsuffix /libaig.a,$(LIBRARY))
 	@[ "$(PROGRAM)" != build/aig ] || echo "make install: warning: nothing of this program is proved" >&2
 	install -D "$(PROGRAM)" "$(ROOT)/bin/aig"
 	install -D tools/aig-verdicts "$(ROOT)/bin/aig-verdicts"
-	for file in $$(cd python/src && find aig -name '*.py'); do \
+	for file in $$(cd python/src && find aig -name '*.py' -o -name '*.v'); do \
 	    install -D -m 644 "python/src/$$file" "$(ROOT)/share/aig/python/$$file"; \
 	done
 	for page in man/*.[15]; do \
 	    install -D -m 644 "$$page" "$(ROOT)/share/man/man$${page##*.}/$${page#man/}"; \
 	done
-	install -D -m 644 completions/aig.bash "$(ROOT)/share/bash-completion/completions/aig"
+	for name in aig aig-verdicts; do \
+	    install -D -m 644 "completions/$$name.bash" "$(ROOT)/share/bash-completion/completions/$$name"; \
+	done
 	install -D -m 644 completions/_aig "$(ROOT)/share/zsh/site-functions/_aig"
 	if [ "$(LIBRARY)" ]; then \
 	    install -D -m 644 include/aig.h "$(ROOT)/include/aig.h" && \

@@ -797,7 +797,7 @@ def circuit_of(name, design):
     """The circuit that Yosys makes of a design."""
     file = f"{name}.flow.aig"
     if not os.path.exists(file):
-        Run(["yosys", "-q", "-p", f"read_verilog -sv -formal {design}; prep -flatten -top {name}; "
+        Run(["yosys", "-q", "-p", f"read_verilog -sv -formal {design}; prep -flatten -top {name}; async2sync; "
              f"chformal -cover -remove; memory_map; opt -full; techmap; opt -fast; dffunmap; abc -g AND -fast; opt_clean; "
              f"write_aiger -symbols {file}"])
     return file

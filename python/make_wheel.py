@@ -48,7 +48,7 @@ def files_of(program, tag):
     facts = f"aig-{VERSION}.dist-info"
     readme = (HERE / "README.md").read_text(encoding="utf-8")
     source = HERE / "src"
-    paths = sorted(it for it in source.rglob("*") if it.suffix == ".py" or it.name == "py.typed")
+    paths = sorted(it for it in source.rglob("*") if it.suffix in (".py", ".v") or it.name == "py.typed")
     files = {path.relative_to(source).as_posix(): (path.read_bytes(), 0o644) for path in paths}
     if program is not None:
         files[f"aig-{VERSION}.data/scripts/aig"] = (Path(program).read_bytes(), 0o755)

@@ -1,11 +1,13 @@
 #!/usr/bin/env python3
-"""Runs every test script on a program, and counts all checks in the last line.
+"""Runs every test script on a program, and counts all checks in the last line. The lines before it say what was left
+out, and why.
 
 The script with the large files takes most of the time, so it runs beside all others. With --crates the tests of the
 crates run beside both. It runs them by `rt try --test`, which proves nothing; in the gate `rt ci` proves and runs them.
 Of a script that fails, all output is shown. A script that does not end in its time fails, and is ended."""
 
 import argparse
+import collections
 import concurrent.futures
 import os
 import re
@@ -28,15 +30,25 @@ SCRIPTS = ("run_bounds.py", "run_gate.py", "run_program.py", "run_faults.py", "r
 STEPS = "run_steps.py"
 # these run the package of Python, and aig-verdicts as far as it needs no other program
 PACKAGES = ("python/tests/run_package.py", "python/tests/run_pages.py", "python/tests/run_bundles.py",
-            "python/tests/run_circuit.py")
+            "python/tests/run_circuit.py", "python/tests/run_replay.py", "python/tests/run_netlists.py")
+# this compares a few random designs with a simulator
+RANDOM = "python/tests/random_verilog.py"
+# this tries some of the planted bugs of the package
+PLANTED = ("tools/planted_python.py", "--sample", "40")
 # this compares with the C++ program of the benchmarks on broken files
 COMPARED = ("benchmarks/measure.py", "compare", "--count", "40")
+NO_COMPILER = ("echo", "compare: left out: there is no c++")
 # these read the sources and pages alone
 READERS = ("tools/definitions.py", "tools/contracts.py", "tools/edges.py", "tools/unused.py", "tools/pages.py",
            "tools/pictures.py", "tools/version.py")
 CRATES = ("aig_tests", "aig_command_tests")
 COUNTS = re.compile(r"(\d+) passed[,;] (\d+) failed")
+# what a script left out: its name, and why
+LEFT_OUT = re.compile(r"(?m)^(.*?): left out: (.*)$")
 SHOWN = re.compile(r"(?m)^.*(?: passed[,;] |left out|to believe|as the sources| compared, | pictures ).*\n")
+
+# How a script ended: how many of its checks passed and failed, and a line for each thing that it left out.
+Ended = collections.namedtuple("Ended", "passed failed left")
 
 
 def ran(name, words, folder, seconds):
@@ -56,16 +68,23 @@ def ran(name, words, folder, seconds):
 
 
 def ended(name, words, folder, seconds=WHOLE_SECONDS):
-    """Runs a script, prints what it says, and returns how many of its checks passed and failed. One that counts none is
-    one check."""
+    """Runs a script, prints what it says, and returns how it ended. One that counts no checks is one check."""
     began = time.monotonic()
     status, said = ran(name, words, folder, seconds)
     counts = [(int(passed), int(failed)) for passed, failed in COUNTS.findall(said)]
-    passed, failed = (sum(column) for column in zip(*counts)) if counts else (int(status == 0), 0)
+    left = LEFT_OUT.findall(said)
+    passed, failed = (sum(column) for column in zip(*counts)) if counts else (int(status == 0 and not left), 0)
     failed += status != 0 and failed == 0
     shown = said if failed else "".join(SHOWN.findall(said))
     print(f"== {name}: {time.monotonic() - began:.0f} s\n{shown}", end="", flush=True)
-    return passed, failed
+    return Ended(passed, failed, [f"{name}: {part}: {why}" for part, why in left])
+
+
+def last_lines(scripts):
+    """What was left out, and the counts."""
+    left = [f"left out: {line}" for script in scripts for line in script.left]
+    passed, failed = (sum(column) for column in zip(*((script.passed, script.failed) for script in scripts)))
+    return [*left, f"{passed} passed, {failed} failed, {len(left)} left out"]
 
 
 def main():
@@ -78,20 +97,19 @@ def main():
     lanes = [[(name, [f"{TESTS}/{name}", *program], REPOSITORY) for name in names] for names in ([LARGE], SCRIPTS)]
     steps = [f"{os.path.dirname(program[0])}/aig_callers"] if program else []
     lanes[1] += [(STEPS, [f"{TESTS}/{STEPS}", *steps], REPOSITORY)]
-    if shutil.which("c++"):
-        named = [word for it in program for word in ("--aig", it)]
-        lanes[1] += [("compare", [f"{REPOSITORY}/{COMPARED[0]}", *COMPARED[1:], *named], REPOSITORY)]
-    else:
-        print("compare: left out: there is no c++", flush=True)
-    lanes[1] += [(name, [f"{REPOSITORY}/{name}", *program], REPOSITORY) for name in PACKAGES]
+    lanes[0] += [(RANDOM, [f"{REPOSITORY}/{RANDOM}", *program], REPOSITORY)]
+    named = [word for it in program for word in ("--aig", it)]
+    comparing = [f"{REPOSITORY}/{COMPARED[0]}", *COMPARED[1:], *named] if shutil.which("c++") else NO_COMPILER
+    lanes[1] += [("compare", comparing, REPOSITORY)]
     lanes[1] += [(name, [f"{REPOSITORY}/{name}"], REPOSITORY) for name in READERS]
+    packages = [(name, [f"{REPOSITORY}/{name}", *program], REPOSITORY) for name in PACKAGES]
+    lanes.append([*packages, (PLANTED[0], [f"{REPOSITORY}/{PLANTED[0]}", *PLANTED[1:], *program], REPOSITORY)])
     if chosen.crates:
         lanes.append([(name, ["rt", "try", "--test"], f"{REPOSITORY}/crates/{name}") for name in CRATES])
     with concurrent.futures.ThreadPoolExecutor() as pool:
-        counts = [*pool.map(lambda lane: [ended(*task) for task in lane], lanes)]
-    passed, failed = (sum(column) for column in zip(*(each for lane in counts for each in lane)))
-    print(f"{passed} passed, {failed} failed")
-    return 1 if failed else 0
+        scripts = [each for lane in pool.map(lambda lane: [ended(*task) for task in lane], lanes) for each in lane]
+    print("\n".join(last_lines(scripts)))
+    return 1 if any(script.failed for script in scripts) else 0
 
 
 if __name__ == "__main__":

@@ -16,7 +16,7 @@ import sys
 from subprocess import DEVNULL
 
 from library import runs, supervised
-from library.runs import REPOSITORY, LeftOut, contents
+from library.runs import REPOSITORY, LeftOut, contents, leave_out
 from library.supervised import SCRIPT_SECONDS
 from library.tour import take
 
@@ -55,7 +55,7 @@ def release(program, folder):
 def look_for_library(library, tally, way, root):
     """Checks the installed library for C: a program is built with it, as pkg-config says, and runs."""
     if library is None or not shutil.which("cc"):
-        print(f"{way}: left out: there is no library, or no cc", flush=True)
+        leave_out(way, "there is no library, or no cc")
         return
     for name, path in (("libaig.a", "lib/libaig.a"), ("libaig.so", "lib/libaig.so"), ("libaig.so", "lib/libaig.so.0")):
         tally.check(f"{way}: {path}", contents(f"{root}/{path}") == contents(f"{library}/{name}"), path)
@@ -74,10 +74,11 @@ def look_for_library(library, tally, way, root):
 
 
 def look_for_verdicts(program, tally, way, root):
-    """Checks the installed command `aig-verdicts`: it has all of its Python, runs the program beside it, and leaves
-    nothing behind. The tour has re-checked a bundle with it."""
+    """Checks the installed command `aig-verdicts`: it has all of its Python and the design of its demo, runs the program
+    beside it, and leaves nothing behind. The tour has re-checked a bundle with it."""
     package = f"{root}/share/aig/python/aig"
-    sources = {os.path.relpath(it, f"{PYTHON}/aig"): contents(it) for it in glob.glob(f"{PYTHON}/aig/**/*.py", recursive=True)}
+    sources = {os.path.relpath(it, f"{PYTHON}/aig"): contents(it) for kind in ("py", "v")
+               for it in glob.glob(f"{PYTHON}/aig/**/*.{kind}", recursive=True)}
     found = {os.path.relpath(it, package): contents(it) for it in glob.glob(f"{package}/**/*", recursive=True)
              if os.path.isfile(it)}
     tally.check(f"{way}: the Python of aig-verdicts", found == sources, sorted(found.keys() ^ sources.keys()))
@@ -97,10 +98,12 @@ def look(program, tally, way, root, functions="zsh/site-functions"):
         page = f"{share}/man/man{name[-1]}/{name}"
         found = contents(page) if os.path.exists(page) else gzip.decompress(contents(f"{page}.gz"))
         tally.check(f"{way}: the page {name}", found == text, page)
-    bash = f"{share}/bash-completion/completions/aig"
-    asked = supervised.run(["bash", "-c", 'source "$1" && complete -p aig', "bash", bash], capture_output=True,
-                           text=True, check=False)
-    tally.check(f"{way}: bash takes the completion", asked.returncode == 0 and asked.stdout.endswith(" aig\n"), asked)
+    for name in ("aig", "aig-verdicts"):
+        bash = f"{share}/bash-completion/completions/{name}"
+        asked = supervised.run(["bash", "-c", 'source "$1" && complete -p "$2"', "bash", bash, name], capture_output=True,
+                               text=True, check=False)
+        is_taken = asked.returncode == 0 and asked.stdout.endswith(f" {name}\n")
+        tally.check(f"{way}: bash takes the completion of {name}", is_taken, asked)
     zsh = contents(f"{share}/{functions}/_aig")
     tally.check(f"{way}: the completion for zsh", zsh == contents(f"{REPOSITORY}/completions/_aig"), zsh[:80])
     for name in DOCUMENTS:
@@ -150,7 +153,7 @@ def package(program, tally, _):
     names = ("Package", "Version", "Architecture", "Depends", "Recommends", "Suggests")
     fields = supervised.run(["dpkg-deb", "-f", f"made/{name}", *names], capture_output=True, text=True, check=True).stdout
     wanted = (f"Package: aig\nVersion: {version}\nArchitecture: amd64\nDepends: libc6 (>= {libc})\n"
-              "Recommends: python3 (>= 3.9)\nSuggests: yosys, cadical, berkeley-abc\n")
+              "Recommends: python3 (>= 3.9), yosys, cadical, iverilog\nSuggests: gtkwave\n")
     tally.compare("package: its fields", fields, wanted)
     supervised.run(["dpkg-deb", "-x", f"made/{name}", "root"], check=True)
     look(program, tally, "package", "root/usr", "zsh/vendor-completions")
@@ -169,6 +172,11 @@ def in_environment(program, name, given, tally):
                              timeout=runs.SECONDS, check=False)
     version = f"aig {pack.version_of(program.path)}".encode()
     tally.check(f"{name}: aig-verdicts", command.returncode == 0 and command.stdout.startswith(version), command)
+    os.mkdir(f"demo_{name}")
+    command = supervised.run([os.path.abspath(f"{name}/bin/aig-verdicts"), "demo"], env={"PATH": ""}, cwd=f"demo_{name}",
+                             stdin=DEVNULL, capture_output=True, timeout=runs.SECONDS, check=False)
+    tally.compare(f"{name}: the design of the demo", contents(f"demo_{name}/queue.v"), contents(f"{runs.EXAMPLES}/queue.v"))
+    tally.check(f"{name}: a demo without Yosys", command.returncode == 1 and b"no program yosys" in command.stderr, command)
     words = [f"{name}/bin/python", f"{REPOSITORY}/python/tests/run_package.py", "--installed"]
     settings = {setting: text for setting, text in os.environ.items() if setting != "AIG_PROGRAM"}
     for part in ("names", "verdicts", "bench"):

@@ -1,6 +1,6 @@
 #!/usr/bin/env python3
-"""The gate's own scripts: which planted bugs it tries again, and what it notes of its checks. Beside them, when a part of
-the tests has seen a wrong body. This proves nothing."""
+"""The gate's own scripts: which planted bugs it tries again, and what it notes of its checks. Beside them, when a part
+of the tests has seen a wrong body, and that a part which is left out loses no failure. This proves nothing."""
 
 import contextlib
 import io
@@ -10,14 +10,16 @@ import re
 import sys
 import time
 
+import all as every
 import wrong_bodies
 from library import runs, supervised
-from library.runs import REPOSITORY, write
+from library.runs import REPOSITORY, TESTS, write
 
 sys.path.insert(0, REPOSITORY + "/tools")
 import costs  # noqa: E402
 import gate  # noqa: E402
 import planted  # noqa: E402
+import planted_python  # noqa: E402
 
 # The files of a proved library, with what is changed in each, and whether crates above can cite that.
 LIBRARY = {
@@ -184,6 +186,107 @@ def wrong(program, tally, _):
             tally.check(f"wrong: a part that {name}", found.is_seen is is_seen, found)
 
 
+# A script of tests: its parts are left out at once, or after checks.
+LEAVES_OUT = f"""
+import sys
+sys.path.insert(0, {TESTS!r})
+from library import runs
+
+def passes(program, tally, _):
+    tally.check("a check that passes", True)
+
+def at_once(program, tally, _):
+    raise runs.LeftOut("there is no tool")
+
+def after_a_pass(program, tally, _):
+    tally.check("a check that passes", True)
+    raise runs.LeftOut("there is no other tool")
+
+def after_a_failure(program, tally, _):
+    tally.check("a check that fails", False)
+    raise runs.LeftOut("there is no third tool")
+
+def within(program, tally, _):
+    tally.check("a check that passes", True)
+    runs.leave_out("within: a piece", "there is no fourth tool")
+
+def nothing(program, tally, _):
+    pass
+
+parts = (passes, at_once, after_a_pass, after_a_failure, within, nothing)
+runs.main("leaves out", {{part.__name__: part for part in parts}})
+"""
+# Parts of it, the status, how many checks passed and failed, and the parts that are said to be left out.
+LEFT_OUT = (
+    ("passes", 0, 1, 0, []), ("at_once", 0, 0, 0, ["at_once"]), ("after_a_pass", 0, 1, 0, ["after_a_pass"]),
+    ("after_a_failure", 1, 0, 1, ["after_a_failure"]), ("within", 0, 1, 0, ["within: a piece"]),
+    ("passes after_a_failure", 1, 1, 1, ["after_a_failure"]), ("after_a_failure passes", 1, 1, 1, ["after_a_failure"]),
+    ("at_once passes after_a_pass", 0, 2, 0, ["at_once", "after_a_pass"]), ("nothing", 1, 0, 1, []),
+    ("at_once nothing", 1, 0, 1, ["at_once"]),
+)
+
+
+def left_out(program, tally, _):
+    """A part that is left out counts the checks that it made, and the last lines name it."""
+    write("leaves_out.py", LEAVES_OUT)
+    for parts, status, passed, failed, names in LEFT_OUT:
+        words = [word for part in parts.split() for word in ("--part", part)]
+        command = [sys.executable, "leaves_out.py", *words, program.path]
+        tally.compare(f"left out: {parts}: status", supervised.run(command, capture_output=True).returncode, status)
+        shown = io.StringIO()
+        with contextlib.redirect_stdout(shown):
+            found = every.ended("script", command, ".")
+        tally.compare(f"left out: {parts}: counts", (found.passed, found.failed), (passed, failed))
+        tally.compare(f"left out: {parts}: names", [line.split(": there is no ")[0] for line in found.left],
+                      [f"script: {name}" for name in names])
+        early = [name for name in names if name != "within: a piece"]
+        tally.compare(f"left out: {parts}: parts", re.findall(r"ended early: (\d+) \((.*)\)", shown.getvalue()),
+                      [(str(len(early)), ", ".join(early))] if early else [])
+    scripts = [every.Ended(2, 1, ["a: b: there is no c"]), every.Ended(3, 0, []), every.Ended(0, 0, ["d: e: none"])]
+    tally.compare("left out: the last lines", every.last_lines(scripts),
+                  ["left out: a: b: there is no c", "left out: d: e: none", "5 passed, 1 failed, 2 left out"])
+    with contextlib.redirect_stdout(io.StringIO()):
+        alone = every.ended("compare", every.NO_COMPILER, ".")
+    tally.compare("left out: a whole script", alone, every.Ended(0, 0, ["compare: compare: there is no c++"]))
+
+
+# Scripts that end in each way that a part ends with a planted bug of Python, and whether they have seen it.
+SHOWN = {
+    "passes": ("print('one: 2 passed, 0 failed')", False),
+    "fails": ("print('FAILED: one: 1, wanted 2'); sys.exit(1)", True),
+    "raises": ("print('one'); raise KeyError('one')", True),
+    "raises_in_turn": ("try:\n    raise KeyError('one')\nexcept KeyError:\n    raise ValueError('two')", True),
+    "is_no_python": ("one", None),
+    "misses": ("import one_that_is_missing", None),
+    "is_killed": ("import os; os.kill(os.getpid(), 9)", None),
+    "stops": ("print('STOPPED: one: it does not end'); sys.exit(3)", None),
+    "is_left_out": ("print('one: left out: there is no two')", None),
+}
+
+
+def planted_of_python(program, tally, _):
+    """When a planted bug of Python is seen; its edits, and the bugs that a commit chooses."""
+    copy = planted_python.Copy.__new__(planted_python.Copy)
+    copy.folder, copy.program = pathlib.Path.cwd(), program.path
+    os.makedirs(planted_python.SCRIPTS)
+    for name, (text, is_seen) in SHOWN.items():
+        write(f"{planted_python.SCRIPTS}/{name}", f"import sys\n{text}\n")
+        found = copy.shown(f"{name} one")
+        tally.check(f"planted: a part that {name}", found.has_failed is is_seen, found)
+    text = "file: a.py\n\none: It is 2.\nseen: b.py c\nold: = 1\nnew: = 2\nold: two = 2\nnew:\n\nthree: No.\nseen: d e"
+    write("a.bugs", text + "\nold: x: y\nnew:  z\n")
+    bugs = [*planted_python.bugs_of(pathlib.Path("a.bugs"))]
+    tally.compare("planted: bugs of a file", [tuple(bug) for bug in bugs], [
+        ("a.one", "It is 2.", "a.py", "b.py c", [("= 1", "= 2"), ("two = 2", "")]),
+        ("a.three", "No.", "a.py", "d e", [("x: y", " z")])])
+    tally.compare("planted: edits", [planted_python.changed(text, bugs[0]) for text in (
+        "two = 1\n", "one = 1\n", "one = 1\ntwo = 1\n", "one = 1\ntwo = 2\n", "")],
+        ["\n", None, None, "one = 2\n\n", None])
+    many = planted_python.all_bugs()
+    first, again, other = (planted_python.sampled(many, 40, commit) for commit in ("one", "one", "two"))
+    tally.check("planted: a sample", first == again != other and len({bug.name for bug in first}) == 40)
+
+
 # Processors and gigabytes, and how many crates are then proved side by side.
 LANES = ((2, 8, None), (2, 13, None), (2, 16, 2), (4, 16, 2), (4, 23, 3), (4, 24, 4), (8, 32, 5), (1, 64, 1))
 
@@ -244,8 +347,8 @@ def with_kit(part):
     return run
 
 
-PARTS = {"cited": cited, "sums": with_kit(sums), "again": with_kit(again), "wrong": wrong, "scripts": scripts,
-         "lanes": side_by_side, "report": report}
+PARTS = {"cited": cited, "sums": with_kit(sums), "again": with_kit(again), "wrong": wrong, "left_out": left_out,
+         "planted": planted_of_python, "scripts": scripts, "lanes": side_by_side, "report": report}
 
 if __name__ == "__main__":
     runs.main(__doc__, PARTS)

@@ -15,7 +15,7 @@ import subprocess
 import sys
 
 from library import runs, supervised
-from library.runs import EXAMPLES, REPOSITORY, TESTS, LeftOut, contents
+from library.runs import EXAMPLES, REPOSITORY, TESTS, LeftOut, contents, leave_out
 
 sys.path.insert(0, REPOSITORY + "/tools")
 import gate  # noqa: E402
@@ -92,7 +92,7 @@ def calls(program, tally, _):
     need("cc")
     for flags, times in (("-O2", 200), ("-g -fsanitize=address,undefined", 20), ("-g -fsanitize=thread", 20)):
         if not works(*flags.split()):
-            print(f"calls: left out: cc has no {flags}", flush=True)
+            leave_out(f"calls: {flags}", "cc has no such flag")
             continue
         built = ran("cc", *flags.split(), "-std=c99", *WARNINGS, f"-I{REPOSITORY}/include", f"{TESTS}/calls/calls.c",
                     f"{folder}/libaig.a", "-lpthread", "-o", "calls")
@@ -123,7 +123,7 @@ def examples(program, tally, _):
     folder = folder_of(program)
     for compiler, source, standard in (("cc", "verdict.c", "c99"), ("c++", "verdict.cpp", "c++11")):
         if not shutil.which(compiler):
-            print(f"examples: left out: there is no {compiler}", flush=True)
+            leave_out(f"examples: {source}", f"there is no {compiler}")
             continue
         for name, words in (("libaig.a", ()), ("libaig.so", (f"-Wl,-rpath,{os.getcwd()}",))):
             shutil.copy(f"{folder}/{name}", "libaig.so.0" if words else name)

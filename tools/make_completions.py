@@ -1,6 +1,6 @@
 #!/usr/bin/env python3
-"""Writes completions/aig.bash and completions/_aig from what the program's help says, and from the files beside them
-that end with .in. usage: tools/make_completions.py PROGRAM"""
+"""Writes completions/aig.bash, completions/_aig and completions/aig-verdicts.bash from what the help of the program and of
+aig-verdicts says, and from the files beside them that end with .in. usage: tools/make_completions.py PROGRAM"""
 
 import os
 import sys

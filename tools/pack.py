@@ -34,8 +34,8 @@ Architecture: amd64
 Maintainer: Vollirka maintainers <maintainers@users.noreply.vollirka.example>
 Installed-Size: {size}
 Depends: libc6 (>= {libc})
-Recommends: python3 (>= 3.9)
-Suggests: yosys, cadical, berkeley-abc
+Recommends: python3 (>= 3.9), yosys, cadical, iverilog
+Suggests: gtkwave
 Description: verified AIGER toolkit
  Converts, simulates, edits, unrolls and checks and-inverter graphs in the
  AIGER formats, and writes their runs as waves. It is for people who run

@@ -8,7 +8,9 @@ from pathlib import Path
 
 PYTHON = Path(__file__).resolve().parent.parent
 sys.path[:0] = [str(PYTHON.parent / "tests"), str(PYTHON / "src"), str(PYTHON / "tests")]
-from bundles import attacks, ends, hinted, judging, searches, tampering, zips  # noqa: E402
+from bundles import (  # noqa: E402
+    attacks, deciding, ends, folding, hinted, judging, lying, many, remaking, replaying, searches, tampering, zips,
+)
 from library import runs  # noqa: E402
 
 
@@ -21,14 +23,20 @@ def on_program(part):
     return checked
 
 
-PARTS = {part.__name__: on_program(part) for part in (
+PARTS = {part.__name__.rstrip("_"): on_program(part) for part in (
     tampering.bits, tampering.forgers, tampering.older, tampering.alive, tampering.harmless, tampering.files,
     tampering.texts,
     zips.zips, zips.hostile_zips, zips.script, zips.shipped,
-    searches.found, searches.tools, searches.abc, searches.words,
+    folding.folding,
+    searches.found, searches.tools, searches.abc, searches.words, searches.demo,
     hinted.form, hinted.hints, hinted.later, hinted.failures,
     attacks.folders_of_others, attacks.sizes, attacks.outputs,
     ends.stops, ends.folders, ends.yosys, ends.bounds, ends.executors, judging.judging,
+    many.many, many.taken_over, lying.lies,
+    deciding.right, deciding.harms, deciding.lines, deciding.ends_of_aig, deciding.again, deciding.commands,
+    deciding.names_of_files, deciding.folder_files, deciding.workers_, deciding.stopped, deciding.rechecked,
+    deciding.kinds,
+    remaking.remaking, replaying.replaying,
 )}
 
 if __name__ == "__main__":

@@ -1,11 +1,14 @@
 #!/usr/bin/env python3
 """Runs aig-verdicts on designs with known truth (designs/truth.py), and compares each row with it: the verdict, and the
-length of the shortest run. Each folder is checked again by `aig`, and each circuit made again by Yosys.
+length of the shortest run. No answer of ABC may be one about another circuit. Each folder is checked again by `aig`, and each circuit made again by Yosys.
 
-usage: run_designs.py [PROGRAM] [NAME ..]. It needs yosys, cadical and berkeley-abc."""
+Icarus Verilog plays each run that fails, and random ones, on the sources.
+
+usage: run_designs.py [PROGRAM] [NAME ..]. It needs yosys and cadical, and iverilog to play runs."""
 
 import json
 import os
+import shutil
 import subprocess
 import sys
 import tempfile
@@ -13,12 +16,16 @@ from concurrent.futures import ThreadPoolExecutor
 from pathlib import Path
 
 HERE = Path(__file__).resolve().parent
-sys.path[:0] = [str(HERE), str(HERE.parent.parent / "tests")]
+sys.path[:0] = [str(HERE), str(HERE.parent / "src"), str(HERE.parent.parent / "tests")]
+from aig.verdicts.search import WRONG_CERTIFICATE, WRONG_RUN  # noqa: E402
 from designs.truth import DESIGNS, FREE_CLOCK  # noqa: E402
 from library import supervised  # noqa: E402
 
 # How long one design may take: the slowest needs a tenth of it.
 SECONDS = 300
+IS_PLAYED = shutil.which("iverilog") is not None
+# How long a random run is.
+FRAMES = 30
 
 
 def called(*words):
@@ -37,15 +44,15 @@ def answers(table):
     found = {}
     for line in table.splitlines():
         _, _, _, name, word, *more = line.split()
-        found[name] = int(more[2]) if word in ("fails", "reached") else word
+        found[name] = int(more[2].rstrip(",")) if word in ("fails", "reached") else word
     return found
 
 
 def wrong_in(known, folder):
     """What is wrong of a design, line by line."""
-    words = [*(f"-D{it}" for it in known.defines), *(f"-I{it}" for it in known.search)]
+    words = [*(f"-D{it}" for it in known.defines), *(f"-I{it}" for it in known.search), *(f"--free={it}" for it in known.free)]
     words += ["--top", known.top] if known.top else []
-    status, table, said = called("run", *known.paths, *words, "--out", folder, "--quiet", "--jobs", "1")
+    status, table, said = called("run", *known.paths, *words, "--out", folder, "--quiet", "--jobs", "1", "--no-simulator")
     if status not in (0, 4, 5):
         return [f"status {status}: {said}"]
     got, wrong = answers(table), []
@@ -55,6 +62,8 @@ def wrong_in(known, folder):
     wrong += [f"{name}: {answer} of a row that nobody wants" for name, answer in got.items()]
     manifest = json.loads((folder / "MANIFEST.json").read_text())
     rows = [row for row in manifest["rows"] if row["kind"] in ("assert", "cover")]
+    wrong += [f"{row['name']}: {note}" for row in rows for note in row.get("notes", [])
+              if note.endswith((WRONG_RUN, WRONG_CERTIFICATE))]
     said = "\n".join(manifest["notes"])
     if len(rows) != len(known.answers) or len(table.splitlines()) != len(rows):
         wrong.append(f"{len(rows)} rows, wanted {len(known.answers)}")
@@ -70,9 +79,18 @@ def wrong_in(known, folder):
     return wrong
 
 
+def unlike_in(known, folder):
+    """What Icarus Verilog says otherwise of a design."""
+    status, out, said = called("replay", folder, "--random", FRAMES)
+    if status == known.simulated:
+        return []
+    return [f"replay has status {status}, wanted {known.simulated}: {line}" for line in f"{out}{said}".splitlines()]
+
+
 def check(known):
     with tempfile.TemporaryDirectory() as folder:
-        return known, wrong_in(known, Path(folder, "out"))
+        wrong = wrong_in(known, Path(folder, "out"))
+        return known, wrong or (unlike_in(known, Path(folder, "out")) if IS_PLAYED else [])
 
 
 def checked(names=()):
@@ -86,11 +104,13 @@ if __name__ == "__main__":
     words = sys.argv[1:]
     if words and os.path.isfile(words[0]):
         os.environ["AIG_PROGRAM"] = os.path.abspath(words.pop(0))
-    rows = failed = 0
+    rows = failed = designs = 0
     for known, wrong in checked(words):
-        rows += len(known.answers)
+        rows, designs = rows + len(known.answers), designs + 1
         failed += len(wrong)
         for line in wrong:
             print(f"FAILED: {known.name}: {line}", flush=True)
     print(f"designs: {rows - failed} rows passed, {failed} failed")
+    if not IS_PLAYED:
+        print(f"designs: left out: there is no iverilog to play the runs of {designs} designs")
     sys.exit(failed > 0)

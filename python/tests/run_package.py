@@ -5,7 +5,7 @@ The parts: the session of python/README.md line by line (`readme`, with cadical)
 that are odd or ambiguous, each kind of row, gates after all sections, models as each solver gives them, right and wrong
 proofs and certificates, edits and replies of a bench, 50,000 lines at once and a row that is longer than a pipe
 (`names`, `rows`, `arrays` with numpy, `files`, `verdicts`, `certificates`, `bench`); a circuit with 13 properties, of
-which each answer is about the one that was asked for (`many`, `asked`, `models`); a program that is killed after it
+which each answer is about the one that was asked for (`many`, `asked`, `zeros`, `models`); a program that is killed after it
 printed a verdict (`killed`); `aig.prove` and `aig.certify` with cadical: a bug, a bound, an induction, a right and a
 wrong certificate, and solvers that fail (`solvers`); the same without cadical (`small`); searches that a bound or
 another thread ends (`bounds`); verdicts beside the texts that they were (`texts`); two circuits side by side
@@ -55,6 +55,7 @@ def names(_, tally, __):
     counter, wraps = example("counter.aag"), example("wraps.aag")
     tally.compare("a negated name", counter.literal("!enable"), 3)
     tally.compare("a place", counter.find("o4").name, "wrap")
+    tally.check("an output by its name is no property", isinstance(raised(counter.cnf, 1, "wrap"), KeyError))
     for message, call, words in (("there is no signal 'nothing'", counter.literal, ("nothing",)),
                                  ("there is no bad 1", wraps.cnf, (3, 1)), ("there is no inputs 9", counter.find, (9,)),
                                  ("there is no signal ''", counter.literal, ("",))):
@@ -166,7 +167,8 @@ def verdicts(_, tally, __):
     tally.compare("a wrong step", raised(wraps.refute, 3, proof, step=b"").part, "step proof")
     model = Path(f"{EXAMPLES}/wraps.model").read_bytes()
     contradict = aig.Circuit("aag 1 1 0 0 0 0 2\n2\n2\n3\n")
-    tally.compare("constraints that contradict", contradict.refute_alive(1, b""), "no run of 1 frames")
+    tally.compare("constraints that contradict", [contradict.refute_alive(frames, b"") for frames in (1, 3)],
+                  ["no run of 1 frames", "no run of 3 frames"])
     tally.check("constraints that some run keeps", isinstance(raised(wraps.refute_alive, 2, b""), aig.AigError))
     tally.check("a formula of constraints", contradict.cnf_alive(2).size > 2)
     one = aig.Circuit("aag 1 1 0 0 0 0 1\n2\n2\n")
@@ -176,6 +178,7 @@ def verdicts(_, tally, __):
     tally.compare("checked", [one.check_alive(it, 2) for it in (run, "1\nb0\n\n1\n0\n.\n")],
                   ["alive", "constraint 1 0"])
     tally.compare("of all frames", one.check_alive("1\nb0\n\n1\n.\n"), "alive")
+    tally.compare("of the first frame", one.check_alive("1\nb0\n\n1\n0\n.\n", 1), "alive")
     formula = wraps.cnf(4)
     numbers = [int(word) for word in model.split() if word.lstrip(b"-").isdigit() and word != b"0"]
     truths = [None] + [number in numbers for number in range(1, formula.variables + 1)]
@@ -197,6 +200,7 @@ def certificates(_, tally, __):
     tally.compare("a wrong certificate", raised(wrong.refute, PROOF_OF_0).part, "proof")
     witness = wrong.cnf().witness("v -1 -2 -3 -4 -5 -6 -7 -8 0\n")
     tally.check("the claim that is wrong", bool(wrong.strengthened().check(witness)), witness.text)
+    tally.compare("a run of the strengthened circuit", witness.circuit.file, wrong.strengthened().file)
     tally.compare("no certificate", raised(stays.certified(b"").cnf).part, "certificate")
 
 
@@ -209,7 +213,8 @@ def types(_, tally, __):
 
 PARTS = {
     "readme": readme, "names": names, "rows": rows, "arrays": arrays, "files": files, "verdicts": verdicts,
-    "certificates": certificates, "many": answers.many, "asked": answers.asked, "models": answers.models,
+    "certificates": certificates, "many": answers.many, "asked": answers.asked, "zeros": answers.zeros,
+    "models": answers.models,
     "killed": answers.killed, "solvers": searches.solvers, "small": searches.small, "bounds": searches.bounds,
     "texts": searches.texts, "miters": miters.miters, "notebooks": notebooks.notebooks, "bench": bench.bench,
     "failures": failures.failures, "threads": failures.threads, "folders": failures.folders, "types": types,

@@ -1,9 +1,10 @@
 #!/usr/bin/env python3
-"""Icarus Verilog runs the designs of several clocks on all values of their inputs for so many frames, and this script
-compares the shortest run to each bad state with designs/truth.py. Neither Yosys nor `aig` is on the way.
+"""Icarus Verilog runs designs on all values of their inputs for so many frames, and this script compares the shortest run
+to each bad state with designs/truth.py. Neither Yosys nor `aig` is on the way.
 
 In a frame the clocks change first and the data after them, so an edge samples the data of the frame before. Edges to the
-first frame do not count: registers have their initial values there.
+first frame do not count: registers have their initial values there. A clock with ^ has a pulse before each frame but the
+first.
 
 usage: truth_of_clocks.py [NAME ..]"""
 
@@ -18,7 +19,7 @@ sys.path[:0] = [str(HERE), str(HERE.parent.parent / "tests")]
 from designs.truth import DESIGNS  # noqa: E402
 from library import supervised  # noqa: E402
 
-# The inputs that change first, those that change after them, the frames, and the registers at the start.
+# The inputs that change first, those that change after them (with their widths), the frames, and the registers at the start.
 RUNS = {
     "gated_clock": ("clk en", "", 7, "dut.q = 0; dut.p = 0;"),
     "closed_gate": ("clk en", "", 7, "dut.q = 0;"),
@@ -28,6 +29,16 @@ RUNS = {
     "both_edges": ("clk", "d", 8, "dut.up = 0; dut.down = 0; dut.again = 0;"),
     # the latch is open at the start if the clock is 0
     "gating_cell": ("clk enable", "", 7, "dut.gated = 0; dut.cut = 0; dut.ticked = 0; dut.high = 0; dut.open = clk ? 0 : enable;"),
+    "set_reset": ("^clk", "s r d", 6, "dut.a = 0; dut.b = 0; dut.v = 0; dut.begun = 0; dut.s_before = 0; dut.r_before = 0;"),
+    "reset_register": ("^clk", "ask d", 7, "dut.r.reset = 0; dut.r.n = 0; #1; dut.count = 5; dut.seen = 0;"),
+    "reset_levels": ("^clk", "rst_n load d", 6,
+                     "dut.n = 0; dut.same = 0; dut.begun = 0; dut.low_before = 1; dut.load_before = 0; dut.ok_counts = 1;"),
+    "loop_variables": ("^clk", "rst d:4", 3, "dut.s = 0; dut.t = 0;"),
+    "tasks": ("^clk", "push d:2", 4, "dut.first = 0; dut.second = 0; dut.count = 0; dut.overflow = 0;"),
+    "task_state": ("^clk", "go stop n:3", 4, "dut.left = 0; dut.busy = 0; dut.done = 0;"),
+    "loop_counts": ("^clk", "d:3", 5, "dut.mem[0] = 0; dut.mem[1] = 1; dut.mem[2] = 2; dut.last = 2;"),
+    "empty_item": ("", "a b c", 1, ""),
+    "selectors": ("", "a:2", 1, ""),
     "clocks": ("first_clk second_clk", "data", 5, "dut.first = 0; dut.second = 0;"),
 }
 CHECK = re.compile(r"(\w+): (assert|cover)( property)? \((.*)\);")
@@ -45,17 +56,22 @@ def simulated(text):
 
 def bench(name, names):
     first, then, frames, start = RUNS[name]
-    inputs = first.split() + then.split()
-    wide = len(inputs)
-    at = f"bits[frame * {wide} +: {wide}]"
-    ports = ", ".join(f".{it}({it})" for it in inputs)
-    clocks, data = "{" + ", ".join(reversed(first.split())) + "}", "{" + ", ".join(reversed(then.split())) + "}"
-    count = len(first.split())
-    change = f"now = {at}; {clocks} = now[{count - 1}:0]; #1;" + (f" {data} = now[{wide - 1}:{count}]; #1;" if then else "")
+    pulses = [it[1:] for it in first.split() if it.startswith("^")]
+    clocks, data = [[it for it in names.split() if not it.startswith("^")] for names in (first, then)]
+    widths = {it.partition(":")[0]: int(it.partition(":")[2] or 1) for it in (*clocks, *data)}
+    inputs = [f"[{width - 1}:0] {it}" for it, width in widths.items()] + pulses
+    wide, count = sum(widths.values()), len(clocks)
+    ports = ", ".join(f".{it}({it})" for it in (*widths, *pulses))
+    change = f"now = bits[frame * {wide} +: {wide}];"
+    for part, high, low in ((clocks, count - 1, 0), (data, wide - 1, count)):
+        if part:
+            change += f" {{{', '.join(it.partition(':')[0] for it in reversed(part))}}} = now[{high}:{low}]; #1;"
+    pulse = "".join(f" {it} = 1; #1; {it} = 0; #1;" for it in pulses)
+    off = "".join(f" {it} = 0;" for it in pulses)
     looks = "\n".join(f"          if (kept && !dut.ok_{it} && (best_{it} == 0 || frame + 1 < best_{it})) best_{it} = frame + 1;" for it in names)
     return f"""
 module bench;
-  reg {', '.join(inputs)};
+{chr(10).join(f'  reg {it};' for it in inputs)}
   reg [{wide - 1}:0] now;
   reg kept;
   reg [{wide * frames}:0] bits;
@@ -64,9 +80,9 @@ module bench;
   initial begin
     for (bits = 0; !bits[{wide * frames}]; bits = bits + 1) begin
       frame = 0; kept = 1;
-      {change} {start} #1;
+      {off} {change} {start} #1;
       for (frame = 0; frame < {frames}; frame = frame + 1) begin
-        if (frame > 0) begin {change} end
+        if (frame > 0) begin {pulse} {change} end
         kept = kept && dut.kept;
 {looks}
       end

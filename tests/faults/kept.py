@@ -12,7 +12,7 @@ import subprocess
 from faults.refusing import Refusing
 from library import supervised
 from library.circuits import write_all
-from library.runs import Ended, contents, input_or_output, write
+from library.runs import Ended, contents, input_or_output, leave_out, write
 
 DESIGN, ROWS = b"aag 3 2 0 1 1\n2\n4\n6\n6 2 4\n", b"11\n"
 NEW_DESIGN, NEW_ROWS = b"aag 3 2 0 1 1\n2\n4\n6\n6 3 4\n", b"11\n0x\n"
@@ -168,7 +168,7 @@ def removals(beneath, tally):
 def owners(beneath, tally):
     """Another's files, where the owner or the group cannot be kept. They get no permissions before they have both."""
     if os.geteuid() != 0:
-        print("kept: files of other owners are left out: only root can make them")
+        leave_out("kept: files of other owners", "only root can make them")
         return
     old = f"{USER}:{GROUP} 664"
     lost = f"{USER}:{os.getegid()} 604"

@@ -6,7 +6,7 @@ import os
 
 from faults.refusing import Refusing
 from library.circuits import write_all
-from library.runs import Ended, LeftOut, input_or_output, refused, write
+from library.runs import Ended, LeftOut, input_or_output, leave_out, refused, write
 
 ROWS = "11\n" * 3000
 MANY_FRAMES = "1\nb0\n\n" + "0\n1\n" * 5000 + ".\n"
@@ -154,5 +154,5 @@ def first_write_fails(program):
     try:
         return Refusing(program, "refuse_call")
     except LeftOut as reason:
-        print(f"writes: {reason}: runs whose first write fails are left out")
+        leave_out("writes: runs whose first write fails", reason)
         return None

@@ -18,7 +18,7 @@ import subprocess
 
 from library import supervised
 from library.plain_reader import Fault, Reader, delta, in_order, spelled, test_parts
-from library.runs import Ended, refused, write
+from library.runs import Ended, leave_out, refused, write
 
 BLOCK = 32768
 EDGES = (BLOCK - 1, BLOCK + 1)
@@ -286,7 +286,7 @@ def block_edges(program, tally, _):
     found = list(dict(files()).items())
     by_packets = has_packets()
     if not by_packets:
-        print("no pipes here that keep writes apart: bytes one at a time are left out")
+        leave_out("block edges: bytes one at a time", "there are no pipes that keep writes apart")
     one = functools.partial(tested, program)
     with concurrent.futures.ProcessPoolExecutor() as pool:
         answers = pool.map(one, range(len(found)), *zip(*found), itertools.repeat(by_packets), chunksize=20)
@@ -298,4 +298,4 @@ def block_edges(program, tally, _):
         try:
             tally.compare(f"block edges, {data!r} on a terminal", on_a_terminal(program, data), wanted_of(data)[0])
         except OSError:
-            print("no terminals here: left out")
+            leave_out("block edges: terminals", "there are none")

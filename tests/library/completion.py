@@ -1,8 +1,10 @@
-"""The completions for bash and zsh: the files completions/*.in, filled with what the program's help says."""
+"""The completions for bash and zsh: the files completions/*.in, filled with what the help of the program and of aig-verdicts
+says."""
 
 import re
 
 from library.helptext import commands, long_options
+from library.manual import arguments_of_verdicts
 from library.runs import REPOSITORY, contents
 
 
@@ -10,7 +12,8 @@ def shells(ask):
     """The texts of the completions by their names."""
     overview, each = commands(ask)
     return {"aig.bash": filled("aig.bash", bash_tables(overview, each)),
-            "_aig": filled("_aig", zsh_tables(overview, each))}
+            "_aig": filled("_aig", zsh_tables(overview, each)),
+            "aig-verdicts.bash": filled("aig-verdicts.bash", {"options": indented(verdicts_table(), 8)})}
 
 
 def filled(name, tables):
@@ -41,6 +44,13 @@ def bash_tables(overview, each):
               for name, one in each.items() for option, said in one.options.items() if value_of(option, said)]
     return {"commands": " ".join([*each, "help"]), "general": " ".join(long_options(overview)),
             "options": indented(lines, 8), "values": indented(values, 8)}
+
+
+def verdicts_table():
+    """The options of each command of aig-verdicts."""
+    for name, one in arguments_of_verdicts()[1].items():
+        options = sorted(word for action in one._actions for word in action.option_strings if word.startswith("--"))
+        yield f'[{name}]="{" ".join(options)}"'
 
 
 def zsh_tables(overview, each):

@@ -58,20 +58,26 @@ def formats_page(version):
                     + ".SH SEE ALSO\n\\fBaig\\fP(1)\n")
 
 
-def verdicts_page(version):
-    """aig-verdicts(1): the help of its commands."""
+def arguments_of_verdicts():
+    """The parser of aig-verdicts, those of its commands by name, and what its help says of statuses."""
     sys.path.insert(0, f"{REPOSITORY}/python/src")
     from aig.verdicts.arguments import STATUSES, parser
 
     top = parser()
-    each = next(it.choices for it in top._actions if it.choices)
+    return top, next(it.choices for it in top._actions if it.choices), STATUSES
+
+
+def verdicts_page(version):
+    """aig-verdicts(1): the help of its commands."""
+    top, each, statuses = arguments_of_verdicts()
     text = head("aig-verdicts", 1, version, "User Commands", "from Verilog to checked verdicts on its assertions")
-    text += (".SH SYNOPSIS\n.nf\naig-verdicts run [OPTION ..] FILE ..\naig-verdicts recheck [OPTION ..] BUNDLE\n.fi\n"
+    text += (".SH SYNOPSIS\n.nf\naig-verdicts run [OPTION ..] FILE ..\naig-verdicts demo\n"
+             "aig-verdicts recheck [OPTION ..] BUNDLE\naig-verdicts replay [OPTION ..] BUNDLE\n.fi\n"
              f".SH DESCRIPTION\n{filled(prose(top.description))}")
     for name, one in each.items():
         text += f".SH COMMAND: {name.upper()}\n{flowing(one.description.strip())}"
         text += entries({words_of(it): it.help for it in one._actions})
-    rows = STATUSES.split("\n", 1)[1]
+    rows = statuses.split("\n", 1)[1]
     text += f".SH EXIT STATUS\n{flowing(rows)}"
     text += (".SH EXAMPLES\nThe examples come with the program.\n" + code_block("aig-verdicts run queue.v --out queue\n")
              + code_block("aig-verdicts recheck queue\n"))

@@ -33,7 +33,7 @@ def make_witness(program, frames):
 def find_witness(program, abc, number):
     """Makes `run.wit` of `old.aig`, a run to this property that ABC finds; what the script says."""
     text = script("property=0\n").replace("property=0\n", f"property={number}\n", 1)
-    return shell(program, text.replace("berkeley-abc ", f"{abc} "))
+    return shell(program, text.replace("abc=berkeley-abc ", f"abc={abc} "))
 
 
 def solve_witness(program, number):

@@ -28,6 +28,8 @@ MOST_UNENDED = 3
 PART_SECONDS = 10 * SECONDS
 # The exit status of a script of which a part was stopped, and no check failed.
 STOPPED = 3
+# With this variable a script ends at its first check that fails.
+FIRST_FAILURE = "AIG_FIRST_FAILURE"
 
 
 class Ended(NamedTuple):
@@ -50,7 +52,12 @@ def input_or_output(part: str, out: bytes = b"") -> Ended:
 
 
 class LeftOut(Exception):
-    """Why a part cannot run here."""
+    """Why a part cannot run here, or cannot go on. What it checked before counts."""
+
+
+def leave_out(name: str, why: object) -> None:
+    """Says what is not checked here, and why. The last lines of all.py say it again."""
+    print(f"{name}: left out: {why}", flush=True)
 
 
 class Unended(Exception):
@@ -99,6 +106,8 @@ class Tally:
         self.failed += 1
         if self.failed <= self.MOST_TOLD:
             print(f"FAILED: {name}: {why}", flush=True)
+        if os.environ.get(FIRST_FAILURE):
+            sys.exit(1)
 
     def compare(self, name: str, got: object, wanted: object) -> None:
         self.check(name, got == wanted, f"{shortened(got)}, wanted {shortened(wanted)}")
@@ -177,6 +186,7 @@ def main(
     if not os.access(program.path, os.X_OK):
         sys.exit(f"there is no program {program.path}")
     failed = stopped = 0
+    left: List[str] = []
     for name in chosen.part or [name for name in parts if name not in outside]:
         tally, told, ends = Tally(), "", 0
         program.unended = 0
@@ -185,14 +195,18 @@ def main(
             try:
                 told = parts[name](program, tally, chosen) or ""
             except LeftOut as reason:
-                print(f"{name}: left out: {reason}", flush=True)
-                continue
+                leave_out(name, reason)
+                left.append(name)
             except (Unended, subprocess.TimeoutExpired) as reason:
                 print(f"STOPPED: {name}: {reason}", flush=True)
                 ends = 1
             finally:
                 os.chdir("/")
-        print(f"{name}: {told}{tally.passed} passed, {tally.failed + ends} failed", flush=True)
-        failed += tally.failed + (tally.passed + ends == 0)
+        has_counts = name not in left or tally.passed + tally.failed > 0
+        if has_counts:
+            print(f"{name}: {told}{tally.passed} passed, {tally.failed + ends} failed", flush=True)
+        failed += tally.failed + (has_counts and tally.passed + tally.failed + ends == 0)
         stopped += ends
+    if left:
+        print(f"parts that were left out, or ended early: {len(left)} ({', '.join(left)})", flush=True)
     sys.exit(1 if failed else STOPPED if stopped else 0)

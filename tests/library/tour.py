@@ -9,7 +9,7 @@ import subprocess
 import sys
 
 from library import supervised
-from library.runs import REPOSITORY, contents, write
+from library.runs import REPOSITORY, contents, leave_out, write
 from library.supervised import SCRIPT_SECONDS
 
 SOURCE = f"{REPOSITORY}/python/src"
@@ -30,9 +30,9 @@ def take(program, examples, tally, prints=False):
     verdicts_on_path(program)
     for command, shown in steps():
         if missing(command):
-            print(f"tour: left out, as there is no {missing(command)}: {command}", flush=True)
+            leave_out(f"tour: {command}", f"there is no {missing(command)}")
             continue
-        said = typed("tour", command)
+        said = as_shown(typed("tour", command))
         if prints:
             print(f"$ {command}\n{said}", end="", flush=True)
         tally.compare(f"tour: {command}", said, shown)
@@ -40,7 +40,13 @@ def take(program, examples, tally, prints=False):
     for made in [name for name in os.listdir("tour") if name.endswith(".verdicts")]:
         os.rename(f"tour/{made}", "elsewhere/bundle")
         again = typed("elsewhere", "aig-verdicts recheck bundle")
-        tally.check("tour: the folder that it made", again.endswith("; all checked by aig\n"), again)
+        tally.check("tour: the folder that it made", again.endswith("; all checked by aig; not compared with the sources\n"), again)
+
+
+def as_shown(said):
+    """What was printed, as a document shows it: nothing is said of programs that are missing, and the solver writes DRAT."""
+    said = re.sub(r"(?m)^aig-verdicts: there is no program .*\n|; not compared with a simulator", "", said)
+    return said.replace(".lrat", ".drat")
 
 
 def missing(command):

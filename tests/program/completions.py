@@ -13,7 +13,7 @@ from library import supervised
 from library.completion import long_name, value_of
 from library.helptext import commands, long_options
 from library.manual import asker
-from library.runs import REPOSITORY, LeftOut, write
+from library.runs import REPOSITORY, LeftOut, leave_out, write
 
 FOLDER = REPOSITORY + "/completions"
 SECONDS = 20
@@ -91,6 +91,19 @@ SPLIT = (
 # Where `=` does not split words, the answer replaces the whole word.
 WHOLE = ((["toaig", "--to=a"], ["--to=aag", "--to=aig"]), (["unroll", "--map=n"], ["--map=notes"]))
 
+# The same of aig-verdicts. Without an answer, bash completes files.
+OF_VERDICTS = (
+    ([""], ["--help", "--version", "demo", "recheck", "replay", "run"]),
+    (["rec"], ["recheck"]),
+    (["a"], []),
+    (["recheck", "--j"], ["--jobs", "--json", "--junit"]),
+    (["run", "a.aag", "--fr"], ["--frames", "--free"]),
+    (["run", "a"], []),
+    (["demo", "--"], ["--help"]),
+    (["other", "--"], []),
+    (["run", "--$(touch hacked)"], []),
+)
+
 # What is typed on a terminal, with a tab at its end, and the arguments that the command then gets.
 TYPED = (
     ("aig toai", ["toaig"]),
@@ -143,16 +156,18 @@ def completions(program, tally, _):
             tally.compare(f"completions: bash: {words}", replies(words, breaks), wanted)
         for words, wanted in of_help(asker(program.path)):
             tally.compare(f"completions: bash: {words}", replies(words, breaks), wanted)
+        for words, wanted in OF_VERDICTS:
+            found = replies(words, breaks, "aig-verdicts", "_aig_verdicts")
+            tally.compare(f"completions: bash: aig-verdicts {words}", found, wanted)
     tally.check("completions: bash: a command in a word", not os.path.exists("hacked"), "it ran")
     try:
         for end in pty.openpty():
             os.close(end)
     except OSError:
-        return "terminals left out, there are none: "
-    left_out = ""
+        raise LeftOut("there are no terminals") from None
     for name, (command, setup, in_turn) in SHELLS.items():
         if not shutil.which(name):
-            left_out += f"{name} left out, it is not here: "
+            leave_out(f"completions: {name}", "it is not here")
             continue
         with Shell(command, setup) as shell:
             for typed, wanted in TYPED:
@@ -161,7 +176,6 @@ def completions(program, tally, _):
             shell.talk(in_turn + "aig ready\n")
             for typed, wanted in IN_TURN:
                 tally.compare(f"completions: {name}: {typed!r}", shell.arguments(typed), wanted)
-    return left_out
 
 
 def of_help(ask):
@@ -175,12 +189,12 @@ def of_help(ask):
                 yield [name, long_name(option), ""], {"file": files, "number": []}.get(value, value.split(" "))
 
 
-def replies(words, breaks):
+def replies(words, breaks, name="aig", function="_aig"):
     """What bash's function answers to the words of a line, of which the last is completed."""
-    script = """source "$1"; COMP_WORDBREAKS=$2; shift 2
-COMP_WORDS=(aig "$@"); COMP_CWORD=$#; COMP_LINE="${COMP_WORDS[*]}"; COMP_POINT=${#COMP_LINE}
-_aig aig "${COMP_WORDS[-1]}" "${COMP_WORDS[-2]}"; ((${#COMPREPLY[@]})) && printf '%s\\n' "${COMPREPLY[@]}" """
-    done = supervised.run(["bash", "--norc", "-c", script, "bash", f"{FOLDER}/aig.bash", breaks, *words],
+    script = """source "$1"; COMP_WORDBREAKS=$2 name=$3 function=$4; shift 4
+COMP_WORDS=("$name" "$@"); COMP_CWORD=$#; COMP_LINE="${COMP_WORDS[*]}"; COMP_POINT=${#COMP_LINE}
+"$function" "$name" "${COMP_WORDS[-1]}" "${COMP_WORDS[-2]}"; ((${#COMPREPLY[@]})) && printf '%s\\n' "${COMPREPLY[@]}" """
+    done = supervised.run(["bash", "--norc", "-c", script, "bash", f"{FOLDER}/{name}.bash", breaks, name, function, *words],
                           stdin=subprocess.DEVNULL, capture_output=True, text=True, check=False)
     return sorted(set(done.stdout.splitlines())) if not done.stderr else done.stderr
 

@@ -8,7 +8,7 @@ import shutil
 import subprocess
 
 from library import supervised
-from library.runs import Ended, contents, input_or_output, write
+from library.runs import Ended, contents, input_or_output, leave_out, write
 
 DESIGN, NEW_DESIGN = b"aag 1 1 0 1 0\n2\n2\n", b"aag 1 1 0 1 0\n2\n3\n"
 ROWS, NEW_ROWS = b"1\n", b"1\n0\n"
@@ -117,7 +117,7 @@ def without_devices(program, tally):
     except FileNotFoundError:
         is_run = False
     if not is_run:
-        print("descriptors: runs without /dev are left out: the root of a run cannot be changed here")
+        leave_out("descriptors: runs without /dev", "the root of a run cannot be changed here")
         return
 
     def run(*words, **settings):

@@ -11,7 +11,7 @@ from faults.refusing import Refusing
 from library import supervised
 from library.circuits import TEXTS, write_all
 from library.roff import sections
-from library.runs import EXAMPLES, REPOSITORY, Ended, LeftOut, contents, write
+from library.runs import EXAMPLES, REPOSITORY, Ended, LeftOut, contents, leave_out, write
 from program.refute import NEVER_KEPT
 from program.rows import explains
 
@@ -71,8 +71,7 @@ def explain_option(program, tally, _):
     try:
         allocations(tally, Refusing(program, "refuse_allocation"))
     except LeftOut as reason:
-        return f"allocations left out, {reason}: "
-    return ""
+        leave_out("explain: allocations", reason)
 
 
 def places(program, tally):

@@ -13,7 +13,7 @@ import threading
 
 from library import supervised
 from library.circuits import write_all
-from library.runs import SECONDS, Ended, contents, input_or_output, refused, write
+from library.runs import SECONDS, Ended, contents, input_or_output, leave_out, refused, write
 
 CIRCUIT = b"aag 4 2 0 1 2\n2\n4\n8\n8 6 2\n6 2 4\no0 out\ni1 right\nc\nmade by hand"
 ROWS = b"11\n01\n"
@@ -178,7 +178,7 @@ def default_list(keeping):
         os.setxattr("listed", "system.posix_acl_default",
                     struct.pack("<I", 2) + b"".join(struct.pack("<HHi", *entry) for entry in entries))
     except OSError:
-        print("kept: a folder with an access control list is left out: there are none here")
+        leave_out("kept: a folder with an access control list", "there are none here")
         return
     write("listed/plain", b"")
     keeping.row("in a folder with an access control list", ("--circuit-out", "listed/file"), DONE, {})
@@ -273,7 +273,7 @@ def disks(keeping):
     except FileNotFoundError:
         other = None
     if other is None or other.returncode != 0:
-        print("kept: two disks with a file of the same number are left out: they cannot be mounted here")
+        leave_out("kept: two disks with a file of the same number", "they cannot be mounted here")
         return
     keeping.tally.compare("kept: a file with the number of standard output's file on another disk",
                           (ended.returncode, ended.stdout, ended.stderr), (0, NEW_CIRCUIT, b""))

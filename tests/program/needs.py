@@ -10,7 +10,7 @@ import subprocess
 from faults.refusing import Refusing
 from library import supervised
 from library.circuits import write_all
-from library.runs import EXAMPLES, REPOSITORY, Ended, LeftOut, contents, input_or_output, write
+from library.runs import EXAMPLES, REPOSITORY, Ended, LeftOut, contents, input_or_output, leave_out, write
 
 STACK = 320 * 1024
 GLIBC = (2, 34)
@@ -67,9 +67,11 @@ def needs(program, tally, _):
     try:
         interrupted(program, tally, Refusing(program, "refuse_call"))
     except LeftOut as reason:
-        return f"interrupted calls left out, {reason}: "
-    if program.is_named or not shutil.which("objdump"):
-        return "the C library left out, it is that of another build or objdump is not here: "
+        leave_out("needs: interrupted calls", reason)
+    if not shutil.which("objdump"):
+        raise LeftOut("there is no objdump for what it needs of the C library")
+    if program.is_named:
+        return "without the C library of a program that is named: "
     symbols = supervised.run(["objdump", "-T", program.path], capture_output=True, text=True, check=True).stdout
     wanted = {tuple(map(int, number.split("."))) for number in re.findall(r"GLIBC_([0-9.]+)", symbols)}
     tally.check("needs: the C library", max(wanted, default=()) == GLIBC, wanted)

@@ -8,20 +8,20 @@ import shutil
 from library import supervised
 from library.completion import shells
 from library.manual import asker, pages as manual_pages
-from library.runs import EXAMPLES, REPOSITORY, contents
+from library.runs import EXAMPLES, REPOSITORY, contents, leave_out
 
 
 def pages(program, tally, _):
     ask = asker(program.path)
-    left_out = ""
+    has_groff = shutil.which("groff")
+    if not has_groff:
+        leave_out("pages: how they look", "there is no groff")
     for name, text in manual_pages(ask).items():
         file = f"{REPOSITORY}/man/{name}"
         tally.compare(f"pages: man/{name} (tools/make_manual.py writes it)", contents(file).decode(), text)
         tally.check(f"pages: man/{name}: files that an installed copy does not have", "docs/" not in text)
-        if shutil.which("groff"):
+        if has_groff:
             is_shown(tally, name, file)
-        else:
-            left_out = "their looks left out, groff is not here: "
         if shutil.which("mandoc"):
             said = supervised.run(["mandoc", "-T", "lint", file], capture_output=True, text=True, check=False)
             tally.compare(f"pages: man/{name}: what mandoc says", said.stdout, "")
@@ -31,7 +31,6 @@ def pages(program, tally, _):
     examples = contents(f"{EXAMPLES}/README.md").decode()
     missing = [name for name in os.listdir(EXAMPLES) if name != "README.md" and name.split(".")[0] not in examples]
     tally.compare("pages: examples/README.md: files that it does not name", missing, [])
-    return left_out
 
 
 def is_shown(tally, name, file):

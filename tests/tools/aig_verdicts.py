@@ -1,5 +1,5 @@
 """`aig-verdicts` from Verilog to a bundle: each kind of row, names, warnings, hostile paths and sources, the same
-bytes from threads, processes and two workers of Dask, and the circuit that Yosys makes again."""
+bytes from threads and processes, and the circuit that Yosys makes again."""
 
 import json
 import os
@@ -10,7 +10,7 @@ from subprocess import DEVNULL
 
 from hints.programs import built
 from library import supervised
-from library.runs import REPOSITORY, LeftOut
+from library.runs import REPOSITORY, LeftOut, leave_out
 from library.supervised import SCRIPT_SECONDS
 from tools.external import Tools
 
@@ -55,7 +55,6 @@ def aig_verdicts(program, tally, _):
     hostile(tally)
     again(tally)
     same_bytes(tally)
-    return dask(program, tally)
 
 
 def run(path, *words, out="out"):
@@ -105,7 +104,7 @@ def hints(tally):
     try:
         words = ("--frames", "5", "--drat2lrat", built("drat2lrat"))
     except LeftOut as reason:
-        print(f"hints: left out: {reason}", flush=True)
+        leave_out("aig_verdicts: hints", reason)
         return
     roles = set()
     for name, source in (("every", EVERY), ("contradiction", HERE / "contradiction.verdicts/sources/contradiction.v"),
@@ -226,18 +225,20 @@ if __name__ == "__main__":
 """
 
 
-def dask(program, tally):
-    """Two workers of Dask, in processes of their own, write the same bytes; a large circuit is sent to them once. No
-    scheduler at an address is an error."""
+def dask(program, tally, _):
+    """`aig-verdicts --dask`: two workers of Dask, in processes of their own, write the same bytes as a thread; a large
+    circuit is sent to them once."""
+    Tools()
+    os.environ["AIG_PROGRAM"] = program.path
     has_dask = supervised.run([DASK, "-c", "import dask.distributed"], capture_output=True)
     if has_dask.returncode != 0:
         raise LeftOut(f"{DASK} has no dask.distributed: apt-get install python3-distributed, or set AIG_DASK_PYTHON")
+    run(EVERY, "--frames", "6", "-j", "1", out="alone")
     environment = {**os.environ, "PYTHONPATH": f"{REPOSITORY}/python/src", "AIG_PROGRAM": program.path}
     written("by_dask.py", _DASK)
     done = supervised.run([DASK, "by_dask.py", str(EVERY)], env=environment, stdin=DEVNULL,
                           capture_output=True, timeout=SCRIPT_SECONDS)
     tally.compare("dask: statuses", done.stdout.decode().splitlines()[-1:], ["status 5"])
     for out in ("dask", "dask_shared"):
-        tally.check(f"dask: {out}: the same bytes", Path(out).exists() and same_manifests("frames_1", out),
+        tally.check(f"dask: {out}: the same bytes", Path(out).exists() and same_manifests("alone", out),
                     done.stderr[-400:])
-    return None

@@ -74,7 +74,7 @@ def proved_designs(tally, tools):
     """Each design of PROVED_DESIGNS in turn as `bad.aig`, with its name and the number of its properties."""
     for file, properties in PROVED_DESIGNS.items():
         name = os.path.basename(file).removesuffix(".v")
-        is_made = tools.yosys(f"read_verilog -sv -formal {file}; prep -flatten -top {name}; memory_map; {LOGIC}; "
+        is_made = tools.yosys(f"read_verilog -sv -formal {file}; prep -flatten -top {name}; async2sync; memory_map; {LOGIC}; "
                               "write_aiger -symbols bad.aig")
         is_right = is_made and len(parts_of("bad.aig").bad) == properties
         tally.check(f"certificates: yosys {name}", is_right, tools.last_lines())
@@ -92,15 +92,15 @@ def ways(program, tally):
     compare("induction of the ring", PROVED, [("holds", "induction of 3")], ring, "--abc", "")
     compare("a certificate of the ring", PROVED, [("holds", "invariant")], ring, "--frames", "2")
     compare("neither", NEITHER, [("holds within 2", "")], ADDERS, "--top", "retimed", "--frames", "2", "--seconds", "1")
-    compare("a run", REACHED, [("fails", "run of 4")], wraps)
-    compare("a run that ABC finds", REACHED, [("fails", "run of 4")], wraps, "--frames", "2")
+    compare("a run", REACHED, [("fails", "run of 4, at cycle 3")], wraps)
+    compare("a run that ABC finds", REACHED, [("fails", "run of 4, at cycle 3")], wraps, "--frames", "2")
     compare("no circuit", 3, [], "missing.aig")
     compare("no property", 1, [], ring, "--only", "b1")
     free_starts(program, tally)
 
 
 def free_starts(program, tally):
-    """Small circuits of which ABC turns or adds latches, with a run of at least two frames or an invariant."""
+    """Small circuits whose latches start at 1 or at any value, with a run of at least two frames or an invariant."""
     cases = (
         ("a latch that starts at 1", "aag 2 1 1 0 0 1\n2\n4 4 1\n5\n", PROVED),
         ("latches that start at 1 and at 0", "aag 3 0 2 0 1 1\n2 4 1\n4 2\n6\n6 4 2\n", PROVED),

@@ -69,7 +69,7 @@ class Files:
     def of_yosys(self):
         """Each design in both formats, with each set of options."""
         for design in YOSYS_DESIGNS:
-            commands = f"read_verilog -formal {DESIGNS}/{design}.v; prep -flatten -top {design}; memory_map; {LOGIC}"
+            commands = f"read_verilog -formal {DESIGNS}/{design}.v; prep -flatten -top {design}; async2sync; memory_map; {LOGIC}"
             for place, options in enumerate(OPTIONS):
                 if "-miter" in options:
                     commands += f"; chformal -remove; opt_clean; write_blif {design}.blif"

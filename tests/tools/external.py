@@ -20,9 +20,9 @@ class Tools:
 
     def __init__(self):
         self.yosys_path = shutil.which("yosys")
-        self.abc_path = shutil.which("berkeley-abc") or shutil.which("abc") or shutil.which("yosys-abc")
+        self.abc_path = shutil.which("berkeley-abc") or shutil.which("yosys-abc") or shutil.which("abc")
         if not self.yosys_path or not self.abc_path:
-            sys.exit("yosys or berkeley-abc is missing: apt-get install yosys berkeley-abc")
+            sys.exit("yosys or ABC is missing: apt install yosys")
         self.said = ""
 
     def run(self, *words):
@@ -45,7 +45,7 @@ class Tools:
     def formal_text(self, design):
         """The text of a design of FORMAL, whose latches all start at a value; None where Yosys makes none."""
         name, *formal = design.split(" ")
-        is_made = self.yosys(f"read_verilog {' '.join(formal)} {DESIGNS}/{name}.v; prep -flatten -top {name}; "
+        is_made = self.yosys(f"read_verilog {' '.join(formal)} {DESIGNS}/{name}.v; prep -flatten -top {name}; async2sync; "
                              f"memory_map; {LOGIC}; setundef -init -zero; write_aiger -ascii {name}.aag")
         return parts_of(f"{name}.aag") if is_made else None
 
@@ -55,8 +55,8 @@ class Tools:
             write(name, spelled(flat(parts_of(file)), "aig"))
         if not parts_of(right).latches:
             return re.search(r"(?m)^Networks are equivalent", self.abc("cec -n left.aig right.aig")) is not None
-        said = self.abc("&r left.aig; &miter -s right.aig; &ps; &scorr; &put; pdr")
-        return "miter" in said and re.search(r"(?m)^Property proved", said) is not None
+        said = self.abc("&r left.aig; &miter -s right.aig; &ps; &scorr; &put; pdr -a")  # without -a newer ones do not count
+        return "miter" in said and re.search(r"All = (\d+)\. +Proved = \1\.", said) is not None
 
 
 def parts_of(file):

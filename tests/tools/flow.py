@@ -5,15 +5,17 @@ import os
 
 from hints.programs import built
 from library.runs import EXAMPLES, REPOSITORY, contents
-from library.tour import room, steps, typed, verdicts_on_path
+from library.tour import as_shown, room, steps, typed, verdicts_on_path
 from tools import viewer
+from tools.external import Tools
 
 FIRST = "aig-verdicts run examples/queue.v --out queue"
 
 
 def flow(program, tally, _):
-    viewer.needs(*viewer.TOOLS)
+    Tools()
     typed_page(program, tally)
+    viewer.needs(*viewer.TOOLS)
     in_gtkwave(tally)
 
 
@@ -22,7 +24,7 @@ def typed_page(program, tally):
     verdicts_on_path(program)
     os.symlink(built("drat2lrat"), "path/drat2lrat")
     for command, shown in (*steps("docs/FLOW.md"), *steps("examples/README.md")):
-        tally.compare(f"flow: {command}", typed("page", command), shown)
+        tally.compare(f"flow: {command}", as_shown(typed("page", command)), as_shown(shown))
         if command == FIRST:
             table = "".join(f"    {line}\n" for line in shown.splitlines() if line.startswith("b"))
             tally.check("flow: the table of README", table in contents(f"{REPOSITORY}/README.md").decode(), table)

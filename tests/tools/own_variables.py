@@ -28,7 +28,7 @@ def own_variables(program, tally, _):
             sys.exit(f"{tool} is missing: apt-get install {tool.removesuffix('5')}")
     tools = Tools()
     for name, design, held, reached in ASKED:
-        is_made = tools.yosys(f"read_verilog -sv -formal {design}; prep -flatten -top {name}; memory_map; {LOGIC}; "
+        is_made = tools.yosys(f"read_verilog -sv -formal {design}; prep -flatten -top {name}; async2sync; memory_map; {LOGIC}; "
                               "write_aiger design.aig")
         tally.check(f"own_variables: yosys {name}", is_made, tools.last_lines())
         formula = program.run("cnf", "--frames", FRAMES, "--property", held, "design.aig").out

@@ -44,7 +44,7 @@ def circuits(tally, tools):
             yield f"{design}, output {place}", 1
     for file in FREE:
         name = os.path.basename(file).removesuffix(".v")
-        is_made = tools.yosys(f"read_verilog -sv -formal {file}; prep -flatten -top {name}; memory_map; {LOGIC}; "
+        is_made = tools.yosys(f"read_verilog -sv -formal {file}; prep -flatten -top {name}; async2sync; memory_map; {LOGIC}; "
                               "write_aiger bad.aig")
         tally.check(f"proofs: yosys {name}", is_made, tools.last_lines())
         if is_made:

@@ -19,7 +19,7 @@ def traces(program, tally, _):
     tools = Tools()
     for file, frames in FAILING.items():
         top = os.path.basename(file).removesuffix(".v")
-        tools.yosys(f"read_verilog -sv -formal {file}; prep -flatten -top {top}; memory_map; write_smt2 -wires {top}.smt2; "
+        tools.yosys(f"read_verilog -sv -formal {file}; prep -flatten -top {top}; async2sync; memory_map; write_smt2 -wires {top}.smt2; "
                     "opt -full; techmap; opt -fast; dffunmap; aigmap; opt_clean; "
                     f"write_aiger -zinit -symbols -ywmap {top}.ywmap {top}.aig")
         tools.run("yosys-smtbmc", "-s", "z3", "-t", "20", "--dump-yw", "found.yw", f"{top}.smt2")

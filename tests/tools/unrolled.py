@@ -29,7 +29,7 @@ def unrolled(program, tally, _):
 
 def outputs(program, tally, tools, design):
     """The outputs, frame by frame."""
-    if not tools.yosys(f"read_verilog {DESIGNS}/{design}.v; prep -flatten -top {design}; memory_map; {LOGIC}; "
+    if not tools.yosys(f"read_verilog {DESIGNS}/{design}.v; prep -flatten -top {design}; async2sync; memory_map; {LOGIC}; "
                        f"setundef -init -zero; write_aiger {design}.aig"):
         tally.check(f"unrolled: yosys {design}", False, tools.last_lines())
         return

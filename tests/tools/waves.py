@@ -80,7 +80,7 @@ def vectors(program, tally):
     tools = Tools()
     for file, wanted in SHOWN.items():
         name = re.search(r"(\w+)\.v$", file)[1]
-        if not tools.yosys(f"read_verilog -sv -formal {file}; prep -flatten -top {name}; memory_map; {LOGIC}; "
+        if not tools.yosys(f"read_verilog -sv -formal {file}; prep -flatten -top {name}; async2sync; memory_map; {LOGIC}; "
                            f"write_aiger -ascii -symbols {name}.aag"):
             tally.check(f"waves: yosys {name}", False, tools.last_lines())
             continue

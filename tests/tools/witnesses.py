@@ -71,7 +71,7 @@ def uninitialised(program, tally, tools, counts, file, bad, unreached):
     """A design that keeps its uninitialised latches: the recipe with a SAT solver gives a confirmed witness of each bad
     state that a run reaches."""
     name = os.path.basename(file).removesuffix(".v")
-    if not tools.yosys(f"read_verilog -sv -formal {file}; prep -flatten -top {name}; memory_map; {LOGIC}; "
+    if not tools.yosys(f"read_verilog -sv -formal {file}; prep -flatten -top {name}; async2sync; memory_map; {LOGIC}; "
                        "write_aiger -symbols design.aig"):
         tally.check(f"witnesses: yosys {name}", False, tools.last_lines())
         return

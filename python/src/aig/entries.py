@@ -31,6 +31,11 @@ class Entry(NamedTuple):
         return f"{self.letter}{self.position}"
 
     @property
+    def words(self) -> List[str]:
+        """The names in the symbol."""
+        return [word for word in self.name.split(" ") if word]
+
+    @property
     def label(self) -> str:
         """The symbol, or the place if there is none."""
         return self.name or self.place
@@ -65,18 +70,22 @@ class Entries:
         self.all = list(entries)
         self._by_place = {entry.place: entry for entry in self.all}
         self._by_name: Dict[str, List[Entry]] = {}
+        self._by_word: Dict[str, List[Entry]] = {}
         for entry in self.all:
             if entry.name:
                 self._by_name.setdefault(entry.name, []).append(entry)
+            for word in entry.words:
+                self._by_word.setdefault(word, []).append(entry)
 
     def section(self, letter: str) -> List[Entry]:
         return [entry for entry in self.all if entry.letter == letter]
 
     def find(self, name: Signal, sections: str) -> Entry:
-        """The entry of this name among these sections, or the one at this place or position."""
+        """The entry of this symbol among these sections, or with this name in its symbol, or at this place or position."""
         if isinstance(name, int):
             return self._at(f"{sections[0]}{name}", f"there is no {SECTIONS[sections[0]]} {name}")
         found = [entry for entry in self._by_name.get(name, []) if entry.letter in sections]
+        found = found or [entry for entry in self._by_word.get(name, []) if entry.letter in sections]
         if len({entry.literal for entry in found}) > 1:
             raise KeyError(f"{name!r} names {' and '.join(entry.place for entry in found)}: use one of these")
         if found:

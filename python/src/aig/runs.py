@@ -48,14 +48,19 @@ class Trace:
         return "".join(row[entry.position] for row in rows)
 
     def vector(self, name: str) -> List[Value]:
-        """The numbers, one per frame, of the signals `NAME[0]`, `NAME[1]`, .. of one section; X where a bit is x.
-        `NAME[0]` is the least significant bit."""
+        """The numbers, one per frame, of the signals `NAME[n]`, `NAME[n+1]`, .. of one section; X where a bit is x.
+        `NAME[n]` is the least significant bit. A vector [0:7] of Verilog has its bits in the other order, and is rejected:
+        put its bits together yourself."""
+        pattern = re.compile(re.escape(name) + r"\[(0|[1-9][0-9]*)\]")
         for letter in "ilo":
-            pattern = re.compile(re.escape(name) + r"\[(0|[1-9][0-9]*)\]")
-            matched = ((pattern.fullmatch(entry.name), entry) for entry in self.entries.section(letter))
-            bits = {int(match[1]): entry.place for match, entry in matched if match}
-            if bits and sorted(bits) == list(range(len(bits))):
-                columns = [self[bits[number]] for number in reversed(range(len(bits)))]
+            matched = ((pattern.fullmatch(word), entry) for entry in self.entries.section(letter) for word in entry.words)
+            bits = {int(match[1]): entry.position for match, entry in matched if match}
+            rising = sorted(bits)
+            if bits and rising == list(range(rising[0], rising[0] + len(bits))):
+                places = [bits[number] for number in reversed(rising)]
+                if len(bits) > 1 and places == sorted(places):
+                    raise KeyError(f"{name!r} has falling indices: its bit {rising[-1]} may be the least significant one")
+                columns = [self[f"{letter}{place}"] for place in places]
                 return [number_of("".join(letters)) for letters in zip(*columns)]
         raise KeyError(f"there is no vector {name!r}")
 

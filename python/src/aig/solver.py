@@ -15,7 +15,7 @@ from .formula import Formula
 from .runs import Witness
 from .verdict import Verdict
 from .verdicts.decide import Bounds, Found, Programs, Task, decide
-from .verdicts.tools import Stop, run
+from .verdicts.tools import Stop, Stopped, run
 
 Solver = Union[str, Sequence[str]]
 CADICAL = ("cadical", "-q")
@@ -73,7 +73,10 @@ def prove(
     programs = Programs(_as_cadical(solver), abc and _found(abc))
 
     def found(position: int) -> Found:
-        return decide(Task.of(circuit.file, position, bounds=bounds, programs=programs), stop)
+        ended = decide(Task.of(circuit.file, position, bounds=bounds, programs=programs), stop)
+        if ended.stopped:
+            raise Stopped
+        return ended
 
     found_of_it = found(circuit.position(property))
     verdict = _verdict(circuit, found_of_it)

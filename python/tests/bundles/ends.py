@@ -4,6 +4,7 @@ from __future__ import annotations
 
 import json
 import os
+import shutil
 import signal
 import sys
 import time
@@ -18,7 +19,7 @@ from bundles.common import (
     COMMAND, FEW, HERE, SMALL_SOLVER, called, ended, judged, manifest_of, process_of, rows_of, same_manifests,
     started, tool,
 )
-from bundles.searches import run as run_of
+from bundles.searches import KNOWS, run as run_of
 from library.runs import SECONDS
 
 KNOWN = {"later": "unreachable within 4", "three": "unreachable", "two": "confirmed"}
@@ -69,8 +70,36 @@ def stops(program, tally, _):
         run(out=name)
         tally.compare(f"stops: {name}: the rest", {key: row["verdict"] for key, row in rows_of(name).items()}, KNOWN)
         tally.check(f"stops: {name}: the page, later", "nfinished" not in Path(name, "index.html").read_text())
+    in_the_middle(program, tally)
     killed(program, tally, slow)
     ignored(program, tally, slow)
+
+
+def in_the_middle(program, tally):
+    """A row whose search is stopped keeps what is known: the bound that its proofs show, or the run that ABC knows.
+    Rows that are open say that they were stopped."""
+    for name, count, abc_of, wanted, note in (
+            ("bound", 6, "", ["unreachable within 3", "undecided", "undecided"], "stopped"),
+            ("run", 3, tool("knows.sh", KNOWS.format(4)), ["confirmed"], "a shorter run was not ruled out")):
+        hangs, calls = Path(f"{name}_hangs").resolve(), Path(f"{name}_calls").resolve()
+        solver = tool(f"{name}_solver", f"""case $1 in --*) exec {SMALL_SOLVER} "$@";; esac; echo x >> {calls}
+            [ $(wc -l < {calls}) -lt {count} ] || {{ : > {hangs}; exec sleep 1000; }}; exec {SMALL_SOLVER} "$@" """)
+        only = ("--only", "two") if abc_of else ()
+        process = slow_run(program, solver, name, *only, "--abc", abc_of)
+        wait_for(process, hangs.exists)
+        process.send_signal(signal.SIGINT)
+        status, out, err = ended(process)
+        rows = [row for row in rows_of(name).values() if row["verdict"] != "left out"]
+        tally.compare(f"stops: in the middle: {name}", (status, [row["verdict"] for row in rows]), (130, wanted))
+        tally.check(f"stops: in the middle: {name}: notes", all(row["notes"] == [note] for row in rows), rows)
+        tally.compare(f"stops: in the middle: {name}: the terminal", err.splitlines()[-2],
+                      "aig-verdicts: stopped; the same command goes on")
+        tally.check(f"stops: in the middle: {name}: re-checked", judged(name) is not None)
+        run(out=name)
+        later = {key: row["verdict"] for key, row in rows_of(name).items()}
+        tally.compare(f"stops: in the middle: {name}: the rest", later, KNOWN)
+        tally.check(f"stops: in the middle: {name}: no stop, later",
+                    not any("stopped" in row.get("notes", []) for row in rows_of(name).values()))
 
 
 def killed(program, tally, slow):
@@ -210,7 +239,7 @@ def yosys(program, tally, _):
     wait_for(process, begun.exists)
     process.terminate()
     status, _, err = ended(process)
-    tally.compare("yosys: hangs", (status, err), (130, ""))
+    tally.compare("yosys: hangs", (status, err.splitlines()[-1:]), (130, ["aig-verdicts: stopped"]))
     os.environ["PATH"] = str(Path("nothing").resolve())
     try:
         status, _, err = called("run", source, "--out", "out")
@@ -223,7 +252,8 @@ def yosys(program, tally, _):
         status, _, err = called("run", source, "--out", "out")
     finally:
         os.environ["AIG_PROGRAM"] = usual
-    tally.check("yosys: no aig", status == 3 and "there is no program" in err, (status, err))
+    wanted = 3 if shutil.which("yosys") else 1  # without Yosys its absence is said first
+    tally.check("yosys: no aig", status == wanted and "there is no program" in err, (status, err))
 
 
 def bounds(_, tally, __):

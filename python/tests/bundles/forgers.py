@@ -31,6 +31,24 @@ def _alive_for_an_assertion(path, manifest):
     _drop_sums(manifest)
 
 
+def _left_out_with_files(path, manifest):
+    row(manifest, "two").update(verdict="left out", result="left out")
+
+
+def _left_out_that_holds(path, manifest):
+    it = row(manifest, "two")
+    it.update(verdict="left out", by="", frames=0, result="holds")
+    del it["files"]
+    _drop_sums(manifest)
+
+
+def _constraints_left_out(path, manifest):
+    it = manifest["rows"][0]
+    it.update(verdict="left out", by="", frames=0)
+    it.pop("files", None)
+    _drop_sums(manifest)
+
+
 def _drop_sums(manifest):
     used = {name for it in manifest["rows"] for name in it.get("files", {}).values()}
     for name in list(manifest["sums"]):
@@ -147,8 +165,73 @@ def _fewer_files(path, manifest):
     del row(manifest, "three")["files"]["step"]
 
 
+def _no_proof(path, manifest):
+    del manifest["sums"][row(manifest, "stops")["files"].pop("proof")]
+
+
 def _longer_run(path, manifest):
     row(manifest, "two")["frames"] = 4
+
+
+def _shorter_run(path, manifest):
+    two = row(manifest, "two")
+    two["frames"] = 2
+    del manifest["sums"][two["files"].pop("shorter")]
+
+
+def _no_frames(path, manifest):
+    row(manifest, "later").update(frames=0, verdict="unreachable within 0", result="holds within 0")
+
+
+def _frames_of_a_certificate(path, manifest):
+    row(manifest, "stops")["frames"] = 5
+
+
+def _unknown_way(path, manifest):
+    row(manifest, "three")["by"] = "belief"
+
+
+def _kind_of_constraints(path, manifest):
+    it = row(manifest, "later")
+    it.update(kind="constraints", name="", verdict="undecided", by="", frames=0)
+    for part in ("files", "result"):
+        del it[part]
+    _drop_sums(manifest)
+
+
+def _shorter_than_one(path, manifest):
+    row(manifest, "two")["frames"] = 1
+
+
+def _verdict_of_constraints(path, manifest):
+    manifest["rows"][0].update(verdict="no run of 4 frames", frames=0)
+
+
+def _bound_of_constraints(path, manifest):
+    _as_shown(manifest["rows"][0], path, manifest, "bound", "unreachable within 4", base="alive.base.drat")
+
+
+def _alive_of_a_property(path, manifest):
+    later = row(manifest, "later")
+    _as_shown(later, path, manifest, "alive", "no run of 4 frames", alive="3.drat")
+    later["result"] = "undecided"
+
+
+def _as_shown(it, path, manifest, by, verdict, **files):
+    """A row with the proof of a bound in the place of its own."""
+    for name in files.values():
+        shutil.copy(path / "3.base.drat", path / name)
+        manifest["sums"][name] = ""
+    it.update(by=by, verdict=verdict, frames=4, files=files)
+    _drop_sums(manifest)
+
+
+def _place_without_file(path, manifest):
+    row(manifest, "three")["file"] = ""
+
+
+def _place_turned(path, manifest):
+    row(manifest, "three")["first"] = 99
 
 
 def _negative(path, manifest):
@@ -246,6 +329,8 @@ FORGERS = {
     _drop: "each once and in order", _drop_constraints: "each once and in order",
     _constraints_twice: "each once and in order",
     _constraints_last: "each once and in order", _alive_for_an_assertion: "verdict of b3",
+    _left_out_with_files: "verdict of b9", _left_out_that_holds: "result of b9",
+    _constraints_left_out: "verdict of constraints",
     _holds_for_fails: "step proof: step",
     _fails_for_holds: "prints 'not bad'", _witness_of_another: "for another property",
     _holds_for_bound: "verdict of b3",
@@ -257,8 +342,13 @@ FORGERS = {
     _not_vacuous: "result of b0", _no_result: "result of b0", _twice: "a file belongs to two rows",
     _path: "file '../../etc/passwd'",
     _absolute_path: "file '/etc/passwd'", _file_of_another: "file '2.wit' of b9", _more_files: "files of b9",
+    _no_proof: "files of b6",
     _fewer_files: "files of b8", _longer_run: "another number of frames", _negative: "frames of b8",
     _true: "frames of a row",
+    _shorter_run: "another number of frames", _no_frames: "frames of b3", _frames_of_a_certificate: "frames of b6",
+    _unknown_way: "of an unknown kind", _kind_of_constraints: "kind of b3", _place_without_file: "place of b8",
+    _place_turned: "place of b8", _shorter_than_one: "files of b9", _verdict_of_constraints: "verdict of constraints",
+    _bound_of_constraints: "kind of constraints", _alive_of_a_property: "kind of b3",
     _float: "frames of a row", _text_for_number: "frames of a row", _null: "position of a row",
     _name_with_nul: "another kind or name",
     _file_with_nul: "file '9.wit\\x00'", _lone_surrogate: "another kind or name", _unknown_part: "an unknown part",

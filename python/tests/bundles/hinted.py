@@ -74,15 +74,19 @@ def on_the_path(tally, program):
 
 
 def by_the_solver(tally, program):
-    """A solver that writes hints itself: they stay, and nothing is asked to add them."""
-    body = (f'{SMALL_SOLVER} "$@" > said; status=$?; cat said; [ $status = 20 ] || exit $status; '
+    """A solver whose help has the option of cadical writes hints itself: they stay, and nothing is asked to add them.
+    One that is called kissat gets the options of kissat."""
+    body = (f'case "$*" in --help) echo "  --lrat=bool  use it"; exit;; --version|*" --lrat --no-binary "*) ;; '
+            f'*) exit 8;; esac; {SMALL_SOLVER} "$@" > said; status=$?; cat said; [ $status = 20 ] || exit $status; '
             f'while [ $# -gt 2 ]; do shift; done; {program} "$1" "$2" lrat && mv lrat "$2"; exit 20')
-    solver = tool("with_hints", body)
-    for name, words in (("alone", ()), ("asked", ("--drat2lrat", tool("unused", "exit 9")))):
-        status, _, _ = run(*words, solver=solver, out=f"solver_{name}")
+    for name, words in (("alone", ()), ("hints", ("--hints",)), ("asked", ("--drat2lrat", tool("unused", "exit 9")))):
+        status, _, _ = run(*words, solver=tool("with_hints", body), out=f"solver_{name}")
         path, title = f"solver_{name}", f"hints: a solver that writes them, {name}"
         tally.compare(title, (status, proofs_of(path), notes_of(path)), (5, {".lrat"}, []))
         tally.check(f"{title}: re-checked", judged(path) is not None)
+    body = f'case "$*" in --version|"-q --time=9 --conflicts=999 cnf proof") exec {SMALL_SOLVER} "$@";; esac; exit 8'
+    status, _, _ = run("--seconds", "9", "--conflicts", "999", solver=tool("kissat_of_tests", body), out="kissat")
+    tally.compare("hints: kissat", (status, proofs_of("kissat"), notes_of("kissat")), (5, {".drat"}, []))
 
 
 def later(_, tally, __):

@@ -3,8 +3,9 @@
 from __future__ import annotations
 
 import xml.etree.ElementTree as tree
+from dataclasses import replace
 
-from aig.verdicts.judge import exit_status, judge, summary
+from aig.verdicts.judge import DISAGREES, Judge, checked, exit_status, judge, open_notes, summary
 from aig.verdicts.row import Row
 from aig.verdicts.table import junit, plain, text
 
@@ -12,7 +13,7 @@ from aig.verdicts.table import junit, plain, text
 FOUND = {
     "run": ("confirmed", "run", 3), "proof": ("unreachable", "induction", 2),
     "invariant": ("unreachable", "certificate", 0),
-    "bound": ("unreachable within 4", "bound", 4), "open": ("undecided", "", 0),
+    "bound": ("unreachable within 4", "bound", 4), "open": ("undecided", "", 0), "left": ("left out", "", 0),
 }
 # For each kind and what was found: the words, and the status.
 ALONE = {
@@ -20,10 +21,11 @@ ALONE = {
     ("assert", "bound"): ("holds within 4", 4), ("assert", "open"): ("undecided", 4), ("cover", "run"): ("reached", 0),
     ("cover", "proof"): ("never reached", 5), ("cover", "invariant"): ("never reached", 5),
     ("cover", "bound"): ("not reached within 4", 4), ("cover", "open"): ("undecided", 4),
+    ("assert", "left"): ("left out", 4), ("cover", "left"): ("left out", 4),
 }
 # What an assertion that holds is, by what was found about its condition.
 GUARDED = {"run": ("holds", 0), "proof": ("vacuous", 4), "invariant": ("vacuous", 4), "bound": ("holds", 4),
-           "open": ("holds", 4)}
+           "open": ("holds", 4), "left": ("holds", 4)}
 
 
 def rows(kind, found, condition=None, alive="alive"):
@@ -46,15 +48,127 @@ def judging(_, tally, __):
         table = judge(rows(kind, found))
         tally.compare(f"judging: {kind}, {found}", (table[0].words, exit_status(table)), wanted)
         table = judge(rows(kind, found, alive="no run of 4 frames"))
-        vacuous = wanted if found in ("run", "open") else ("vacuous", 4)
+        vacuous = wanted if found in ("run", "open", "left") else ("vacuous", 4)
         tally.compare(f"judging: {kind}, {found}, contradiction", (table[0].words, exit_status(table)), vacuous)
     for found, wanted in GUARDED.items():
         table = judge(rows("assert", "proof", found))
         tally.compare(f"judging: under {found}", (table[0].words, exit_status(table)), wanted)
-        tally.compare(f"judging: doubt under {found}", bool(table[0].doubt), found in ("bound", "open"))
+        tally.compare(f"judging: doubt under {found}", bool(table[0].doubt), found in ("bound", "open", "left"))
     tally.compare("judging: a failure under an open condition", exit_status(judge(rows("assert", "run", "open"))), 5)
     tally.compare("judging: nothing", exit_status([]), 0)
+    notes(tally)
+    together(tally)
+    said_of_each(tally)
     texts(tally)
+
+
+def together(tally):
+    """Rows beside each other: the status of all, the order, whose condition is whose, and what a verdict waits for."""
+    for found, wanted in ((("proof", "run", "proof"), 5), (("run", "proof", "open"), 5),
+                          (("proof", "open", "proof"), 4), (("proof",) * 3, 0), (("proof",) * 60 + ("run",), 5),
+                          (("proof",) * 60 + ("bound",), 4)):
+        made = [_row(at, "assert", how) for at, how in enumerate(found)]
+        tally.compare(f"judging: together, {found[-3:]}", exit_status(judge(made)), wanted)
+    made = rows("assert", "proof", alive="no run of 9 frames")
+    made[0].frames = 9
+    it, = judge(made)
+    tally.compare("judging: why it is vacuous", (it.why, it.proof),
+                  ("no run keeps the assumptions for 9 frames", made[0]))
+    for found in ("proof", "bound"):
+        made = rows("assert", found, "invariant")
+        it, = judge(made)
+        tally.compare(f"judging: {found} under a dead condition", (it.words, it.why, it.proof, it.status),
+                      ("vacuous", "its condition is never true: nothing is asserted in any run", made[2], 4))
+    made = [_row(0, "assert", "proof"), _row(1, "condition", "proof"), _row(2, "assert", "proof"),
+            _row(3, "condition", "run"), _row(4, "cover", "run"), _row(5, "assert", "proof"),
+            _row(6, "condition", "open")]
+    for at in (1, 3, 6):
+        made[at].of = at - 1
+    wanted = [(0, "vacuous"), (2, "holds"), (4, "reached"), (5, "holds")]
+    for name, order in (("", made), (", turned", made[::-1])):
+        table = judge(order)
+        tally.compare(f"judging: conditions of their own{name}", [(it.row.position, it.words) for it in table], wanted)
+        tally.compare(f"judging: doubts of their own{name}", [bool(it.doubt) for it in table], [False] * 3 + [True])
+    tally.compare("judging: the sentence of these", summary(judge(made)),
+                  "3 assertions: 2 hold, 1 vacuous; 1 cover: 1 reached")
+    constraints = Row(-1, "constraints", "")
+    waits = Judge([constraints, *made]).waits_for(made[2])
+    tally.compare("judging: what a verdict waits for", waits, [made[2], constraints, made[3]])
+    for found, wanted in ((("run", "proof"), "all checked by aig"), (("run", "open"), "1 of 2 checked by aig"),
+                          (("open", "open"), "0 of 2 checked by aig"), (("open",) * 60, "0 of 60 checked by aig")):
+        table = judge([_row(at, "assert", how) for at, how in enumerate(found)])
+        tally.compare(f"judging: what is checked, {found[:2]}", checked(table), wanted)
+    tally.compare("judging: a vacuous row is checked", checked(judge(rows("assert", "proof", "proof"))),
+                  "all checked by aig")
+
+
+# Of what was found about an assertion, and about a cover: the element of JUnit, its message, and how it was found.
+JUNIT = {
+    ("assert", "run"): ("failure", "fails", "run of 3"), ("assert", "proof"): ("system-out", None, "induction of 2"),
+    ("assert", "invariant"): ("system-out", None, "invariant"), ("assert", "bound"): ("skipped", "holds within 4", ""),
+    ("assert", "open"): ("error", "undecided", ""), ("cover", "run"): ("system-out", None, "run of 3"),
+    ("cover", "proof"): ("failure", "never reached", "induction of 2"),
+    ("cover", "invariant"): ("failure", "never reached", "invariant"),
+    ("cover", "bound"): ("skipped", "not reached within 4", ""), ("cover", "open"): ("error", "undecided", ""),
+    ("assert", "left"): ("skipped", "left out", ""), ("cover", "left"): ("skipped", "left out", ""),
+}
+
+
+def said_of_each(tally):
+    """What JUnit and the table say of each kind of row, of a vacuous one, and of one in doubt."""
+    for (kind, found), (tag, message, way) in JUNIT.items():
+        table = judge([_row(0, kind, found)])
+        case, = tree.fromstring(junit("d", table, {0: 2.5})).iter("testcase")
+        tally.compare(f"judging: JUnit of {kind}, {found}", [(it.tag, it.get("message"), it.text) for it in case],
+                      [(tag, message, way or None)])
+        tally.compare(f"judging: its place, {kind}, {found}", {key: case.get(key) for key in ("file", "line", "time")},
+                      {"file": "file.v", "line": "2", "time": "2.5"})
+        words = [it for it in (ALONE[kind, found][0], way) if it]
+        tally.compare(f"judging: the table of {kind}, {found}", text(table).rstrip("\n").split("  "),
+                      ["b0", "file.v:2", kind, "name", *words])
+    vacuous, doubted = (judge(rows("assert", "proof", condition)) for condition in ("proof", "open"))
+    vacuous[0].row.notes[:], doubted[0].row.files["base"] = ["a note", "another"], "0.base.drat"
+    for name, table, tag, said in (
+            ("vacuous", vacuous, "failure", ["induction of 2", vacuous[0].why, "a note", "another"]),
+            ("doubt", doubted, "system-out", ["induction of 2", doubted[0].doubt, "0.base.drat"])):
+        case, = tree.fromstring(junit("d", table, {})).iter("testcase")
+        tally.compare(f"judging: JUnit of {name}", [(it.tag, it.text.split("\n")) for it in case], [(tag, said)])
+    tally.check("judging: the table of a doubt", f"  induction of 2; {doubted[0].doubt}  0.base.drat" in text(doubted))
+    denied(tally)
+    unfound = rows("assert", "bound", "proof")
+    unfound[1].by = ""
+    unfound[1].verdict = "unreachable"
+    tally.check("judging: the table of a vacuous one", f"  vacuous  {judge(unfound)[0].why}\n" in text(judge(unfound)))
+    for tag, found in (("failure", "run"), ("skipped", "bound"), ("error", "open")):
+        table = judge([_row(at, "assert", found) for at in range(60)])
+        suite = tree.fromstring(junit("d", table, {})).find("testsuite")
+        counts = {it: suite.get(f"{it}s" if it != "skipped" else it) for it in ("failure", "error", "skipped")}
+        tally.compare(f"judging: 60 of {found}", (suite.get("tests"), len(suite), counts),
+                      ("60", 60, {it: "60" if it == tag else "0" for it in counts}))
+        tally.compare(f"judging: a table of 60 of {found}", text(table).count("\n"), 60)
+
+
+def notes(tally):
+    """A note of several rows comes once with their names. Rows that are good have none to read."""
+    made = [Row(-1, "constraints", ""), *(_row(k, "assert", found) for k, found in enumerate(("open",) * 5 + ("proof",)))]
+    for k, row in enumerate(made[1:]):
+        row.name, row.notes = f"n{k}", ["late"] + ["other"] * (k > 2)
+    tally.compare("judging: notes", open_notes(judge(made)), ["n0, n1, n2 and 2 more: late", "n3, n4: other"])
+
+
+def denied(tally):
+    """A row that a simulator denies has no verdict, and one whose circuit it denies is in doubt."""
+    it, = judge([_row(0, "assert", "run")])
+    row_denied = replace(it, result=DISAGREES, simulated="it has another value")
+    circuit_denied = replace(judge([_row(0, "assert", "proof")])[0], denied="the circuit is another")
+    for name, found, words, tag, said in (
+            ("a row", row_denied, "disagrees", "error", ["run of 3", "it has another value"]),
+            ("a circuit", circuit_denied, "holds", "system-out", ["induction of 2", "the circuit is another"])):
+        tally.compare(f"judging: {name} is denied", (found.words, exit_status([found])), (words, 4))
+        case, = tree.fromstring(junit("d", [found], {})).iter("testcase")
+        tally.compare(f"judging: {name} is denied: JUnit", [(each.tag, each.text.split("\n")) for each in case],
+                      [(tag, said)])
+        tally.check(f"judging: {name} is denied: the table", f"  {words}  {'; '.join(said)}" in text([found]))
 
 
 def texts(tally):
@@ -62,17 +176,19 @@ def texts(tally):
     made = [Row(-1, "constraints", ""), *(_row(k, kind, found) for k, (kind, found) in enumerate(ALONE))]
     table = judge(made)
     tally.compare("judging: the sentence", summary(table),
-                  "5 assertions: 1 fail, 2 hold, 1 hold for the frames searched, 1 undecided; "
-                  "5 covers: 1 reached, 2 never reached, 1 not reached within the bound, 1 undecided")
+                  "6 assertions: 1 fail, 2 hold, 1 hold for the frames searched, 1 undecided, 1 left out; "
+                  "6 covers: 1 reached, 2 never reached, 1 not reached within the bound, 1 undecided, 1 left out")
+    tally.compare("judging: checked", [checked(table), checked(table[:4])],
+                  ["8 of 12 checked by aig", "all checked by aig"])
     suite = tree.fromstring(junit("d", table, {0: 1.5})).find("testsuite")
     tally.compare("judging: JUnit", [suite.get(it) for it in ("tests", "failures", "errors", "skipped")],
-                  ["10", "3", "2", "2"])
-    for name in ("\x1b[2J", "a\nb", "\r", "<a b='c'>&", "]]>", "\u202e", "\ud800", "\0", "\ufffe", "x" * 9999,
+                  ["12", "3", "2", "4"])
+    for name in ("\x1b[2J", "a\nb", "\r", "<a b='c'>&", 'a"b', "]]>", "\u202e", "\ud800", "\0", "\ufffe", "x" * 9999,
                  "\u6f22"):
         made[1].name = name
         said = text(judge(made))
         tally.check(f"judging: the table of {name[:9]!r}",
-                    said.count("\n") == 10 and all(it.isprintable() for it in said.split("\n")))
+                    said.count("\n") == 12 and all(it.isprintable() for it in said.split("\n")))
         case = tree.fromstring(junit(name, judge(made), {}).encode("utf-8", "replace")).find("testsuite/testcase")
         tally.check(f"judging: JUnit of {name[:9]!r}", case is not None and case.get("name"))
         tally.check(f"judging: plain {name[:9]!r}", plain(name).isprintable())

@@ -4,12 +4,15 @@ from __future__ import annotations
 
 import json
 import os
+import shutil
 import time
 import xml.etree.ElementTree as tree
 from pathlib import Path
 
-from bundles.common import FEW, HERE, SMALL_SOLVER, by_symbol, called, judged, manifest_of, rows_of, same_manifests, tool
-from library.runs import SECONDS
+from bundles.common import (
+    FEW, HERE, SMALL_SOLVER, by_symbol, called, judged, manifest_of, rows_of, same_manifests, tool, write_manifest,
+)
+from library.runs import EXAMPLES, SECONDS
 
 CIRCUIT = HERE / "every.verdicts" / "circuit.aig"
 # What is known of each property, by its symbol, which says its kind.
@@ -59,17 +62,24 @@ def found(_, tally, __):
     log.unlink()
     run("--seconds", "10", solver=tool("another", body))
     tally.check("found: but not with less", not log.exists())
+    manifest = manifest_of("out")
+    manifest["versions"]["search"] = "aig-verdicts: search 1"
+    write_manifest(Path("out"), manifest)
+    run(solver=tool("another", body))
+    tally.check("found: another search is made again", log.exists())
 
 
-def undecided(tally, name, solver, word, *more, seconds=None):
-    """Both rows are undecided with a note, and the folder re-checks."""
+def undecided(tally, name, solver, word, *more, seconds=None, verdict="undecided"):
+    """Both rows have this verdict with a note, standard error has the note alone, and the folder re-checks."""
     begin = time.monotonic()
     status, _, err = run(*more, "--only", "two", "--only", "three", solver=solver, out=f"of_{name}", frames=3,
                          circuit=FEW)
     rows = [it for it in manifest_of(f"of_{name}")["rows"] if it.get("name") in ("two", "three")]
-    tally.compare(f"tools: {name}: status", (status, err.splitlines()[:-1]), (4, []))
-    said = [it for it in rows if it["verdict"] != "undecided"]
-    tally.check(f"tools: {name}: no verdict", not said and len(rows) == 2, said)
+    tally.compare(f"tools: {name}: status", status, 4)
+    *notes, _ = err.splitlines()
+    tally.check(f"tools: {name}: the terminal", len(notes) == 1 and word in notes[0], err)
+    said = [it["verdict"] for it in rows]
+    tally.compare(f"tools: {name}: no verdict", said, [verdict] * 2)
     missing = [it for it in rows if word not in " ".join(it.get("notes", []))]
     tally.check(f"tools: {name}: a note", not missing, missing[:1])
     tally.check(f"tools: {name}: re-checked", judged(f"of_{name}") is not None)
@@ -82,8 +92,8 @@ PROOF = 'for last; do :; done; '
 
 def tools(_, tally, __):
     """A solver that is missing, is no program, crashes, ends with another status, hangs, goes on in the background,
-    floods its output or the disk, or lies: with no proof, an empty one, a wrong one, no model, a wrong model, both. No
-    row has a verdict, each has a note, and all that is started ends."""
+    floods its output or the disk, or lies: with no proof, an empty one, a wrong one, no model, a wrong model, both.
+    Each row has a note, and no verdict but the bound of one frame, which any proof shows. All that is started ends."""
     undecided(tally, "missing", "no-such-solver", "there is no program no-such-solver")
     Path("no_program").write_text("x")
     undecided(tally, "no_program", "./no_program", "there is no program")
@@ -91,11 +101,9 @@ def tools(_, tally, __):
     undecided(tally, "status", tool("status", "echo help me >&2; exit 3"), "help me")
     undecided(tally, "silent", tool("silent", "exit 0"), "no answer within its bounds")
     undecided(tally, "no_proof", tool("no_proof", "exit 20"), "status 20")
-    undecided(tally, "empty_proof", tool("empty_proof", f'{PROOF}: > "$last"; exit 20'), "AigError")
-    undecided(tally, "wrong_proof", tool("wrong_proof", f'{PROOF}printf "1 0\\n-1 0\\n0\\n" > "$last"; exit 20'),
-              "AigError")
-    undecided(tally, "noise", tool("noise", f'{PROOF}head -c 9999 /dev/urandom > "$last"; exit 20'), "AigError")
-    undecided(tally, "link", tool("link", f'{PROOF}ln -s /etc/passwd "$last"; exit 20'), "AigError")
+    for name, body in (("empty_proof", ': > "$last"'), ("wrong_proof", 'printf "1 0\\n-1 0\\n0\\n" > "$last"'),
+                       ("noise", 'head -c 9999 /dev/zero > "$last"'), ("link", 'ln -s /etc/passwd "$last"')):
+        undecided(tally, name, tool(name, f"{PROOF}{body}; exit 20"), "AigError", verdict="unreachable within 1")
     undecided(tally, "folder", tool("folder", f'{PROOF}mkdir "$last"; exit 20'), "status 20")
     undecided(tally, "no_model", tool("no_model", "exit 10"), "AigError")
     undecided(tally, "wrong_model", tool("wrong_model", 'echo "s SATISFIABLE"; echo "v 1 2 3 0"; exit 10'), "AigError")
@@ -135,22 +143,30 @@ def two_faces(tally):
     tally.compare("tools: two faces: the rest, later", verdicts, KNOWN)
 
 
-# An invariant that is none, the right one of `stops` (n is 2 at most and slow 9), a run that is none.
+# An invariant that is none.
 FALSE = 'printf ".i 1\\n.o 1\\n.ilb l0\\n.ob inv\\n- 1\\n.e\\n" > inv.pla; echo "Property proved"'
 
 
+# A claim of a run.
+RUN = 'echo "Output 0 of miter was asserted in frame {0}.";'
+
+
 def abc(_, tally, __):
-    """ABC is missing, crashes, hangs, claims a proof without an invariant, with a false or a strange one, or a run that
-    there is none of: what the solver finds stands, and nothing else is said."""
+    """ABC is missing, crashes, hangs, claims a proof without an invariant, with a false or a strange one, or claims a
+    run without one, with a wrong or a strange one: the row has what the solver finds."""
     for name, body, word in (
         ("crash", "kill -SEGV $$", "ended by signal 11"), ("status", "exit 7", "status 7"),
         ("claims", 'echo "Property proved"', "no answer"), ("false", FALSE, "a certificate that is wrong"),
         ("strange", FALSE.replace(".ilb l0", ".ilb l99999999999 lx failed"), ""),
         ("nothing", FALSE.replace("l0", ""), ""),
         ("noise", 'head -c 9999 /dev/urandom > inv.pla; echo "Property proved"', ""),
-        ("run", 'echo "was asserted in frame 2."', "there is a run of 3 frames"),
-        ("long", 'echo "was asserted in frame 99999."', "there is a run of 100000 frames"),
-        ("longer", 'echo "was asserted in frame 99999999999999."', ""), ("hang", "sleep 1000", "did not end"),
+        ("no_run", 'echo "was asserted in frame 2."', "no answer"),
+        ("run", f'{RUN.format(2)} echo i0@0=1 > run', "ABC's run of 3 frames is no run of the circuit"),
+        ("empty_run", f'{RUN.format(2)} : > run', "no run of the circuit"),
+        ("noisy_run", f'{RUN.format(2)} head -c 9999 /dev/urandom > run', "no run of the circuit"),
+        ("long", f'{RUN.format(65535)} : > run', "ABC's run of 65536 frames is no run of the circuit"),
+        ("longer", f'{RUN.format(65536)} : > run', "no answer"),
+        ("longest", f'{RUN.format(99999999999999)} : > run', "no answer"), ("hang", "sleep 1000", "did not end"),
     ):
         out = f"abc_{name}"
         status, _, _ = called("run", FEW, "--out", out, "--solver", SMALL_SOLVER, "--frames", "4", "--only", "later",
@@ -159,19 +175,49 @@ def abc(_, tally, __):
         tally.compare(f"abc: {name}", (status, later["verdict"]), (4, "unreachable within 4"))
         tally.check(f"abc: {name}: a note", word in " ".join(later.get("notes", [])), later)
         tally.check(f"abc: {name}: re-checked", judged(out) is not None)
-    status, _, _ = called("run", FEW, "--out", "abc_none", "--solver", SMALL_SOLVER, "--frames", "4", "--only", "later",
-                          "--abc", "no-such-abc")
-    tally.check("abc: missing", "no program no-such-abc" in " ".join(rows_of("abc_none")["later"]["notes"]))
-    long_run(tally)
+    missing(tally)
+    known_run(tally)
 
 
-def long_run(tally):
-    """ABC knows a run that is longer than --frames: the solver finds it, and it is a checked witness."""
-    status, _, _ = called("run", FEW, "--out", "abc_long_run", "--solver", SMALL_SOLVER, "--frames", "1", "--only",
-                          "two",
-                          "--abc", tool("knows.sh", 'echo "Output 0 of miter was asserted in frame 2."'))
-    two = rows_of("abc_long_run")["two"]
-    tally.compare("abc: a long run", (status, two["verdict"], two["frames"]), (5, "confirmed", 3))
+def missing(tally):
+    """Without ABC all else is found, also a failing assertion. One line says what is lost."""
+    status, out, err = called("run", FEW, "--out", "abc_none", "--solver", SMALL_SOLVER, "--frames", "4", "--abc",
+                              "no-such-abc")
+    said = [line for line in err.splitlines() if "no-such-abc" in line]
+    tally.compare("abc: missing", (status, [line.split()[3:5] for line in out.splitlines()], len(said)),
+                  (5, [["holds", "within"], ["holds", "induction"], ["fails", "run"]], 1))
+    tally.check("abc: missing: what is lost", "no invariants" in said[0] and "0 undecided" not in err, err)
+    tally.check("abc: missing: a note", "no program no-such-abc" in " ".join(rows_of("abc_none")["later"]["notes"]))
+    usual = os.environ["PATH"]
+    os.environ["PATH"] = os.path.abspath("nothing")
+    try:
+        for name in ("cadical", "berkeley-abc"):
+            words = ("--solver", name) if name == "cadical" else ("--solver", SMALL_SOLVER, "--abc", name)
+            _, _, err = called("run", FEW, "--out", "none", "--frames", "1", *words)
+            said = [line for line in err.splitlines() if f"no program {name}" in line]
+            tally.check(f"abc: no {name}", len(said) == 1 and "(apt install yosys cadical)" in said[0], err)
+    finally:
+        os.environ["PATH"] = usual
+
+
+# Of the property `two`: the counter `n` goes up where `a` is 1, and here stays at 2.
+INPUTS = "".join(f"i0@{frame}={int(frame < 2)}\\n" for frame in range(5))
+KNOWS = f"{RUN} printf '# COUNTEREXAMPLE\\nl0@0=0\\n{INPUTS}# DONE\\n' > run"
+
+
+def known_run(tally):
+    """ABC's run that is longer than --frames is an answer, with a solver or without. The solver makes it shorter if it
+    can."""
+    for name, frames, solver, wanted in (
+            ("shortest", 2, SMALL_SOLVER, (3, True)), ("longer", 4, SMALL_SOLVER, (3, True)),
+            ("without a solver", 2, "no-such-solver", (3, False))):
+        words = ("--abc", tool(f"knows_{frames}.sh", KNOWS.format(frames)), "--solver", solver)
+        out = name.replace(" ", "_")
+        status, _, _ = called("run", FEW, "--out", out, "--frames", "1", "--only", "two", *words)
+        two = rows_of(out)["two"]
+        tally.compare(f"abc: a known run: {name}", (status, two["verdict"], two["frames"], "shorter" in two["files"]),
+                      (5, "confirmed", *wanted))
+        tally.check(f"abc: a known run: {name}: re-checked", judged(out) is not None)
 
 
 def words(_, tally, __):
@@ -185,7 +231,8 @@ def words(_, tally, __):
         (("run", CIRCUIT, "--seconds", "0"), 2), (("run", CIRCUIT, "--seconds", "nan"), 2),
         (("run", CIRCUIT, "--jobs", "-1"), 2),
         (("run", CIRCUIT, "--frame", "3"), 2), (("run", CIRCUIT, "-q", "-v"), 2), (("run", CIRCUIT, "--unknown"), 2),
-        (("run", "absent.aig"), 3), (("run", CIRCUIT, CIRCUIT), 1), (("run", CIRCUIT, "--only", "four"), 1),
+        (("run", "absent.aig"), 3), (("absent.sv", "-q"), 3), (("absent.txt",), 2), (("run", CIRCUIT, CIRCUIT), 1),
+        (("run", CIRCUIT, "--only", "four"), 1), (("run", CIRCUIT, "--only", "thre"), 1),
         (("recheck",), 2), (("recheck", "absent"), 3), (("recheck", CIRCUIT), 1), (("recheck", "."), 1),
         (("--version",), 0),
         (("run", CIRCUIT, "--out", "absent.txt/x"), 3), (("--help",), 0), (("run", "--help"), 0),
@@ -205,12 +252,31 @@ def words(_, tally, __):
     options(tally)
 
 
+def demo(_, tally, __):
+    """`demo` writes the design of the examples, and runs it. Another queue.v stays as it is."""
+    usual, os.environ["PATH"] = os.environ["PATH"], str(Path("nothing").resolve())
+    design, path = Path(EXAMPLES, "queue.v").read_bytes(), Path("queue.v")
+    try:
+        for name, status, said, text in (
+            ("new", 1, "there is no program yosys", design), ("again", 1, "there is no program yosys", design),
+            ("another", 3, "another queue.v is here", b"mine"),
+        ):
+            if text != design:
+                path.write_bytes(text)
+            got, _, err = called("demo")
+            tally.check(f"demo: {name}", got == status and said in err, (got, err))
+            tally.check(f"demo: {name}: the design", path.read_bytes() == text, path.read_bytes())
+    finally:
+        os.environ["PATH"] = usual
+
+
 def options(tally):
     only = ("--only", "two", "--only", "back", "--only", "ne*r", "-j", "2")
     status, out, err = run(*only, "--junit", "j.xml", "--zip", "b.zip", "-v")
     tally.compare("words: --only", (status, sorted(line.split()[2] for line in out.splitlines())),
                   (5, ["back", "never", "two"]))
     tally.check("words: -v", sorted(line.split()[0] for line in err.splitlines()[:-1]) == ["b2", "b4", "b9"], err)
+    left_out(tally)
     suite = tree.parse("j.xml").getroot().find("testsuite")
     tally.compare("words: --junit", [suite.get(it) for it in ("tests", "failures", "errors", "skipped")],
                   ["3", "2", "0", "0"])
@@ -221,7 +287,14 @@ def options(tally):
     status, out, err = called("recheck", "out", "--junit", "k.xml", "--page", "page.html")
     tally.compare("words: recheck", (status, sorted(line.split()[1] for line in out.splitlines())),
                   (5, ["confirmed", "confirmed", "unreachable"]))
+    is_right = err.endswith("3 of 8 checked by aig\n") and "undecided" not in err
+    tally.check("words: recheck: what was checked", is_right, err)
+    suite = tree.parse("k.xml").getroot().find("testsuite")
+    tally.compare("words: recheck: --junit", [suite.get(it) for it in ("tests", "failures", "errors", "skipped")],
+                  ["8", "2", "0", "5"])
     tally.check("words: recheck writes", tree.parse("k.xml") is not None and Path("page.html").exists())
+    status, out, _ = run("--only", "stops", out="conditions")
+    tally.check("words: --only of an assertion with a condition", status == 0 and "not decided" not in out, (status, out))
     tally.compare("words: by position", run("--only", "b8", out="by_position")[1].split()[2], "three")
     os.environ["AIG_PROGRAM"], usual = os.path.abspath("no-such-aig"), os.environ["AIG_PROGRAM"]
     try:
@@ -230,3 +303,16 @@ def options(tally):
         tally.check("words: recheck without aig", status == 3 and "there is no program" in err, (status, err))
     finally:
         os.environ["AIG_PROGRAM"] = usual
+
+
+def left_out(tally):
+    """The rows that `--only` left out are left out of the page too. A run without `--only` finds them."""
+    left = {name for name, row in rows_of("out").items() if row["verdict"] == row["result"] == "left out"}
+    tally.compare("words: left out", left, {"a_nothing", "later", "same", "stops", "three"})
+    page = Path("out/index.html").read_text()
+    shown = [name for name in left if f">{name}<" in page]
+    tally.check("words: left out: the page", "5 left out" in page and not shown, shown)
+    shutil.copytree("out", "whole")
+    run(out="whole")
+    later = {name: row["verdict"] for name, row in by_symbol("whole").items()}
+    tally.compare("words: left out, then found", later, KNOWN)

@@ -99,6 +99,17 @@ def alive(_, tally, __):
                   ("alive", 4, {"witness": "alive.wit"}))
     _, said, err = called("recheck", path)
     tally.check("alive: it is said", said.startswith("constraints  alive\n") and "solver" not in err, (said, err))
+    ending = "aag 3 0 2 0 0 1 1\n2 1\n4 2\n0\n5\n"
+    for name, text, is_told in (("come to an end", ending, True),
+                                ("can be kept for ever", ending.replace("2 1", "2 0"), False)):
+        Path("ends.aag").write_text(text)
+        for words in (("run", "ends.aag", "--abc", "", "--solver", SMALL_SOLVER, "--frames", 2),
+                      ("recheck", "ends.verdicts")):
+            err = called(*words)[2]
+            tally.compare(f"alive: they {name}, {words[0]}", "kept for 2 frames; whether for more" in err, is_told)
+        page = Path("ends.verdicts/index.html").read_text()
+        tally.compare(f"alive: they {name}, on the page", ("for ever is not known" in page, "kept for ever" in page),
+                      (is_told, not is_told))
     witness = (path / "alive.wit").read_bytes()
     for text, frames, why in ((witness.replace(b"\n1", b"\nx", 3), 4, "prints 'constraint 0 0'"),
                               (witness, 5, "prints 'frames 4'"), (b"", 4, "aig check: witness: text")):
@@ -142,7 +153,7 @@ def files(_, tally, __):
     """Links, pipes, folders and devices in the place of a file, and a folder that is a link: all are rejected, and none
     is waited for. A hard link is a file like each other one."""
     def link(file):
-        os.symlink(file.with_name("other"), file)
+        os.symlink("other", file)
 
     def dangling(file):
         os.symlink("nothing", file)

@@ -11,7 +11,9 @@ import warnings
 import zipfile
 from pathlib import Path
 
+from aig.verdicts.bundle import Bundle
 from aig.verdicts.folder import pack
+from aig.verdicts.folder import script as script_of
 from bundles.common import called, judged, kept, manifest_of, tool, why_rejected
 from library import runs, supervised
 
@@ -138,6 +140,11 @@ def script(program, tally, _):
     for name in ("sh", "sed"):
         os.symlink(shutil.which(name), f"bin/{name}")
 
+    def made(name):
+        path = kept(name)
+        (path / "recheck.sh").write_bytes(script_of(Bundle(path).rows))
+        return path
+
     def ran(path, name=program.path):
         environment = {"PATH": os.path.abspath("bin"), "AIG": name}
         done = supervised.run(["/bin/sh", f"{path}/recheck.sh"], env=environment, stdin=subprocess.DEVNULL,
@@ -145,12 +152,12 @@ def script(program, tally, _):
         return done.returncode, done.stdout.decode(), done.stderr.decode()
 
     for name in ("every", "contradiction"):
-        path = kept(name)
+        path = made(name)
         status, out, err = ran(path)
         commands = [it for row in manifest_of(path)["rows"] for it in row["commands"]]
         wanted = [f"{it['prints']}: {' '.join(it['words'][1:])}" for it in commands]
         tally.compare(f"script: {name}", (status, out.splitlines(), err), (0, wanted, ""))
-    path = kept("every")
+    path = made("every")
     inside = supervised.run(["/bin/sh", "recheck.sh"], cwd=path, stdin=subprocess.DEVNULL, capture_output=True,
                             env={"PATH": os.path.abspath("bin"), "AIG": program.path})
     tally.compare("script: from its folder", inside.returncode, 0)
@@ -158,11 +165,11 @@ def script(program, tally, _):
     tally.compare("script: a program that lies", ran(path, tool("liar", "echo confirmed"))[0], 1)
     for name, change in {
         "another witness": lambda: shutil.copy(path / "9.wit", path / "2.wit"),
-        "a longer witness": lambda: (path / "9.wit").write_text((path / "9.wit").read_text().replace(".\n", "xx\n.\n")),
+        "a longer witness": lambda: (path / "9.wit").write_text("1\nb9\n000000\n1x\n1x\n0x\nxx\n.\n"),
         "an empty proof": lambda: (path / "8.step.drat").write_bytes(b"0\n"),
         "no certificate": lambda: (path / "6.cert.aag").unlink(),
     }.items():
-        path = kept("every")
+        path = made("every")
         change()
         status, _, err = ran(path)
         tally.check(f"script: {name}", status == 1 and "WRONG: " in err, (status, err))

@@ -6,6 +6,7 @@ assumptions no run of 20 frames keeps. `by` says who found it:
 
 abc       ABC's bmc3 and pdr on gates that no pass of Yosys optimised, where each x is an input (truth_of_designs.py)
 iverilog  Icarus Verilog ran all inputs of so many frames (truth_of_clocks.py)
+smtbmc    yosys-smtbmc with z3: each run, and that no run of one frame less is there
 hand      it follows from the text of the design: a note says how"""
 
 from dataclasses import dataclass
@@ -23,6 +24,8 @@ class Known:
 
     one_clock  whether a frame is a cycle of the one clock
     notes      texts that a note of the design has
+    free       modules to leave out
+    simulated  the status of `aig-verdicts replay`: 5 where a simulator has another meaning
     """
 
     files: Sequence[str]
@@ -33,6 +36,8 @@ class Known:
     defines: Sequence[str] = ()
     include: Sequence[str] = ()
     notes: Sequence[str] = ()
+    simulated: int = 0
+    free: Sequence[str] = ()
 
     @property
     def name(self) -> str:
@@ -53,11 +58,21 @@ class Known:
         return {name: int(answer) if answer.isdigit() else answer for name, answer in pairs}
 
 
+# Each assertion of labels.v fails where n is the number of its instance, and n is T - 1 in frame T. `at` sees it a frame later.
+_COLUMNS = [(side, i, j) for side in ("left", "right") for i in range(3) for j in range(2)]
+_LABELS = {
+    **{f"{side}.row[{i}].column[{j}].at": 3 * j + i + 2 for side, i, j in _COLUMNS},
+    **{f"{side}.row[{i}].column[{j}].early": 4 * j + i + 1 for side, i, j in _COLUMNS},
+    **{f"{side}.row[{i}].column[{j}].late": 9 if i + j == 2 else "holds" for side, i, j in _COLUMNS},
+    **{f"{side}.row[{i}].column[{j}].first.whole": 6 - i for side, i, j in _COLUMNS if j == (side == "right")},
+}
+
 FREE_CLOCK = "a frame is the time between changes of clocks"
 DESIGNS = [
     # x, and values that Verilog leaves open
     Known(["unknown_case.v"], "low=1 high=1 chosen=holds other=1 itself=holds stays=2 is_1=1"),
-    Known(["unknown_item.v"], "never_both=holds first=holds second=holds unique_first=holds not_second=1 known=holds unknown=1 wild=1"),
+    Known(["unknown_item.v"], "never_both=holds first=holds second=holds unique_first=holds not_second=1 known=holds unknown=1 wild=1",
+          simulated=5),  # what a full case leaves out keeps its value in a simulation
     Known(["unknown_registers.v"], """same=1 same_later=holds ones=1 ones_later=holds high=1 high_later=holds halves=1 off=1 zero=holds
                                       words=1 constant=holds"""),
     Known(["unknown_memory.v"], """out=1 wraps=1 written=holds not_written=1 in_rom=holds x_in_rom=1 nothing_in_rom=1 bit_in=holds
@@ -81,12 +96,24 @@ DESIGNS = [
     Known(["async_fifo.v"], "bound=holds empty_is=holds overflow=6 fills=4 late=9", one_clock=False, notes=[FREE_CLOCK]),
     Known(["async_reset.v"], "cleared=holds not_3=4 was_set=holds one=2 after=holds after_0=holds",
           notes=["async_reset.v:6, async_reset.v:7: asynchronous resets and latches follow their inputs once a frame"]),
+    Known(["reset_block.v"], "in_reset=1 in_reset_1=holds not_3=5 go_a=2 not_in_reset=holds not_3_outside=5 go_a_outside=2", by="hand",
+          notes=["asynchronous resets and latches follow their inputs once a frame"]),
+    Known(["reset_follows.v"], "inside=2 outside=2", by="iverilog, hand"),
+    # simulations keep the old value where a set or reset ends while the other is on
+    Known(["set_reset.v"], "set_first=holds reset_first=holds never_both=2 alike=2 set_v=holds reset_v=holds kept_2=4 kept_3=3", by="iverilog", simulated=5,
+          notes=["set_reset.v:6: a has an asynchronous set and reset", "set_reset.v:9: v has an asynchronous set and reset"]),
+    Known(["reset_register.v"], "cleared=holds starts=1 not_7=3 unseen=holds sees=5", by="iverilog", top="reset_register"),
+    Known(["reset_levels.v"], "counts=3 is_3=holds is_2=holds keeps=2 cleared=holds", by="iverilog", simulated=5,
+          notes=["reset_levels.v:8: n has an asynchronous set and reset"]),
     Known(["latches.v"], "open=holds closed=holds not_2=1 sampled=holds three=3", notes=["latches.v:4: asynchronous resets and latches"]),
     # rows, conditions, assumptions, sources
     Known(["same_twice.v"], """u0.on=2 u1.on=2 u0.on_again=2 u1.on_again=2 u0.excluded=holds u1.excluded=holds equal=holds
                                equal_again=holds never=1 always_1=holds always_2=holds seen=2 seen_again=2 unseen=never"""),
     Known(["instances.v"], """five.below=5 g[0].of.below=holds g[1].of.below=5 three.below=holds five:instances.v:7=6
                               g[0].of:instances.v:7=holds g[1].of:instances.v:7=6 three:instances.v:7=holds"""),
+    Known(["labels.v"], " ".join(f"{name}={answer}" for name, answer in _LABELS.items()), by="hand", top="labels"),
+    Known(["loop_labels.v"], "twice[0][0]=1 twice[0][1]=3 twice[1][0]=2 twice[1][1]=4 seven[0]=8 twelve[1]=never down.inside[2]=3 down.inside[3]=4",
+          by="hand"),
     Known(["nested.v"], "m.l.inside=1 k.l.inside=1"),
     Known(["many.v"], " ".join(f"many.v:9#{k}={2 if k % 10 == 9 else 'holds'}" for k in range(60))),
     Known(["conditions.v"], "nothing=vacuous something=3 whole=holds seen=never seen_1=2 at_clock=vacuous",
@@ -95,10 +122,28 @@ DESIGNS = [
     # n is 2 in the third frame, and there the assumptions contradict each other
     Known(["contradiction.v"], "reached=2 empty=vacuous", by="abc for reached, hand for empty"),
     Known(["past.v"], "early=2 moves=holds unguarded=2 twice=3 twice_later=holds stable=3 rise=3"),
+    Known(["ranges.v"], "both_ends=2 same=holds bit_6=holds copied=2 shifted=4 first=3", top="ranges"),
+    Known(["unsigned_address.v"], "all_same=holds of_2=holds stays=2 minus=2 other_word=2 shift=holds only_1=2 in_range=2"),
     Known(["missing_bit.v"], "gone=holds below=holds not_11=4 odd=holds all=4"),
+    Known(["loop_variables.v"], "few=holds odd=holds not_4=2 later=3 even=2", by="iverilog"),
+    Known(["tasks.v"], "ordered=holds same=holds sums=holds at_most_2=holds no_overflow=4 equal=2 not_9=3", by="iverilog"),
+    Known(["task_state.sv"], "works=holds ends=holds one_step=3 seven=2 rest=3", by="iverilog"),
+    Known(["loop_counts.v"], "shifted=holds first=4 any=2 not_1=3 below=holds start=1", by="iverilog"),
+    Known(["empty_item.v"], "nothing=holds second=holds third=holds always_1=1 keeps=holds z_0=holds z_1=1", by="iverilog"),
+    Known(["selectors.v"], "one=holds two=holds three=holds four=holds not_two=1 bits=holds off=1", by="iverilog"),
+    # each output of a module without a body is any value
+    Known(["box.v"], "decimal=holds slow=4 top_bit=1 phase_0=1 unseen=2 itself=holds", by="hand",
+          notes=["box.v:10: the outputs of module pll, which has no body, are free values", "box.v:11: the outputs of module ram, which has no body"]),
+    Known(["left_box.v"], "small=1 counts=5 same=holds", by="hand", free=["multiplier"], top="left_box",
+          notes=["left_box.v:9: the outputs of module multiplier, which is left out", "left_box.v:7: trace is a memory that nothing reads"]),
     Known(["deep_bug.v"], "far=30 locked=25 bound=holds"),
     Known(["included/left/part.v", "included/right/part.v"], "inner.one=holds inner.words=holds inner.not_33=1 two=holds wide=2 limit=2",
           top="right", defines=["LIMIT=8'h7f"], include=["included/common"]),
+    # registers without an initial value: more frames than the solver looks at, or no induction
+    Known(["unwritten_limit.v"], "kept=holds not_45=46 at_limit=51 above=never", by="abc, smtbmc"),
+    Known(["twins.v"], "same=holds not_all=1 turned=2 apart=never", by="abc, smtbmc"),
+    Known(["free_mode.v"], "short=42", by="abc, smtbmc"),
+    Known(["even_after_reset.v"], "even=holds top=48", by="abc, smtbmc"),
     Known(["lamps.sv"], "safe=holds known=holds any_start=1 both_red=holds cars=4"),
     # what a team has in its code
     Known(["uart.v"], "idle=holds right=holds wrong=13 received=12"),

@@ -84,13 +84,27 @@ def asked(_, tally, __):
     for name, wave in (("rows", chain.wave(ROWS)), ("a witness", chain.witness(ROWS, 12).wave())):
         tally.compare(f"the dump of {name}", Dump(wave).of("inputs"), ROWS)
     tally.compare("unrolled for 12 frames", chain.unroll(12).info()["inputs"], 156)
-    odd = aig.Circuit("aag 5 5 0 0 0\n2\n4\n6\n8\n10\ni0 a.b[0]\ni1 axb[0]\ni2 axb[1]\ni3 c[1]\ni4 c[2]\n")
-    trace = odd.simulate(["01111", "10011"])
+    odd = aig.Circuit("aag 9 9 0 0 0\n2\n4\n6\n8\n10\n12\n14\n16\n18\ni0 a.b[0]\ni1 axb[0]\ni2 axb[1]\ni3 c[1]\ni4 c[2] u.c[4]\n"
+                      "i5 up[1]\ni6 up[0]\ni7 e[1] u.c[5]\ni8 e[3]\n")
+    trace = odd.simulate(["011011010", "100010011"])
     tally.compare("vectors whose names are alike", (trace.vector("a.b"), trace.vector("axb")), ([0, 1], [3, 0]))
     tally.compare("entries by position", [chain.find(12 - at, letter).place for at, letter in enumerate("iobl")],
                   ["i12", "o11", "b10", "l9"])
     tally.compare("a row by names", chain.rows([{"d[10]": 1, "i2": 0}]), b"xx0xxxxxxx1xx\n")
-    tally.compare("no bit 0", raised(trace.vector, "c").args, ("there is no vector 'c'",))
+    tally.compare("no bit 0", trace.vector("c"), [2, 2])
+    tally.compare("further names", (trace.vector("u.c"), trace["u.c[4]"], trace["e[1]"]), ([3, 3], "11", "11"))
+    tally.compare("a bit is missing", raised(trace.vector, "e").args, ("there is no vector 'e'",))
+    tally.compare("falling indices", raised(trace.vector, "up").args,
+                  ("'up' has falling indices: its bit 1 may be the least significant one",))
+
+
+def zeros(_, tally, __):
+    """A property, a frame and a depth of 0 are not left out."""
+    wraps = example("wraps.aag")
+    rows = ["1"] * 6
+    tally.compare("frame 0", wraps.why("count", rows, frame=0), ["at 0, by reset: count=2'h0"])
+    first = wraps.witness(rows).why("count", frame=1)[0]
+    tally.compare("frame 1 of a witness", first.split(":")[0], "count=2'h1 at 1, by 0")
 
 
 def models(_, tally, __):

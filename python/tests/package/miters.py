@@ -33,6 +33,7 @@ def miters(_, tally, __):
         expected = [plain.simulate([row])["y"] != turned.simulate([row[::turn]])["y"] for row in rows]
         tally.compare(f"matched by {by}", [raised(both.witness, [row]) is None for row in rows], expected)
     each_output(tally)
+    many_outputs(tally)
     refused = {
         "an input more": ("aag 1 1 0 1 0\n2\n2\ni0 a\no0 y\n", "aag 2 2 0 1 0\n2\n4\n2\ni0 a\ni1 b\no0 y\n"),
         "another name": ("aag 1 1 0 1 0\n2\n2\ni0 a\no0 y\n", "aag 1 1 0 1 0\n2\n2\ni0 b\no0 y\n"),
@@ -61,6 +62,19 @@ def miters(_, tally, __):
     one, other = (aig.Circuit(f"aag 2 2 0 1 0 0 1\n2\n4\n2\n{literal}\n") for literal in (3, 5))
     found = [aig.miter(one, other).check(f"1\nb0\n\n{row}\n.\n").line for row in ("00", "10", "01")]
     tally.compare("constraints of each", found, ["not bad", "constraint 0 0", "constraint 0 1"])
+
+
+def many_outputs(tally):
+    """Circuits of 70 outputs, of which one differs."""
+    lines = "".join(f"{2 * at + 2}\n" for at in range(70))
+    plain = aig.Circuit(f"aag 70 70 0 70 0\n{lines}{lines}")
+    for at in (0, 63, 64, 69):
+        turned = [str(2 * it + 2 + (it == at)) for it in range(70)]
+        both = aig.miter(plain, aig.Circuit(f"aag 70 70 0 70 0\n{lines}" + "\n".join([*turned, ""])))
+        found = both.check(f"1\nb0\n\n{'0' * 70}\n.\n").line
+        tally.compare(f"of 70 outputs the one at {at} differs", found, "confirmed")
+    both = aig.miter(plain, plain)
+    tally.compare("of 70 outputs none differs", both.check(f"1\nb0\n\n{'01' * 35}\n.\n").line, "not bad")
 
 
 def each_output(tally):

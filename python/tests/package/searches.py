@@ -141,8 +141,8 @@ def texts(program, tally, _):
     tally.compare("shown as before", repr(aig.Verdict("confirmed")), "Verdict(line='confirmed')")
     tally.compare("shown with all", repr(aig.Verdict("unreachable", vacuous="no run of 1 frames", notes=["n"])),
                   "Verdict(line='unreachable', vacuous='no run of 1 frames', notes=['n'])")
-    truths = {"confirmed": True, "unreachable": True, "no run of 3 frames": True, "undecided": False, "not bad": False,
-              "initial 0": False, "constraint 0 0": False}
+    truths = {"confirmed": True, "unreachable": True, line: True, "no run of 3 frames": True, "undecided": False,
+              "not bad": False, "initial 0": False, "constraint 0 0": False}
     tally.compare("true or false", {line: bool(aig.Verdict(line)) for line in truths}, truths)
     roles = {"base": b"1", "step": b"2", "certificate": b"3"}
     files = (roles, {}, {"proof": b""}, {"shorter": b"4", "witness": b"5"})

@@ -4,6 +4,7 @@ import aig
 from aig.verdicts.judge import judge
 from aig.verdicts.page import Page
 from aig.verdicts.row import Row
+from aig.verdicts.simulated import of_facts
 
 HOSTILE = [
     "<script>window.owned=1;alert(1)</script>", "\"' onload=window.owned=1 x='", "]]>", "<!--", "-->", "&amp;&lt;",
@@ -74,4 +75,5 @@ class Bundle:
 
     def page(self, unfinished=True):
         times = {row.position: 1.25 for row in self.rows[::2]}
-        return Page(self.manifest, self.rows, judge(self.rows), self.files.__getitem__, times, unfinished).html()
+        table = of_facts(self.manifest.get("simulated", {})).beside(judge(self.rows))
+        return Page(self.manifest, self.rows, table, self.files.__getitem__, times, unfinished).html()

@@ -7,6 +7,7 @@ import resource
 import time
 import xml.etree.ElementTree as tree
 
+from aig.verdicts.judge import DISAGREES
 from aig.verdicts.page import GROUPS
 from aig.verdicts.style import STYLE
 from aig.verdicts.svg import STYLE as WAVE, Lane, hexadecimal, visible, waveform
@@ -97,21 +98,31 @@ def read(tally, name, page):
 def hostile(_, tally, __):
     """A page with each kind of row, whose names, notes, sources and programs try to leave the text."""
     bundle = Bundle().each_kind()
+    bundle.manifest["sources"] = ["a.v"]
+    bundle.manifest["simulated"] = {"by": HOSTILE[0], "circuit": f"circuit {HOSTILE[0]}", "agrees": True,
+                                    "rows": {"5": ["disagrees", f"row {HOSTILE[0]}"], "10": ["agrees", HOSTILE[11]]}}
     page = bundle.page()
     text = read(tally, "hostile", page)
+    tally.check("the page has what a simulator says", all(it in text for it in (
+        f"circuit {HOSTILE[0]}", f"row {HOSTILE[0]}", "≠disagrees")))
     for name in HOSTILE:
         tally.check(f"the page shows {name[:20]!r}", visible(name) in text)
     for word in ("Unfinished", "Vacuous", "Perhaps vacuous: whether its condition", "that is checked too",
                  "By induction of", "2 claims over 1 latch (0 gates)", "▲ fails", "▲ reached", "more notes",
                  "Longer runs were not"):
         tally.check(f"the page says {word}", word in text)
-    order = [page.index(f"<h2 id={key}>") for key, _, _ in GROUPS]
+    order = [page.index(f"<h2 id={key}>") for key, _, _ in GROUPS if key != DISAGREES]
     tally.compare("failures first", order, sorted(order))
     tally.check("no carriage return", "\r" not in page)
     doubted = page.rindex("<section", 0, page.index("Perhaps vacuous"))
     tally.check("a row in doubt is no good one", page[doubted:].startswith('<section id="b6" class="warn">'))
     tally.check("and is not folded", page.rindex("<details", 0, doubted) < page.rindex("</details>", 0, doubted))
     tally.check("the table says the doubt", "class=warn>whether its condition" in page)
+    for version, said in (("proved where rt ci built it", True), ("built by rt try, not proved", False)):
+        bundle.manifest["versions"]["aig"] = f"aig 0.3.0 ({version})"
+        words = read(tally, version, bundle.page())
+        tally.compare(f"{version}: the page says which", ["Checked by a verified program" in words,
+                      "Checked by a program that is not proved" in words], [said, not said])
 
 
 def pictures(_, tally, __):

@@ -9,7 +9,7 @@ from aig.verdicts import explained
 from aig.verdicts.runs import Told, chosen, story
 from aig.verdicts.signals import Names, labels
 from aig.verdicts.svg import parts, waveform
-from pages.oracle import Expected, Picture
+from pages.oracle import Expected, Picture, drawn
 
 BASES = ("q", "=1", "at", "a=b=c", "x=1", "always", "0", "q[1]", "<b>", "i0", "l1", "é", "b0", "count")
 
@@ -70,27 +70,34 @@ def compared(tally, name, told, witness, text=""):
     """Compares the picture of a witness with what it has to show. Returns how many lanes it has."""
     found = story(told, witness.text, text)
     expected = Expected(told.circuit.to("aag"), witness.text)
+    first, name_of_property, rows = witness.text.split(b"\n", 2)
+    filled = Expected(told.circuit.to("aag"), b"\n".join([first, name_of_property, rows.replace(b"x", b"0")]))
     picture = Picture(*parts(found.lanes, found.run.frames, found.run.frames - 1, witness.property))
-    tally.compare(f"{name}: the lines", found.why, witness.why())
+    tally.compare(f"{name}: the lines", [line.text for line in found.why], witness.why())
     tally.compare(f"{name}: no name twice", [it.name for it in picture.lanes], labels(found.signals))
-    signals = {(it.letter, tuple(it.positions)): it for it in expected.names.signals}
+    signals = {(it.letter, tuple(it.positions)): it for it in drawn(expected.names.signals)}
     frames = range(len(witness.rows))
     for lane, shown in zip(picture.lanes, found.signals):
         signal = signals[shown.key]
         tally.compare(f"{name}: the name of {lane.name!r}", shown.name, signal.name)
         wanted = {frame: expected.value(signal, frame) for frame in frames}
         tally.compare(f"{name}: values of {lane.name!r}", lane.values, wanted)
+        numbers = {frame: expected.number(signal, frame, filled) for frame in frames if len(signal.positions) > 1}
+        is_cut = any("…" in digits for digits, _ in lane.numbers.values())
+        tally.check(f"{name}: numbers of {lane.name!r}", is_cut or lane.numbers == numbers, (lane.numbers, numbers))
         thick = {frame for frame in frames if expected.is_named(signal, frame)}
         tally.compare(f"{name}: causes of {lane.name!r}", lane.thick, thick)
-    drawn = {it.key for it in found.signals}
-    missing = [it.name for key, it in signals.items() if it.letter in "il" and key not in drawn
+    keys = {it.key for it in found.signals}
+    missing = [it.name for key, it in signals.items() if it.letter in "il" and key not in keys
                and any(expected.is_named(it, frame) for frame in frames)]
     tally.compare(f"{name}: all causes are there", missing if not found.left else [], [])
     return len(picture.lanes)
 
 
 def values(_, tally, __):
-    """Random circuits with odd names."""
+    """Random circuits with odd names, and one with a latch that keeps its value."""
+    kept = aig.Circuit("aag 4 1 2 0 1 1\n2\n4 4 1\n6 2\n8\n8 4 6\nl0 q\n")
+    compared(tally, "kept", Told(kept), kept.witness(["0", "0", "1", "0"]).reduced())
     chance, seen = random.Random(11), 0
     for number in range(200):
         circuit = aig.Circuit(circuit_of(chance))
@@ -103,7 +110,7 @@ def values(_, tally, __):
 
 
 def names(_, tally, __):
-    """Names, as `why` forms them: vectors, holes, bits in the wrong order, one name of several signals."""
+    """Names, as `why` forms them: vectors, holes, one name of several signals. Bits that fall are a vector too."""
     def named(*symbols, letter="l"):
         count = len(symbols)
         lines = [f"aag {count} 0 {count} 0 0"] + [f"{2 * at + 2} 0" for at in range(count)]
@@ -112,7 +119,8 @@ def names(_, tally, __):
     cases = {
         ("q[0]", "q[1]", "q[2]"): ["q"], ("q[0]",): ["q[0]"], ("q[0]", "q[1]", "q[5]"): ["q", "q[5]"],
         ("q[1]", "q[2]"): ["q[2:1]"], ("q[0]", "q[1]", "a", "q[3]", "q[4]"): ["q[1:0]", "a", "q[4:3]"],
-        ("q[2]", "q[1]", "q[0]"): ["q[2]", "q[1]", "q[0]"], ("", "x y"): ["l0", "x"],
+        ("q[2]", "q[1]", "q[0]"): ["q[0:2]"], ("q[9]", "q[8]", "a", "q[7]", "q[5]", "p[4]"): ["q[8:9]", "a", "q[7]", "q[5]", "p[4]"],
+        ("q[1]", "q[0]", "q[1]", "q[2]"): ["q[1]", "q"], ("q[2]", "q[1]", "q[2]", "q[1]"): ["q[2]", "q[2:1]", "q[1]"], ("", "x y"): ["l0", "x"],
         ("q[00]", "q[1]"): ["q[00]", "q[1]"], ("a[0][0]", "a[0][1]"): ["a[0]"],
     }
     for symbols, wanted in cases.items():
@@ -191,7 +199,7 @@ def mentioned(_, tally, __):
     found = story(told, witness.text, "assert (s7 == w || nothing);")
     tally.compare("mentioned", [(it.name, it.strong, sorted(it.keys)) for it in found.lanes],
                   [("top.s7", True, []), ("w", True, []), ("top.s0", False, [0])])
-    many = " ".join(f"s{at}" for at in range(30))
+    many = " ".join(f"s{at}" for at in reversed(range(30)))
     first = explained.Valued(told.names.all[0], "1")
     shown, left = chosen(told.names, [explained.Line("", [], 0, [first], 0)], many)
     tally.compare("24 at most", (len(shown), left), (24, 6))

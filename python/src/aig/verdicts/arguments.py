@@ -4,15 +4,16 @@ from __future__ import annotations
 
 import argparse
 from pathlib import Path
-from typing import Callable
+from typing import Callable, List
 
 from .decide import Bounds, Programs
+from .replay.stimulus import hold_of
 
 STATUSES = """\
 exit status:
   0    all assertions hold, and all covers are reached
   5    an assertion fails, or a cover is never reached
-  4    else: one is vacuous, holds within a bound alone, or is undecided
+  4    else: one is vacuous, holds within a bound alone, or is undecided, or a simulator disagrees
   1    the sources, the circuit or the bundle was rejected, or Yosys failed
   2    wrong arguments
   3    a file cannot be read or written, or another run works in the folder
@@ -24,15 +25,43 @@ Find a checked verdict for each assertion and cover of a design.
 The design is Verilog (SystemVerilog with immediate and simple concurrent assertions, by Yosys), or one AIGER file with
 bad state properties. The folder of results has a page (index.html) and all that shows the verdicts; `aig-verdicts
 recheck FOLDER` checks them again with aig alone. If the folder is there already, its rows are checked again and only
-what is missing is searched.
+what is missing is searched. `aig-verdicts FILE ..` is short for `aig-verdicts run FILE ..`.
+"""
+DEMO = """\
+Write a small design with a bug, queue.v, into the current folder, and find its verdicts.
+
+A queue.v of yours stays as it is: the command then stops. The bug is real, so the exit status is 5.
 """
 RECHECK = """\
 Check each row of a folder of results, or of a .zip of it, again with aig alone.
 
-Nothing in the bundle is believed. The sources in it are read only with --yosys, by Yosys: do that in a container if you
-do not trust them.
+Nothing in the bundle is believed. The sources in it are read only with --yosys, by Yosys, and with --simulate, by Icarus
+Verilog, which runs them: do that in a container if you do not trust them.
+"""
+REPLAY = """\
+Play the failing runs of a bundle in Icarus Verilog, after aig has checked the bundle.
+
+The simulator reads the design's own sources; neither Yosys nor the circuit is on that way. In each frame, registers, named
+wires and assertions have to have the values of the run. Where the simulator has x, it gets the value of the run. It runs
+the sources in the bundle: do that in a container if you do not trust them.
+
+exit status:
+  0    each run fails its assertion, or reaches its cover, in the simulator too, and all values are the same
+  5    the simulator disagrees about one, or about a random run
+  4    one could not be played, is not decided there, or fails by other values
+  1    the bundle was rejected, or there is no simulator
 """
 _Raw = argparse.RawDescriptionHelpFormatter
+
+
+# The files of designs.
+CIRCUITS, VERILOG = (".aig", ".aag"), (".v", ".sv")
+
+
+def with_verb(arguments: List[str]) -> List[str]:
+    """The arguments, with `run` before those that begin with a design."""
+    is_run = bool(arguments) and Path(arguments[0]).suffix in CIRCUITS + VERILOG
+    return ["run"] * is_run + arguments
 
 
 def parser() -> argparse.ArgumentParser:
@@ -43,9 +72,28 @@ def parser() -> argparse.ArgumentParser:
     verbs = top.add_subparsers(dest="verb", metavar="COMMAND")
     _run(verbs.add_parser("run", help="find the verdicts of a design", description=RUN, epilog=STATUSES,
                           formatter_class=_Raw, allow_abbrev=False))
+    verbs.add_parser("demo", help="write a small design, and find its verdicts", description=DEMO, formatter_class=_Raw,
+                     allow_abbrev=False)
     _recheck(verbs.add_parser("recheck", help="check a folder of results again", description=RECHECK, epilog=STATUSES,
                               formatter_class=_Raw, allow_abbrev=False))
+    _replay(verbs.add_parser("replay", help="run the failing runs in Icarus Verilog", description=REPLAY,
+                             formatter_class=_Raw, allow_abbrev=False))
     return top
+
+
+def _replay(replay: argparse.ArgumentParser) -> None:
+    replay.add_argument("bundle", type=Path, metavar="BUNDLE", help="a folder of results, or a .zip of it")
+    replay.add_argument("--only", action="append", default=[], metavar="NAME",
+                        help="play only the run of this assertion or cover")
+    replay.add_argument("--random", type=_whole(0, 65536), default=0, metavar="N",
+                        help="play random runs of N frames too, and compare all values")
+    replay.add_argument("--hold", action="append", default=[], type=hold_of, metavar="SIGNAL=VALUE:FRAMES",
+                        help="in random runs, this input has this value for so many frames")
+    replay.add_argument("--to", type=Path, metavar="FOLDER",
+                        help="write a testbench for each failing run, with the design in it")
+    replay.add_argument("--simulator", default="iverilog", metavar="PROGRAM",
+                        help="Icarus Verilog; its vvp is beside it (iverilog)")
+    replay.add_argument("-v", "--verbose", action="store_true", help="name the signals that are not compared")
 
 
 def _run(run: argparse.ArgumentParser) -> None:
@@ -58,6 +106,8 @@ def _run(run: argparse.ArgumentParser) -> None:
                            help="define a macro")
     of_design.add_argument("-I", "--include", action="append", default=[], type=Path, metavar="FOLDER",
                            help="a folder of files that the sources include")
+    of_design.add_argument("--free", action="append", default=[], metavar="MODULE",
+                           help="leave out the body of this module: its outputs are free values")
     of_design.add_argument("--only", action="append", default=[], metavar="NAME",
                            help="search only this assertion or cover: its name, its position (b3), or a pattern with *")
     of_design.add_argument("--no-conditions", action="store_true",
@@ -78,15 +128,20 @@ def _run(run: argparse.ArgumentParser) -> None:
                         help="questions at once (one per processor)")
     search.add_argument("--dask", metavar="ADDRESS", help="ask the workers of a Dask cluster")
     search.add_argument("--solver", default=Programs().solver, metavar="PROGRAM",
-                        help="a solver that writes DRAT proofs and takes cadical's options (cadical)")
+                        help="a solver that writes proofs in DRAT or LRAT, with the options of cadical, or of kissat "
+                             "if its name begins so (cadical)")
     search.add_argument("--abc", default=Programs().abc, metavar="PROGRAM",
-                        help="ABC; '' for none (berkeley-abc)")
+                        help="ABC; '' for none (berkeley-abc, or yosys-abc)")
+    search.add_argument("--simulator", default="iverilog", metavar="PROGRAM",
+                        help="Icarus Verilog, which plays each run and compares the circuit on random runs (iverilog)")
+    search.add_argument("--no-simulator", action="store_true", help="play nothing in a simulator")
     results = run.add_argument_group("results")
     results.add_argument("-o", "--out", type=Path, metavar="FOLDER", help="the folder of results (NAME.verdicts)")
     results.add_argument("--hints", action="store_true",
-                         help="store proofs with hints (LRAT), which `recheck` checks in much less time")
+                         help="store all proofs with hints (LRAT), which `recheck` checks in much less time")
     results.add_argument("--drat2lrat", metavar="PROGRAM",
-                         help="the program that adds the hints; it implies --hints (drat2lrat)")
+                         help="the program that adds the hints that a solver did not write; it implies --hints "
+                              "(drat2lrat)")
     results.add_argument("--json", action="store_true", help="print the manifest in place of the table")
     results.add_argument("--junit", type=Path, metavar="FILE", help="write the table as JUnit XML, for a CI server")
     results.add_argument("--zip", type=Path, metavar="FILE", help="write the folder of results as a .zip")
@@ -102,6 +157,13 @@ def _recheck(recheck: argparse.ArgumentParser) -> None:
                          help="checks at once (one per processor)")
     recheck.add_argument("--yosys", action="store_true",
                          help="check too that Yosys makes the same circuit of the sources")
+    recheck.add_argument("--sources", nargs="+", default=[], type=Path, metavar="FILE",
+                         help="check too that the sources in the bundle are these files, and what they include")
+    recheck.add_argument("-I", "--include", action="append", default=[], type=Path, metavar="FOLDER",
+                         help="a folder of files that these sources include")
+    recheck.add_argument("--simulate", action="store_true",
+                         help="play the runs, and random ones, in Icarus Verilog, which reads the sources itself")
+    recheck.add_argument("--simulator", default="iverilog", metavar="PROGRAM", help="Icarus Verilog (iverilog)")
     recheck.add_argument("--megabytes", type=_whole(1, 2**31 - 1), default=1024, metavar="N",
                          help="the largest file that is read (1024)")
     recheck.add_argument("--page", type=Path, metavar="FILE", help="write the page of what was checked")

@@ -1,4 +1,4 @@
-"""The commands `aig-verdicts run` and `aig-verdicts recheck`."""
+"""The commands `aig-verdicts run`, `demo`, `recheck` and `replay`."""
 
 from __future__ import annotations
 
@@ -8,30 +8,42 @@ import fnmatch
 import io
 import signal
 import sys
+from dataclasses import replace
 from pathlib import Path
-from typing import Any, Callable, Dict, List, Optional, Sequence, Set
+from typing import Any, Callable, Collection, Dict, List, Optional, Sequence, Set
 
 from .._program import program
 from ..errors import AigError
-from .arguments import parser
-from .bundle import Wrong
+from .arguments import CIRCUITS, parser, with_verb
+from .bundle import Bundle, Wrong
+from .cycles import cycles_of
 from .decide import Bounds, Programs
+from .demo import written
 from .design import Design, read_aiger
 from .folder import PAGE, pack, write_whole
-from .judge import Judged, exit_status, judge, summary
+from .judge import DISAGREES, Judged, checked, exit_status, judge, open_notes, summary
 from .made import made
 from .manifest import as_json, rows_as_json
 from .page import Page
 from .progress import Progress
-from .recheck import is_kept, is_older, recheck, same_design
-from .row import Row
+from .recheck import is_kept, is_older, recheck, same_design, same_sources
+from .replay.command import replay
+from .replay.run import simulated
+from .row import CIRCUIT, Row
+from .runs import comes_back
 from .sections import Pictures
-from .session import Session
+from .session import STOPPED, Session
+from .simulated import Simulated, of_facts
+from .solvers import writes_hints
 from .table import junit, plain, text
-from .tools import Stop, Stopped, ToolFailed, found, version
+from .tools import Clock, Stop, Stopped, ToolFailed, missing, version
 from .workers import Dask
 
-REJECTED, WRONG_ARGUMENTS, UNREADABLE, STOPPED = 1, 2, 3, 130
+REJECTED, WRONG_ARGUMENTS, UNREADABLE, INTERRUPTED = 1, 2, 3, 130
+# So many notes on rows are printed.
+MOST_NOTES = 12
+# What `recheck` says of the sources.
+SAME_CIRCUIT, NOT_COMPARED = "Yosys makes the same circuit of the sources", "Not compared with the sources"
 _SIGNALS = (signal.SIGINT, signal.SIGTERM)
 
 
@@ -41,12 +53,12 @@ def _said(line: str) -> None:
 
 def _design(words: argparse.Namespace, stop: Stop) -> Design:
     """The circuit of the files."""
-    if any(path.suffix in (".aig", ".aag") for path in words.files):
+    if any(path.suffix in CIRCUITS for path in words.files):
         if len(words.files) > 1:
             raise ToolFailed("one circuit at a time, and no Verilog beside it")
         return read_aiger(words.files[0])
     options = {"top": words.top, "defines": words.define, "conditions": not words.no_conditions,
-               "wires": not words.no_wires}
+               "wires": not words.no_wires, "free": words.free}
     return made(words.files, stop, options, words.include)
 
 
@@ -68,32 +80,57 @@ def _is_named(word: str, position: int, name: str) -> bool:
     return word in (name, f"b{position}") or "*" in word and fnmatch.fnmatchcase(name, pattern)
 
 
+def _table(rows: Sequence[Row], circuit: bytes, simulated: Simulated = Simulated()) -> List[Judged]:
+    """The table, with the moments of runs where there are any."""
+    table = judge(rows, cycles_of(circuit).at) if any(row.by == "run" for row in rows) else judge(rows)
+    return simulated.beside(table)
+
+
+def _say_of_assumptions(alive: Row, circuit: bytes, read: Callable[[str], bytes]) -> None:
+    """Says where nothing shows that the assumptions can be kept for ever: else rows would be about short runs alone."""
+    if alive.by == "kept" and not comes_back(circuit, read(alive.files["witness"])):
+        _said(f"the assumptions are kept for {alive.frames} frames; whether for more is not known, so `holds` may be "
+              "about so many frames alone")
+
+
 def _page(to: Path, manifest: Dict[str, Any], rows: List[Row], read: Callable[[str], bytes], seconds: Dict[int, float],
           is_unfinished: bool, pictures: Optional[Pictures] = None) -> None:
-    page = Page(manifest, rows, judge(rows), read, seconds, is_unfinished, pictures)
+    table = _table(rows, read(CIRCUIT), of_facts(manifest.get("simulated", {})))
+    page = Page(manifest, rows, table, read, seconds, is_unfinished, pictures)
     write_whole(to, page.html().encode("utf-8", "replace"))
 
 
-def _adds_hints(words: argparse.Namespace) -> Optional[str]:
-    """The program that adds hints to proofs, if they are asked for. A cluster has its own."""
+def _lost(words: argparse.Namespace) -> Dict[str, str]:
+    """What is lost without each program that is missing, by what to say of it. A cluster has its own programs."""
+    found = {missing(words.solver): "nothing is shown to hold, and runs are those of ABC alone"}
+    if words.abc:
+        found[missing(words.abc)] = "no invariants and no long runs are found"
+    return {said: lost for said, lost in found.items() if said and not words.dask}
+
+
+def _programs(words: argparse.Namespace) -> Programs:
+    """The programs. Hints are those of `drat2lrat`, or else the solver's own. A cluster has its own programs."""
+    without_hints = Programs(words.solver, words.abc or None)
     if not words.hints and words.drat2lrat is None:
-        return None
+        return without_hints
     name: str = words.drat2lrat if words.drat2lrat is not None else "drat2lrat"
-    if not words.dask:
-        try:
-            found(name)
-        except ToolFailed as error:
-            raise ToolFailed(f"--hints: {error}; the sources of aig have it (tests/hints/drat2lrat.cpp)") from None
-    return name
+    said = "" if words.dask else missing(name)
+    if not said:
+        return replace(without_hints, drat2lrat=name)
+    if words.drat2lrat is None and writes_hints(words.solver):
+        return without_hints
+    raise ToolFailed(f"--hints: {said}, and {words.solver} writes no LRAT; the sources of aig have it "
+                     "(tests/hints/drat2lrat.cpp)")
 
 
 def run(words: argparse.Namespace, stop: Stop) -> int:
-    adds_hints = _adds_hints(words)
+    programs, lost = _programs(words), {} if words.quiet else _lost(words)
+    for said, what in lost.items():
+        _said(f"{said}: {what}")
     design = _design(words, stop)
     only = chosen(design, words.only)
     path = words.out or Path(f"{design.name}.verdicts")
     bounds = Bounds(words.frames, words.conflicts, words.seconds, words.megabytes, words.proof_megabytes)
-    programs = Programs(words.solver, words.abc or None, adds_hints)
     session = Session(design, path, bounds, programs, only, stop)
     with contextlib.closing(session):
         session.open(words.jobs)
@@ -106,7 +143,7 @@ def run(words: argparse.Namespace, stop: Stop) -> int:
         if not is_complete:  # what was done is written, whatever else the user presses
             for number in _SIGNALS:
                 signal.signal(number, signal.SIG_IGN)
-        return _results(words, session, is_complete)
+        return _results(words, session, is_complete, lost)
 
 
 def _search(words: argparse.Namespace, session: Session) -> bool:
@@ -119,7 +156,7 @@ def _search(words: argparse.Namespace, session: Session) -> bool:
 
     shown = {row.position for row in session.rows if row.kind in ("assert", "cover")}
     shown &= shown if session.only is None else set(session.only)
-    progress = Progress(session.rows, shown, words.verbose, words.quiet, renew)
+    clock, progress = Clock(), Progress(session.rows, shown, words.verbose, words.quiet, renew)
     progress.begin(session.waiting())
     renew()  # a page of an earlier run would be about something else
     if words.dask:
@@ -128,13 +165,28 @@ def _search(words: argparse.Namespace, session: Session) -> bool:
     else:
         is_complete = session.search(None, words.jobs, progress)
     progress.end()
+    if is_complete and not words.no_simulator:
+        _simulate(words, session, clock())
     renew(not is_complete)
     return is_complete
 
 
-def _results(words: argparse.Namespace, session: Session, is_complete: bool) -> int:
-    """Prints and writes what was found, and returns the exit status."""
-    table = judge(session.rows)
+def _simulate(words: argparse.Namespace, session: Session, seconds: float) -> None:
+    """Has a simulator play the runs, and compare the circuit, if there are sources and a simulator."""
+    if session.design.sources and not missing(words.simulator):
+        session.write(True)
+        rows = [row for row in session.rows if session.only is None or row.position in session.only]
+        try:
+            bundle = Bundle(session.folder.path)
+            session.simulated = simulated(bundle, rows, words.simulator, seconds, words.jobs, session.stop)
+        except ToolFailed as error:
+            session.simulated = Simulated(circuit=f"Not compared with a simulator: {error}")
+        session.write(True)
+
+
+def _results(words: argparse.Namespace, session: Session, is_complete: bool, said: Collection[str]) -> int:
+    """Prints and writes what was found, and returns the exit status. What was said is not said again."""
+    table = _table(session.rows, session.design.circuit, session.simulated)
     if session.only is not None:
         table = [it for it in table if it.row.position in session.only]
     if words.junit:
@@ -147,8 +199,30 @@ def _results(words: argparse.Namespace, session: Session, is_complete: bool) -> 
         sys.stdout.write(text(table))
     sys.stdout.flush()
     if not words.quiet:
-        print(f"{plain(summary(table))}: {plain(str(session.folder.path / PAGE))}", file=sys.stderr)
-    return exit_status(table) if is_complete else STOPPED
+        notes = [note for note in open_notes(table) if not note.endswith((STOPPED, *said))]
+        for note in notes[:MOST_NOTES]:
+            _said(note)
+        if len(notes) > MOST_NOTES:
+            _said(f"the page has {len(notes) - MOST_NOTES} more notes on rows that are open")
+        _say_of_assumptions(session.rows[0], session.design.circuit, session.folder.read)
+        if not session.simulated.agrees:
+            _said(session.simulated.circuit)
+        if not is_complete:
+            _said("stopped; the same command goes on")
+        page = plain(str(session.folder.path / PAGE))
+        print(f"{plain(summary(table))}{_not_simulated(session)}: {page}", file=sys.stderr)
+    return exit_status(table) if is_complete else INTERRUPTED
+
+
+def demo(_: argparse.Namespace, stop: Stop) -> int:
+    """Runs a design that it writes into the current folder."""
+    path = written(Path())
+    _said(f"{path} is the design; this is `aig-verdicts run {path}`")
+    return run(parser().parse_args(["run", str(path)]), stop)
+
+
+def _not_simulated(session: Session) -> str:
+    return "; not compared with a simulator" if session.design.sources and not session.simulated.by else ""
 
 
 def again(words: argparse.Namespace, stop: Stop) -> int:
@@ -159,11 +233,19 @@ def again(words: argparse.Namespace, stop: Stop) -> int:
     if not words.bundle.exists():
         raise FileNotFoundError(f"there is no bundle {words.bundle}")
     bundle = recheck(words.bundle, say=say, jobs=words.jobs, stop=stop, most_bytes=words.megabytes << 20)
+    if words.sources:
+        same_sources(bundle, words.sources, words.include)
     if words.yosys:
         same_design(bundle, stop)
-    table: List[Judged] = judge(bundle.rows)
-    if words.page:
-        _page(words.page, bundle.manifest, bundle.rows, bundle.summed, {}, False)
+    said = Simulated()
+    if words.simulate:
+        said = simulated(bundle, bundle.rows, words.simulator, 0.0, words.jobs, stop)
+    table = _table(bundle.rows, bundle.circuit(), said)
+    if words.page:  # the checks are those of the `aig` here, whatever the bundle says
+        versions = {**bundle.manifest["versions"], "aig": version(program(), stop)}
+        shown = said if said.by else Simulated(circuit=SAME_CIRCUIT if words.yosys else NOT_COMPARED)
+        manifest = {**bundle.manifest, "versions": versions, "simulated": shown.facts()}
+        _page(words.page, manifest, bundle.rows, bundle.summed, {}, False)
     if words.junit:
         write_whole(words.junit, junit(bundle.manifest["name"], table, {}).encode("utf-8", "replace"))
     if words.json:
@@ -171,9 +253,25 @@ def again(words: argparse.Namespace, stop: Stop) -> int:
     sys.stdout.flush()
     if is_older(bundle) and not is_kept(bundle.rows[0], bundle.circuit(), stop):
         _said("that some run keeps the assumptions is a solver's word, as the bundle is of an older version")
-    yosys = ", and Yosys makes the same circuit of the sources" if words.yosys else ""
-    print(f"{plain(summary(table))}; all checked by aig{yosys}", file=sys.stderr)
+    if not words.quiet:
+        _say_of_assumptions(bundle.rows[0], bundle.circuit(), bundle.summed)
+    if not said.agrees:
+        _said(said.circuit)
+    own = "; the sources are your files" if words.sources else ""
+    print(f"{plain(summary(table))}; {checked(table)}{_compared(words.yosys, bundle, said)}{own}", file=sys.stderr)
     return exit_status(table)
+
+
+def _compared(has_yosys: bool, bundle: Bundle, said: Simulated) -> str:
+    """What the last line of `recheck` says of the sources."""
+    if not bundle.manifest["sources"]:
+        return ""
+    yosys = f", and {SAME_CIRCUIT}" if has_yosys else ""
+    if not said.by:
+        return yosys or f"; {NOT_COMPARED[0].lower()}{NOT_COMPARED[1:]}"
+    if not said.agrees or DISAGREES in (it.word for it in said.rows.values()):
+        return f"{yosys}; ALARM: {said.by} disagrees, so the circuit may not be that of the sources"
+    return f"{yosys}; {said.circuit}, which is no proof"
 
 
 def _ended(call: Callable[[argparse.Namespace, Stop], int], words: argparse.Namespace, stop: Stop) -> int:
@@ -181,7 +279,8 @@ def _ended(call: Callable[[argparse.Namespace, Stop], int], words: argparse.Name
     try:
         return call(words, stop)
     except (Stopped, KeyboardInterrupt):
-        return STOPPED
+        _said("stopped")
+        return INTERRUPTED
     except BrokenPipeError:
         sys.stdout = open("/dev/null", "w")  # Python would flush the old one, and complain
         return UNREADABLE
@@ -198,20 +297,20 @@ def main(arguments: Optional[List[str]] = None) -> int:
         if isinstance(stream, io.TextIOWrapper):  # a name may have letters that the terminal has not
             stream.reconfigure(errors="backslashreplace")
     reader = parser()
-    words = reader.parse_args(arguments)
+    words = reader.parse_args(with_verb(sys.argv[1:] if arguments is None else arguments))
     stop = Stop()
     if words.version:
         print(version(program(), stop))
         return 0
     if words.verb is None:
-        reader.error("run or recheck?")
+        reader.error("run, demo, recheck or replay?")
     # A signal that was ignored at the start, as in the background of a shell, stays so.
     before = {number: signal.getsignal(number) for number in _SIGNALS}
     taken = [number for number, handler in before.items() if handler is not signal.SIG_IGN]
     for number in taken:
         signal.signal(number, stop)
     try:
-        return _ended(run if words.verb == "run" else again, words, stop)
+        return _ended({"run": run, "demo": demo, "recheck": again, "replay": replay}[words.verb], words, stop)
     finally:
         for number in taken:
             signal.signal(number, signal.SIG_IGN if stop.stopped else before[number])

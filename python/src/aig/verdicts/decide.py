@@ -4,15 +4,17 @@ this process or on another machine."""
 from __future__ import annotations
 
 import hashlib
+import shutil
 import tempfile
 import zlib
+from contextlib import contextmanager
 from dataclasses import dataclass, field, replace
 from pathlib import Path
-from typing import Dict, List, Optional
+from typing import Dict, Iterator, List, Optional
 
 from ..errors import AigError
 from .row import UNDECIDED
-from .tools import Clock, Stop, ToolFailed
+from .tools import Clock, Stop, Stopped, ToolFailed
 
 
 @dataclass(frozen=True)
@@ -39,13 +41,22 @@ class Bounds:
         return all(0 < own <= others or others == 0 for own, others in limits)
 
 
+# The names of ABC: that of its own package, and that of the one beside Yosys.
+ABC = ("berkeley-abc", "yosys-abc")
+
+
+def abc_of_path() -> str:
+    """The first of these that is on the path."""
+    return next((name for name in ABC if shutil.which(name)), ABC[0])
+
+
 @dataclass(frozen=True)
 class Programs:
     """The solver, ABC, and the program that adds hints to proofs, as names or paths. Without ABC there are no
     invariants, and without the last one proofs stay as the solver wrote them."""
 
     solver: str = "cadical"
-    abc: Optional[str] = "berkeley-abc"
+    abc: Optional[str] = field(default_factory=abc_of_path)
     drat2lrat: Optional[str] = None
 
 
@@ -95,6 +106,7 @@ class Found:
     frames   of the run, the induction or the bound
     files    what shows it, by role
     notes    what went wrong on the way: a crash, a bound that ended a question
+    stopped  whether the user ended the search
     """
 
     position: int
@@ -104,26 +116,40 @@ class Found:
     files: Dict[str, bytes] = field(default_factory=dict)
     notes: List[str] = field(default_factory=list)
     seconds: float = 0.0
+    stopped: bool = False
 
 
 def decide(task: Task, stop: Optional[Stop] = None) -> Found:
-    """Finds the verdict of a task. A crash of a tool, a full disk or a rejected file makes a note, and no exception."""
+    """Finds the verdict of a task. A crash of a tool, a full disk or a rejected file makes a note, and no exception.
+    What is known when the search ends stays, also where the user stops it."""
     from .search import Search
 
     clock = Clock()
     found = Found(task.position)
-    try:
+    with noted(found):
         if task.circuit is None:
             raise ToolFailed("the task came without its circuit")
         circuit = task.circuit.circuit()
         with tempfile.TemporaryDirectory(prefix="aig-verdicts-") as folder:
-            Search(task, circuit, Path(folder), stop or Stop(), found).search()
-    except (AigError, ToolFailed, OSError, zlib.error, MemoryError) as error:
-        # An answer that was only half found is none.
-        found = replace(found, verdict=UNDECIDED, by="", frames=0, files={})
-        found.notes.append(f"{type(error).__name__}: {(str(error).splitlines() or [''])[0]}")
+            search = Search(task, circuit, Path(folder), stop or Stop(), found)
+            with noted(found):
+                search.search()
+            search.keep()
     found.seconds = clock()
     return found
+
+
+@contextmanager
+def noted(found: Found) -> Iterator[None]:
+    """Makes a note of what ends a search."""
+    try:
+        yield
+    except Stopped:
+        found.stopped = True
+    except (AigError, ToolFailed, OSError, zlib.error, MemoryError) as error:
+        note = f"{type(error).__name__}: {(str(error).splitlines() or [''])[0]}"
+        if note not in found.notes:
+            found.notes.append(note)
 
 
 def decide_about(circuit: Sent, task: Task) -> Found:

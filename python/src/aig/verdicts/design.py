@@ -7,14 +7,20 @@ import tempfile
 from collections import Counter
 from dataclasses import dataclass, field
 from pathlib import Path
-from typing import Any, Dict, Iterable, List, Optional, Sequence, Set, Tuple
+from typing import Any, Collection, Dict, Iterable, List, Optional, Sequence, Set, Tuple
 
 from .._program import run as aig
 from ..entries import listed, readable
 
-from . import names, yosys
+from . import findings, names, yosys
+from .labels import AS_BLOCKS
+from .lax import ranges_of_words
+from .ranges import Ranges
 from .sources import Sources, look_at_words, places
-from .tools import Stop, ToolFailed
+from .clocks import timing
+from .timing import Timing
+from .tools import Stop, ToolFailed, version
+from .versions import untried
 
 
 @dataclass(frozen=True)
@@ -79,6 +85,7 @@ class Design:
     sources: Dict[str, bytes] = field(default_factory=dict)
     script: str = ""
     options: Dict[str, object] = field(default_factory=dict)
+    timing: Optional[Timing] = None
 
 
 def read_aiger(path: Path) -> Design:
@@ -93,9 +100,10 @@ def read_aiger(path: Path) -> Design:
 
 def read_verilog(
     sources: Sequence[Path], top: Optional[str], stop: Stop, defines: Sequence[str] = (), conditions: bool = True,
-    wires: bool = True, yosys: str = "yosys", seconds: float = 600.0, include: Sequence[Path] = (),
+    wires: bool = True, yosys: str = "yosys", seconds: float = 600.0, include: Sequence[Path] = (), free: Sequence[str] = (),
 ) -> Design:
-    """The circuit of a Verilog design. `include` has the folders of files that sources include."""
+    """The circuit of a Verilog design. `include` has the folders of files that sources include, and `free` the modules whose
+    outputs are free values."""
     top = top or None
     look_at_words(top, defines)
     read = Sources(sources, include)
@@ -103,12 +111,18 @@ def read_verilog(
         folder = Path(name)
         (folder / "sources").mkdir()
         read.write(folder / "sources")
-        made = _Made(folder, read, top, defines, conditions, wires, yosys, seconds, stop)
+        try:
+            made = _Made(folder, read, top, defines, conditions, wires, yosys, seconds, stop, free)
+        except ToolFailed as error:
+            raise ToolFailed(read.as_written(str(error))) from None
     count = int(dict(line.split(" ", 1) for line in aig("info", files=[made.circuit]).decode().splitlines())["bad"])
     if count != len(made.assertions):
         raise ToolFailed(f"the circuit has {count} properties, and the design {len(made.assertions)}")
     options: Dict[str, object] = {"top": top or "", "defines": list(defines), "conditions": conditions, "wires": wires}
-    return Design(made.top, made.circuit, made.assertions, made.notes, read.texts, made.script, options)
+    if free:
+        options["free"] = sorted(free)
+    return Design(made.top, made.circuit, made.assertions, made.notes, read.texts, made.script, options,
+                  made.timing)
 
 
 _PLACE = re.compile(r"^sources/(.*):(\d+)\.\d+-(\d+)\.\d+$")
@@ -116,7 +130,7 @@ _PLACE = re.compile(r"^sources/(.*):(\d+)\.\d+-(\d+)\.\d+$")
 
 @dataclass(frozen=True)
 class _Check:
-    """An assertion or a cover: its cell, its kind, and the text of the sources that it comes from."""
+    """An assertion, an assumption or a cover: its cell, its kind, and the text of the sources that it comes from."""
 
     cell: str
     kind: str
@@ -129,8 +143,8 @@ class _Check:
     def name(self) -> str:
         """Its label, after the instances that it is in; without one, its file and the line where it ends."""
         label = self.cell.replace("$flatten\\", "")
-        if re.search(r"\$(assert|cover|check)\$", label):
-            instance = re.sub(r"\$(assert|cover|check)\$.*", "", label).rstrip(".")
+        if re.search(r"\$(assert|assume|cover|check)\$", label):
+            instance = re.sub(r"\$(assert|assume|cover|check)\$.*", "", label).rstrip(".")
             return (f"{instance}:" if instance else "") + f"{self.file}:{self.last}"
         return label
 
@@ -143,12 +157,24 @@ class _Check:
 
 
 def _check(cell: str, value: Dict[str, Any], known: Set[str]) -> _Check:
-    """A cell that `flatten` copied has the places of its instances too; `known` has those of all assertions and covers."""
+    """A cell that `flatten` copied has the places of its instances too; `known` has those of all cells of its kind."""
     for part in value["attributes"].get("src", "").split("|"):
         match = _PLACE.match(part)
         if match and part in known:
             return _Check(cell, value["type"][1:], part, match[1], int(match[2]), int(match[3]))
     return _Check(cell, value["type"][1:], "", "", 0, 0)
+
+
+def _checks(modules: Dict[str, Any], flat: Dict[str, Any], kinds: Collection[str]) -> Dict[str, _Check]:
+    """The cells of these kinds in the flat module."""
+    known = {value["attributes"].get("src", "") for _, value in yosys.cells(modules) if value["type"] in kinds}
+    return {cell: _check(cell, value, known) for cell, value in yosys.cells(flat) if value["type"] in kinds}
+
+
+def _assumptions(modules: Dict[str, Any], flat: Dict[str, Any], order: Sequence[str]) -> List[str]:
+    """The names of the assumptions in the order of the circuit, as those of assertions."""
+    found = _checks(modules, flat, ["$assume"])
+    return _unique([symbol("assert", found[cell].name) for cell in order])
 
 
 def _unique(labels: Sequence[str]) -> List[str]:
@@ -168,32 +194,43 @@ class _Made:
     """What Yosys makes of the sources in a folder."""
 
     def __init__(self, folder: Path, read: Sources, top: Optional[str], defines: Sequence[str], conditions: bool, wires: bool,
-                 program: str, seconds: float, stop: Stop):
+                 program: str, seconds: float, stop: Stop, free: Sequence[str]):
         runs = yosys.Yosys(folder, program, seconds, stop)
         first = yosys.reading([f"sources/{name}" for name in read.read], top, defines)
-        runs.run(first)
+        blocks = [AS_BLOCKS] * runs.read(first)
+        findings.look_at_sources(runs)
+        said = runs.prepare(free)
+        resets = yosys.resetting()
+        runs.run(resets)
+        said += runs.settle()
+        flatten = yosys.flattening()
+        runs.run(flatten)
         modules, flat = runs.modules("modules.json"), runs.modules("flat.json")
-        yosys.look(runs, modules, flat)
-        known = {value["attributes"].get("src", "") for _, value in yosys.cells(modules) if value["type"] in yosys.CHECKS}
-        found = {cell: _check(cell, value, known) for cell, value in yosys.cells(flat) if value["type"] in yosys.CHECKS}
+        findings.look(runs, modules, flat)
+        found = _checks(modules, flat, yosys.CHECKS)
         if not found:
             raise ToolFailed("the design has no assertion and no cover")
         self.top = yosys.top_of(modules)
         one_clock = yosys.one_clock(flat)
+        self.timing = timing(flat, one_clock)
         second = yosys.making(one_clock, conditions, wires)
-        runs.run(second)
-        self.notes = yosys.notes(runs, modules, flat, one_clock)
-        self.script = "\n".join([*first, *second, ""])
-        order = [line.split("/", 1)[1] for line in runs.text("order").splitlines() if "/" in line]
+        runs.make(second, flat[yosys.top_of(modules)])
+        self.notes = said + findings.notes(runs, modules, flat, one_clock)
+        self.script = "\n".join([*blocks, *first, yosys.PREPARED, *resets, yosys.SETTLED, *flatten, *second,
+                                 yosys.NAMED, ""])
+        order = runs.cells_in("order")
         self._rows(found, order, yosys.checks(modules, self.top))
         self.notes[:0] = read.left_out()
-        self._without_rows(read, found.values(), yosys.live_places(modules))
-        module = flat[self.top]
+        self._without_rows(read, found.values(), findings.live_places(modules))
+        self.notes += [note for note in [untried(version(program, stop))] if note]
+        module, clocked = flat[self.top], runs.modules("clocked.json")
         ports = list(module["ports"])
-        hidden = names.hidden_names(runs.text("names"), names.lines_of_x(runs.modules("clocked.json")))
+        hidden = names.hidden_names(runs.text("names"), names.lines_of_x(clocked), names.made_names(clocked))
         positions = {cell: position for position, cell in enumerate(order)}
         properties = [(positions[cell], symbol(it.kind, it.name)) for cell, it in zip(self._cells, self.assertions)]
-        self.circuit = names.named((folder / "made.aig").read_bytes(), hidden, ports, properties)
+        assumptions = _assumptions(modules, flat, runs.cells_in("assumed"))
+        ranges = Ranges(module, ranges_of_words(runs.text("tree").splitlines()))
+        self.circuit = names.named((folder / "made.aig").read_bytes(), hidden, ports, properties, assumptions, ranges)
 
     def _rows(self, found: Dict[str, _Check], order: Sequence[str], wanted: int) -> None:
         """A row for each assertion and cover, and after an assertion one for its condition, if it has any."""

@@ -40,6 +40,16 @@ class Line(NamedTuple):
     causes: List[Valued]
     by: int
 
+    @property
+    def is_asked(self) -> bool:
+        """Whether it is about what was asked for, which is no latch."""
+        return not self.kept
+
+    @property
+    def because(self) -> str:
+        """What explains it, as text has it."""
+        return _words(self.causes) or "always"
+
 
 def lines(said: bytes) -> List[Line]:
     """The lines of what `aig why --json` prints."""
@@ -66,7 +76,8 @@ def _line(it: Dict[str, Any]) -> Line:
         kept = [_valued(it["signal"])] if kind == "latches" else []
         causes = [_valued(cause) for cause in it["causes"]]
         head = f"{kept[0]} at {frame}, by {it['by']}" if kept else f"{it['name']}={shown(it['value'])} at {frame}"
-        return Line(f"{head}: {_words(causes) or 'always'}", kept, frame, causes, it["by"])
+        found = Line(head, kept, frame, causes, it["by"])
+        return found._replace(text=f"{head}: {found.because}")
     latches = [_valued(latch) for latch in it["latches"]]
     how = kind if kind == "not explained" else f"by {kind}"
     return Line(f"at {frame}, {how}: {_words(latches)}", latches, frame, [], frame)

@@ -2,18 +2,25 @@
 
 from __future__ import annotations
 
-from dataclasses import dataclass
-from typing import Dict, List, Optional, Sequence
+from dataclasses import dataclass, replace
+from typing import Callable, Dict, List, Optional, Sequence
 
-from .row import CONFIRMED, UNREACHABLE, Row
+from .cycles import Moment
+from .row import CONFIRMED, LEFT_OUT, UNREACHABLE, Row
 
 # Exit statuses of a table that is whole.
 GOOD, OPEN, BAD = 0, 4, 5
+# The result of a row that a simulator denies.
+DISAGREES = "disagrees"
+# A note is printed with the names of so many of its rows.
+MOST_NAMED = 3
 # The exit status and the mark of each result. The word of `bounded` has the frames after it.
 STATUS = {
-    "fails": BAD, "never": BAD, "vacuous": OPEN, "undecided": OPEN, "bounded": OPEN, "holds": GOOD, "reached": GOOD,
+    "fails": BAD, "never": BAD, DISAGREES: OPEN, "vacuous": OPEN, "undecided": OPEN, LEFT_OUT: OPEN, "bounded": OPEN, "holds": GOOD,
+    "reached": GOOD,
 }
-MARK = {"fails": "✗", "never": "✗", "vacuous": "∅", "undecided": "?", "bounded": "◐", "holds": "✓", "reached": "✓"}
+MARK = {"fails": "✗", "never": "✗", DISAGREES: "≠", "vacuous": "∅", "undecided": "?", LEFT_OUT: "–", "bounded": "◐", "holds": "✓",
+        "reached": "✓"}
 WORDS = {"never": "never reached"}
 
 
@@ -21,10 +28,14 @@ WORDS = {"never": "never reached"}
 class Judged:
     """A row of the table.
 
-    result  fails, holds, bounded, vacuous or undecided of an assertion; reached, never, bounded, .. of a cover
+    result  fails, holds, bounded, vacuous, undecided or left out of an assertion; reached, never, bounded, .. of a cover;
+            disagrees of one that a simulator denies
     why     of a vacuous one, in words
     proof   the row that shows it, where that is not the row itself
     doubt   of one that may be vacuous, in words
+    moment  of one with a run: when the assertion fails, or the cover is reached
+    simulated  what a simulator says of its run, in words
+    denied  that a simulator denies the circuit, in words
     """
 
     row: Row
@@ -32,6 +43,9 @@ class Judged:
     why: str = ""
     proof: Optional[Row] = None
     doubt: str = ""
+    moment: Optional[Moment] = None
+    simulated: str = ""
+    denied: str = ""
 
     @property
     def words(self) -> str:
@@ -41,14 +55,24 @@ class Judged:
 
     @property
     def by(self) -> str:
+        return ", ".join(part for part in (self.way, self.at) if part)
+
+    @property
+    def way(self) -> str:
+        """How it was found."""
         frames = self.row.frames
         shown = {"run": f"run of {frames}", "induction": f"induction of {frames}", "certificate": "invariant"}
         return shown.get(self.row.by, "")
 
     @property
+    def at(self) -> str:
+        """When the assertion fails, or the cover is reached, if that is known."""
+        return f"at {self.moment}" if self.moment else ""
+
+    @property
     def status(self) -> int:
         """The exit status that this row asks for."""
-        return max(STATUS[self.result], OPEN if self.doubt else GOOD)
+        return max(STATUS[self.result], OPEN if self.doubt or self.denied else GOOD)
 
 
 class Judge:
@@ -86,13 +110,14 @@ def _alone(row: Row) -> str:
         return "bounded"
     if row.verdict == UNREACHABLE:
         return "never" if cover else "holds"
-    return "undecided"
+    return LEFT_OUT if row.verdict == LEFT_OUT else "undecided"
 
 
-def judge(rows: Sequence[Row]) -> List[Judged]:
-    """The table, in the order of the properties, which is that of the sources."""
+def judge(rows: Sequence[Row], moment: Callable[[Row], Optional[Moment]] = lambda _: None) -> List[Judged]:
+    """The table, in the order of the properties, which is that of the sources. `moment` has that of a row's run."""
     judged = Judge(rows)
     table = [judged.of(row) for row in rows if row.kind in ("assert", "cover")]
+    table = [replace(it, moment=moment(it.row)) if it.row.by == "run" else it for it in table]
     return sorted(table, key=lambda it: it.row.position)
 
 
@@ -106,11 +131,12 @@ def exit_status(table: Sequence[Judged]) -> int:
     return max((it.status for it in table), default=GOOD)
 
 
+DENIED = "denied by the simulator"
 _COUNTED = {
-    "assert": ("assertion", {"fails": "fail", "holds": "hold", "bounded": "hold for the frames searched",
-                             "vacuous": "vacuous", "undecided": "undecided"}),
-    "cover": ("cover", {"reached": "reached", "never": "never reached", "bounded": "not reached within the bound",
-                        "vacuous": "vacuous", "undecided": "undecided"}),
+    "assert": ("assertion", {"fails": "fail", DISAGREES: DENIED, "holds": "hold",
+                             "bounded": "hold for the frames searched", "vacuous": "vacuous", "undecided": "undecided", LEFT_OUT: LEFT_OUT}),
+    "cover": ("cover", {"reached": "reached", DISAGREES: DENIED, "never": "never reached",
+                        "bounded": "not reached within the bound", "vacuous": "vacuous", "undecided": "undecided", LEFT_OUT: LEFT_OUT}),
 }
 
 
@@ -123,3 +149,19 @@ def summary(table: Sequence[Judged]) -> str:
             counts = [f"{found.count(result)} {word}" for result, word in words.items() if result in found]
             parts.append(f"{len(found)} {noun}{'s' * (len(found) > 1)}: {', '.join(counts)}")
     return "; ".join(parts)
+
+
+def checked(table: Sequence[Judged]) -> str:
+    """How many verdicts `aig` checked: a row without a verdict has nothing to check."""
+    count = sum(it.row.by != "" for it in table)
+    return "all checked by aig" if count == len(table) else f"{count} of {len(table)} checked by aig"
+
+
+def open_notes(table: Sequence[Judged]) -> List[str]:
+    """The notes of rows that are not good, each once, with the names of its rows."""
+    names: Dict[str, List[str]] = {}
+    for it in table:
+        for note in it.row.notes if it.status else ():
+            names.setdefault(note, []).append(it.row.name)
+    return [f"{', '.join(of[:MOST_NAMED])}{f' and {len(of) - MOST_NAMED} more' * (len(of) > MOST_NAMED)}: {note}"
+            for note, of in names.items()]

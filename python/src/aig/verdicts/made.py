@@ -10,12 +10,12 @@ from .tools import Stop, ToolFailed
 
 
 def made(files: Sequence[Path], stop: Stop, options: Dict[str, Any], include: Sequence[Path] = ()) -> Design:
-    """The circuit of these sources. The options are those of MANIFEST.json: top, defines, conditions, wires."""
+    """The circuit of these sources. The options are those of MANIFEST.json: top, defines, conditions, wires, free."""
     for file in files:
         file.open("rb").close()  # a source that is missing is an error of its own
     try:
         return read_verilog(files, options["top"], stop, options["defines"], options["conditions"], options["wires"],
-                            include=include)
+                            include=include, free=options.get("free", ()))
     except FileNotFoundError as error:
         if error.filename is None:
             raise

@@ -6,8 +6,9 @@ import json
 import re
 from typing import Any, Callable, Dict, List, Tuple
 
+from . import simulated, timing
 from .judge import results
-from .row import ALIVE, CIRCUIT, CONSTRAINTS, KINDS, UNDECIDED, WAYS, Row, name_of
+from .row import ALIVE, CIRCUIT, CONSTRAINTS, KINDS, LEFT_OUT, MOST_FRAMES, UNDECIDED, WAYS, Row, name_of
 
 MANIFEST = "MANIFEST.json"
 SCRIPT_OF_YOSYS = "yosys.ys"
@@ -16,7 +17,6 @@ FORMAT = "aig-verdicts 2"
 OLDER = "aig-verdicts 1"
 # A plain name, or one in a folder.
 PLAIN = re.compile(r"[A-Za-z0-9_+-][A-Za-z0-9._+-]*(/[A-Za-z0-9_+-][A-Za-z0-9._+-]*)?")
-MOST_FRAMES = 65536
 MOST_LINES = 1 << 31
 MOST_DIGITS = 15
 
@@ -84,6 +84,8 @@ def parsed(data: bytes) -> Dict[str, Any]:
     except RecursionError:
         raise Wrong("MANIFEST.json is too deep") from None
     expect(type(made) is dict and made.get("format") in (FORMAT, OLDER), f"MANIFEST.json is not of {FORMAT!r}")
+    for name in ("timing", "simulated"):  # an older version did not write them
+        made.setdefault(name, {})
     expect(set(made) == set(_PARTS), "MANIFEST.json has other parts")
     for name, is_right in _PARTS.items():
         expect(is_right(made[name]), f"{name} of MANIFEST.json")
@@ -121,6 +123,8 @@ _PARTS: Dict[str, Callable[[Any], bool]] = {
     "notes": _texts,
     "versions": lambda value: _table(value, str),
     "sums": lambda value: _table(value, str) and all(PLAIN.fullmatch(it) for it in value),
+    "timing": timing.are_facts,
+    "simulated": simulated.are_facts,
     "rows": lambda value: type(value) is list,
 }
 _TYPES = {
@@ -172,7 +176,7 @@ def _verdict(row: Row) -> None:
         expect(row.verdict in (lines[:1] or [ALIVE, UNDECIDED]), f"verdict of {row.label}")
     else:
         expect(row.by not in ("alive", "kept"), f"kind of {row.label}")
-        expect(row.verdict == (lines[0] if lines else UNDECIDED), f"verdict of {row.label}")
+        expect(row.verdict in (lines[:1] or [UNDECIDED, LEFT_OUT]), f"verdict of {row.label}")
 
 
 def check_results(manifest: Dict[str, Any], rows: List[Row]) -> None:

@@ -7,11 +7,13 @@ from collections import Counter
 from typing import Any, Dict, Iterator, List, Sequence, Set, Tuple
 
 from .._program import run as aig
+from .ranges import Ranges
 
 _PAST = re.compile(r"(.*)\$past\$.*:(\d+)\$\d+\$\d+")
 _CLOCKED = re.compile(r"(.*)\$formal\$.*:(\d+)\$\d+_(CHECK|EN)")
 _SAMPLED = re.compile(r"\$auto\$clk2fflogic\.cc:\d+:sample_\w+\$(.+)#sampled\$\d+")
 _PORT = re.compile(r"\$auto\$clk2fflogic\.cc:\d+:execute\$(.+)#(\d+)#(\w+)_q\$\d+")
+_PAST_CLOCK = re.compile(r"\$auto\$clk2fflogic\.cc:\d+:execute\$.+#\d+#past_clk#(.+)\$\d+")
 _NEXT = re.compile(r"(.*)\$0(?:\\|(?=\$))(.+?)(?:\[\d+:\d+\])?(?:\$\d+)?")
 
 Entry = Tuple[str, int]  # the letter of a section, and a position there
@@ -23,7 +25,7 @@ def shown_name(wire: str) -> str:
     wire = wire.replace("$flatten\\", "")
     if wire.startswith("\\") or "$" not in wire:
         return re.sub(r"[:\[\]]+", "_", wire.lstrip("\\")).rstrip("_") if re.fullmatch(r"\\?[A-Za-z_][^{}']*", wire) else ""
-    match = _SAMPLED.fullmatch(wire)
+    match = _SAMPLED.fullmatch(wire) or _PAST_CLOCK.fullmatch(wire)
     if match:
         inner = shown_name(match[1])
         return inner and f"{inner}_before"
@@ -43,16 +45,20 @@ def shown_name(wire: str) -> str:
     return ""
 
 
-def hidden_names(listed: str, lines_of_x: Dict[str, List[int]]) -> Dict[int, str]:
+def hidden_names(listed: str, lines_of_x: Dict[str, List[int]], made: Dict[Tuple[str, int], str]) -> Dict[int, str]:
     """Names of literals whose wires Yosys made. `listed` is what `write_aiger -vmap` wrote; `lines_of_x` has the lines of
-    the sources that read the bits of a free wire: their names are `x_12`."""
+    the sources that read the bits of a free wire: their names are `x_12`. `made` has names of bits of wires."""
     best: Dict[int, Tuple[bool, str, str, int]] = {}
     wide: Set[str] = set()
+    result: Dict[int, str] = {}
     for line in listed.splitlines():
         words = line.split(" ", 3)
         if words[0] != "wire" or not words[-1].startswith("$"):
             continue
         literal, bit, wire = int(words[1]), int(words[2]), words[3]
+        if (wire, bit) in made:
+            result[literal] = made[wire, bit]
+            continue
         if wire in lines_of_x:
             name = f"x_{lines_of_x[wire][bit]}" if bit < len(lines_of_x[wire]) and lines_of_x[wire][bit] else "x"
         else:
@@ -64,8 +70,9 @@ def hidden_names(listed: str, lines_of_x: Dict[str, List[int]]) -> Dict[int, str
             wide.add(wire)
     bases: Dict[Tuple[str, str], str] = {}
     counts: Dict[str, int] = {}
-    result = {}
     for literal, (_, name, wire, bit) in sorted(best.items(), key=lambda it: (it[1][1:], it[0])):
+        if literal in result:
+            continue
         if (name, wire) not in bases:
             counts[name] = counts.get(name, 0) + 1
             bases[name, wire] = name if counts[name] == 1 else f"{name}_{counts[name]}"
@@ -90,6 +97,67 @@ def lines_of_x(clocked: Dict[str, Any]) -> Dict[str, List[int]]:
         if wire["bits"] and wire["bits"][0] in free:
             wires[name] = [lines.get(bit, 0) for bit in wire["bits"]]
     return wires
+
+
+_ASYNCHRONOUS = "$auto$async2sync.cc"
+_CONTROL = re.compile(r"\$auto\$clk2fflogic\.cc:\d+:sample_control\w*\$(\$.+)#sampled\$\d+")
+
+
+def made_names(clocked: Dict[str, Any]) -> Dict[Tuple[str, int], str]:
+    """The names of registers that Yosys made, by the bits of their wires. `q_kept` is what a register q with an asynchronous
+    set or reset keeps, or a latch q: the value of q is this one, or that of the set, reset or open latch. `not_rst_before`
+    is for several clocks what the inverted reset was."""
+    module = next(iter(clocked.values()))
+    public = _shown_bits(module)
+    inverted = {cell["connections"]["Y"][0]: cell["connections"]["A"][0] for cell in module["cells"].values()
+                if cell["type"] in ("$not", "$logic_not") and len(cell["connections"]["A"]) == 1}
+    follows = _follows(module)
+    found = {}
+    for name, wire in module["netnames"].items():
+        for k, bit in enumerate(wire["bits"] if name.startswith(_ASYNCHRONOUS) else []):
+            *_, source, at = next((public[it] for it in _reached(bit, follows) if it in public), (False, 0, "", 0))
+            if source:
+                found[name, k] = _bit(f"{source}_kept", at)
+        match = _CONTROL.fullmatch(name)
+        read = inverted.get(module["netnames"][match[1]]["bits"][0]) if match and match[1] in module["netnames"] else None
+        if read in public:
+            *_, source, at = public[read]
+            found[name, 0] = _bit(f"not_{source}_before", at)
+    return found
+
+
+def _shown_bits(module: Dict[str, Any]) -> Dict[Any, Tuple[bool, int, str, int]]:
+    """The name and the index of each bit: that of a wire which is nearest to the top module, or of an assertion's register."""
+    shown: Dict[Any, Tuple[bool, int, str, int]] = {}
+    counts: Dict[str, int] = {}
+    for wire, facts in sorted(module["netnames"].items()):
+        is_made = wire.startswith("$")
+        name = wire if not is_made else shown_name(wire) if _CLOCKED.fullmatch(wire) or _PAST.fullmatch(wire) else ""
+        if is_made and name:
+            counts[name] = counts.get(name, 0) + 1
+            name = name if counts[name] == 1 else f"{name}_{counts[name]}"
+        for k, bit in enumerate(facts["bits"] if name else []):
+            word = is_made, name.count("."), name, k if len(facts["bits"]) > 1 else -1
+            shown[bit] = min(shown.get(bit, word), word)
+    return shown
+
+
+def _follows(module: Dict[str, Any]) -> Dict[Any, List[Any]]:
+    """The bits that depend on a bit by a cell that makes an asynchronous value."""
+    follows: Dict[Any, List[Any]] = {}
+    for name, cell in module["cells"].items():
+        for port in ("A", "B") if name.startswith(_ASYNCHRONOUS) else ():
+            for bit, to in zip(cell["connections"].get(port, []), cell["connections"].get("Y", [])):
+                follows.setdefault(bit, []).append(to)
+    return follows
+
+
+def _reached(bit: Any, follows: Dict[Any, List[Any]]) -> List[Any]:
+    """The bits that follow a bit, the nearest first."""
+    found = [bit]
+    for it in found:
+        found += [to for to in follows.get(it, []) if to not in found]
+    return found
 
 
 # -- the circuit
@@ -151,14 +219,20 @@ def _natural(word: str) -> str:
     return re.sub(r"\d+", lambda it: it[0].zfill(9), word)
 
 
-def named(circuit: bytes, hidden: Dict[int, str], ports: Sequence[str], properties: Sequence[Tuple[int, str]]) -> bytes:
+def named(circuit: bytes, hidden: Dict[int, str], ports: Sequence[str], properties: Sequence[Tuple[int, str]],
+          assumptions: Sequence[str], ranges: Ranges) -> bytes:
     """The circuit with a name for each signal, and without free values that nothing reads. `ports` are those of the design,
     in its order. The properties are these, by their positions of now and their symbols. The outputs are the output ports of
-    the design, and then the named wires that are no inputs, latches or other wires."""
+    the design, and then the named wires that are no inputs, latches or other wires. Bits are in the order of their weight,
+    so those of a vector [2:9] have falling indices, and are no vector for `aig`: it would show their value turned around."""
     parts = _Parts(circuit)
     rank = {port: k for k, port in enumerate(ports)}
     known: Dict[str, bytes] = {}
     read, widths = parts.read(), Counter(_wire(word)[0] for (letter, _), word in parts.words() if letter == "o")
+    wires: Dict[bytes, List[str]] = {}
+    for (letter, k), word in parts.words():
+        if letter == "o":
+            wires.setdefault(parts.sections["o"][k], []).append(word)
     for letter in "il":
         rows = []
         bits = Counter(_wire(word)[0] for (its, _), word in parts.words() if its == letter)
@@ -170,7 +244,10 @@ def named(circuit: bytes, hidden: Dict[int, str], ports: Sequence[str], properti
 
         for k, line in enumerate(parts.sections[letter]):
             literal = line.split(b" ")[0]
-            words = sorted(_words(parts.symbols.pop((letter, k), b"")), key=order)
+            words = _words(parts.symbols.pop((letter, k), b""))
+            if not words and not hidden.get(int(literal)):  # a wire that is a free value, as an output of a box
+                words = wires.get(literal, [])
+            words.sort(key=order)
             if words or literal in read or letter == "l":
                 shown = words or [hidden.get(int(literal), "")]
                 rows.append((not words, not shown[0], rank.get(_wire(shown[0])[0], len(rank)), shown[0].count("."), _natural(shown[0]), k, line, shown))
@@ -183,6 +260,11 @@ def named(circuit: bytes, hidden: Dict[int, str], ports: Sequence[str], properti
     parts.sections["b"] = [parts.sections["b"][position] for position, _ in properties]
     for k, (_, text) in enumerate(properties):
         parts.symbols["b", k] = text.encode()
+    for entry, symbol in parts.symbols.items():
+        if entry[0] in "ilo":
+            parts.symbols[entry] = " ".join(map(ranges.declared, _words(symbol))).encode("latin-1", "replace")
+    for k, name in enumerate(assumptions):
+        parts.symbols["c", k] = name.encode()
     return parts.file()
 
 

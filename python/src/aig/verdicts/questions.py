@@ -8,6 +8,7 @@ from pathlib import Path
 from typing import Dict, List, Mapping, NamedTuple, Optional, Sequence, Tuple
 
 from ..errors import AigError
+from . import solvers
 from .decide import Bounds, Programs
 from .hints import has_hints
 from .tools import Clock, Ran, Stop, ToolFailed, ask, run
@@ -39,7 +40,7 @@ class Questions:
 
     def __init__(self, circuit: bytes, bounds: Bounds, programs: Programs, folder: Path, stop: Stop, notes: List[str]):
         self.circuit, self._bounds, self._programs = circuit, bounds, programs
-        self._folder, self._stop, self._notes = folder, stop, notes
+        self._folder, self.stop, self._notes = folder, stop, notes
         self._clock = Clock()
 
     def note(self, text: str) -> None:
@@ -52,12 +53,16 @@ class Questions:
 
     def aig(self, command: str, *options: str, files: Sequence[bytes], named: Mapping[str, bytes] = {},
             good: Sequence[int] = (0,)) -> bytes:
-        return ask(self._stop, command, *options, files=files, named=named, good=good)
+        return ask(self.stop, command, *options, files=files, named=named, good=good)
 
     def refute(self, *options: str, proofs: Dict[str, bytes], named: Mapping[str, bytes] = {}) -> Refuted:
         """The line about proofs, which are there by their roles. They get hints if there is a program for that."""
         found = self.hinted(*options, proofs=proofs, named=named)
-        return found if found is not None else Refuted(self._line(options, proofs, named), proofs)
+        return found if found is not None else self.plain(*options, proofs=proofs, named=named)
+
+    def plain(self, *options: str, proofs: Dict[str, bytes], named: Mapping[str, bytes] = {}) -> Refuted:
+        """The same with the proofs as they are."""
+        return Refuted(self._line(options, proofs, named), proofs)
 
     def hinted(self, *options: str, proofs: Dict[str, bytes], named: Mapping[str, bytes] = {}) -> Optional[Refuted]:
         """The same with hints, if some of the proofs get them and `aig` takes them."""
@@ -88,7 +93,7 @@ class Questions:
         formula = self.aig("cnf", *more, *options, files=[self.circuit], named=named)
         words = [program, "--trim", "cnf", "drat", "lrat"]
         try:
-            ran, made = self.tool(words, self._bounds.seconds, {"cnf": formula, "drat": proof}, "lrat")
+            ran, [made] = self.tool(words, self._bounds.seconds, {"cnf": formula, "drat": proof}, "lrat")
         except (ToolFailed, OSError) as error:
             self.note(f"no hints: {error}")
             return proof
@@ -116,9 +121,12 @@ class Questions:
             self.note(f"{what}: {error.part}: {error.reason}")
             return Answer()
         solver = self._programs.solver
-        words = [solver, "-q", "-t", str(max(1, int(seconds)))]
-        words += ["-c", str(self._bounds.conflicts)] * (self._bounds.conflicts > 0)
-        ran, proof = self.tool([*words, "cnf", "drat"], max(1.0, seconds), {"cnf": formula}, "drat")
+        try:
+            words = [*solvers.words(solver, seconds, self._bounds.conflicts), "cnf", "proof"]
+            ran, [proof] = self.tool(words, max(1.0, seconds), {"cnf": formula}, "proof")
+        except ToolFailed as error:  # it is missing; what ABC finds without it is found
+            self.note(str(error))
+            return Answer()
         if ran.status == SATISFIABLE:
             return Answer(model=ran.out)
         if ran.status == UNSATISFIABLE and proof is not None:
@@ -127,16 +135,16 @@ class Questions:
         return Answer()
 
     def tool(self, words: Sequence[str], seconds: float, files: Dict[str, bytes],
-             made: str) -> Tuple[Ran, Optional[bytes]]:
-        """Runs a program beside these files. How it ended, and the file that it had to make, if it did."""
+             *made: str) -> Tuple[Ran, List[Optional[bytes]]]:
+        """Runs a program beside these files. How it ended, and the files that it had to make, if it did."""
         with tempfile.TemporaryDirectory(dir=self._folder) as name:
             folder = Path(name)
             for file, data in files.items():
                 (folder / file).write_bytes(data)
             bounds = self._bounds
-            ran = run(words, folder, seconds, self._stop, bounds.megabytes, bounds.proof_megabytes)
-            path = folder / made
-            return ran, path.read_bytes() if path.is_file() else None
+            ran = run(words, folder, seconds, self.stop, bounds.megabytes, bounds.proof_megabytes)
+            paths = [folder / name for name in made]
+            return ran, [path.read_bytes() if path.is_file() else None for path in paths]
 
 
 def why(program: str, ran: Ran, seconds: float) -> str:

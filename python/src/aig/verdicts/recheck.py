@@ -7,19 +7,23 @@ import os
 import tempfile
 from concurrent.futures import ThreadPoolExecutor
 from pathlib import Path
-from typing import Callable, List
+from typing import Callable, List, Sequence
 
 from .._program import program
 from ..entries import listed, readable
 from ..errors import AigError
 from .bundle import MOST_BYTES, Bundle, Wrong
-from .design import properties, symbol
+from .design import Design, properties, symbol
 from .made import made
 from .manifest import OLDER, SCRIPT_OF_YOSYS, expect
 from .row import ALIVE, CIRCUIT, CONSTRAINTS, Row, has_constraints, parts_of
-from .tools import Stop, ask, version
+from .sources import Sources, places
+from .tools import Stop, ToolFailed, ask, version
+from .versions import yosys_of
 
 Read = Callable[[str], bytes]
+# What is compared by name between two circuits, in this order.
+_COMPARED = {"i": "inputs", "o": "outputs", "b": "properties", "c": "constraints", "l": "registers"}
 
 
 def check_row(row: Row, circuit: bytes, read: Read, stop: Stop) -> None:
@@ -116,12 +120,39 @@ def recheck(path: Path, sums: bool = True, say: Callable[[Row], None] = lambda _
     return bundle
 
 
+def same_sources(bundle: Bundle, files: Sequence[Path], include: Sequence[Path]) -> None:
+    """That the sources in the bundle are those of the auditor."""
+    mine, names = Sources(files, include).texts, bundle.manifest["sources"]
+    expect(set(names) <= set(mine), f"{places(sorted(set(names) - set(mine)))}: none of your files")
+    expect(set(mine) <= set(names), f"{places(sorted(set(mine) - set(names)))}: not in the bundle")
+    other = [name for name in names if mine[name] != bundle.summed(f"sources/{name}")]
+    expect(not other, f"{places(other)}: the bundle has another text than your file")
+
+
 def same_design(bundle: Bundle, stop: Stop = Stop()) -> None:
-    """Whether Yosys makes the same circuit of the sources again. The script in the bundle is not run: it could do
-    anything."""
+    """Whether Yosys makes the same circuit of the sources again, with its rows at the same places. Another version of
+    Yosys may say that an assertion begins on another line."""
+    again = _made_again(bundle, stop)
+    old, new = (yosys_of(it) for it in (bundle.manifest["versions"].get("yosys", ""), version("yosys", stop)))
+    other = "" if old == new else f"; the bundle says that {old} made it, and this is {new}"
+    if again.circuit != bundle.circuit():
+        difference = _difference(bundle.circuit(), again.circuit, stop)
+        raise Wrong(f"Yosys makes another circuit of the sources: {difference}{other}")
+    places = {it.position: it for it in again.assertions}
+    for row in bundle.rows[1:]:
+        here = places[row.position]
+        is_same = (here.kind, here.name, here.file, here.last) == (row.kind, row.name, row.file, row.last)
+        expect(is_same and (here.first == row.first or bool(other)),
+               f"{row.label} is at another place: {here.file}:{here.first}-{here.last}, and "
+               f"{row.file}:{row.first}-{row.last} in the bundle{other}")
+
+
+def _made_again(bundle: Bundle, stop: Stop) -> Design:
+    """What Yosys makes of the sources. The script in the bundle is not run: it could do anything."""
     options = bundle.manifest["options"]
-    expect(set(options) == {"top", "defines", "conditions", "wires"} and type(options["top"]) is str
-           and type(options["defines"]) is list and all(type(options[it]) is bool for it in ("conditions", "wires")),
+    expect(set(options) - {"free"} == {"top", "defines", "conditions", "wires"} and type(options["top"]) is str
+           and type(options["defines"]) is list and type(options.get("free", [])) is list
+           and all(type(options[it]) is bool for it in ("conditions", "wires")),
            "the bundle has no sources" if not options else "options of MANIFEST.json")
     with tempfile.TemporaryDirectory(prefix="aig-verdicts-") as folder:
         paths = []
@@ -129,9 +160,19 @@ def same_design(bundle: Bundle, stop: Stop = Stop()) -> None:
             paths.append(Path(folder, name))
             paths[-1].write_bytes(bundle.summed(f"sources/{name}"))
         expect(bool(paths), "the bundle has no sources")
-        again = made(paths, stop, options)
-    expect(again.circuit == bundle.circuit(), "Yosys makes another circuit of the sources")
-    places = {it.position: (it.kind, it.name, it.file, it.first, it.last) for it in again.assertions}
-    for row in bundle.rows[1:]:
-        place = (row.kind, row.name, row.file, row.first, row.last)
-        expect(places[row.position] == place, f"{row.label} is at another place")
+        try:
+            return made(paths, stop, options)
+        except ToolFailed as error:
+            raise ToolFailed(str(error).replace(f"{folder}/", "sources/")) from None
+
+
+def _difference(old: bytes, new: bytes, stop: Stop) -> str:
+    """What differs between the circuit of a bundle and the one of its sources: names first."""
+    was, now = (listed(ask(stop, "info", "--names", "--json", files=[it])) for it in (old, new))
+    for letter, section in _COMPARED.items():
+        names, others = ([it.label for it in entries if it.letter == letter] for entries in (was, now))
+        if names != others:
+            said = [f"without {name}" for name in sorted({*names} - {*others})[:1]]
+            said += [f"with {name}" for name in sorted({*others} - {*names})[:1]]
+            return f"its {section} are others, {' and '.join(said)}" if said else f"its {section} have another order"
+    return "its names are the same, and its gates are others; whether it does the same is not known"

@@ -11,6 +11,10 @@ CONSTRAINTS = -1
 KINDS = ("assert", "cover", "condition", "constraints")
 # The verdicts without a number of frames. `alive` of a circuit without constraints needs nothing that shows it.
 CONFIRMED, UNREACHABLE, ALIVE, UNDECIDED = "confirmed", "unreachable", "alive", "undecided"
+# In place of a verdict: the run was asked for other rows alone.
+LEFT_OUT = "left out"
+# The frames of the longest run, induction or bound.
+MOST_FRAMES = 65536
 
 
 class Shown(NamedTuple):
@@ -82,7 +86,7 @@ class Row:
 
     kind     `assert`, `cover`, `condition` (the `if` of an assertion), or `constraints` for the row of all assumptions
     of       for a condition, the position of its assertion
-    verdict  the line that `aig` prints; `alive` or `undecided` if it prints none
+    verdict  the line that `aig` prints; `alive`, `undecided` or `left out` if it prints none
     by       a key of WAYS
     frames   of the run, the induction or the bound
     """

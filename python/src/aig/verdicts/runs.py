@@ -3,10 +3,12 @@
 from __future__ import annotations
 
 import re
+from functools import lru_cache
 from typing import Dict, Iterable, List, NamedTuple, Sequence, Set, Tuple
 
 from .._program import run as call
 from ..circuit import Circuit
+from ..errors import OutOfMemory
 from . import explained
 from .explained import Line
 from .signals import Names, Place, Signal, labels
@@ -14,6 +16,18 @@ from .svg import Lane
 
 # Bytes of a run and of its lines. Those of a small circuit can be too many for any memory.
 MOST_TRACE, MOST_WHY = 1 << 28, 1 << 26
+
+
+@lru_cache(maxsize=1)
+def comes_back(circuit: bytes, witness: bytes) -> bool:
+    """Whether a run that keeps the assumptions comes back to a state. Then the inputs in between can go on for ever. A
+    state with an x is several."""
+    try:
+        said = call("check", "--trace", files=[circuit, witness], good=(0, 1), most=MOST_TRACE)
+    except OutOfMemory:
+        return False
+    states = [state for state in (line.split(b" ")[0] for line in said.split(b"\n")[:-2]) if b"x" not in state]
+    return len(set(states)) < len(states)
 
 
 class Told:
@@ -30,8 +44,14 @@ class Run:
     def __init__(self, told: Told, witness: bytes):
         said = call("check", "--trace", files=[told.circuit.file, witness], good=(0, 1), most=MOST_TRACE).decode()
         self._rows = [line.split(" ") for line in said.split("\n")[:-2]]
+        self._told, self._witness = told, witness
         self.frames = len(self._rows)
         self.names = told.names
+
+    def filled(self) -> Run:
+        """The run of the witness with 0 for each x."""
+        first, name, *rows = self._witness.split(b"\n")
+        return Run(self._told, b"\n".join([first, name, *(row.replace(b"x", b"0") for row in rows)]))
 
     def __getitem__(self, signal: Signal) -> List[str]:
         column = "lio".index(signal.letter)
@@ -45,7 +65,7 @@ class Story(NamedTuple):
     run: Run
     signals: List[Signal]
     lanes: List[Lane]
-    why: List[str]
+    why: List[Line]
     left: int
 
 
@@ -55,7 +75,7 @@ def story(told: Told, witness: bytes, text: str = "") -> Story:
     said = call("why", "--json", "--witness", files=[told.circuit.file, witness], most=MOST_WHY)
     lines = explained.lines(said)
     signals, left = chosen(run.names, lines, text)
-    return Story(run, signals, lanes(run, lines, signals, text), [line.text for line in lines], left)
+    return Story(run, signals, lanes(run, lines, signals, text), lines, left)
 
 
 def mentioned(names: Names, text: str) -> List[Signal]:
@@ -71,7 +91,7 @@ def _once(signals: Iterable[Signal]) -> List[Signal]:
 def chosen(names: Names, lines: Sequence[Line], text: str, most: int = 24) -> Tuple[List[Signal], int]:
     """The signals to show: those that the assertion's text names, the causes among them first, then those that the
     lines name. And how many are left out."""
-    by_lines = _once(it.signal for line in lines for it in [*line.kept, *line.causes])
+    by_lines = _once(names.at.get(it.signal.places[0], it.signal) for line in lines for it in [*line.kept, *line.causes])
     named = {it.key for it in by_lines}
     by_text = sorted(mentioned(names, text), key=lambda it: it.key not in named)
     order = _once([*by_text, *by_lines])
@@ -82,8 +102,12 @@ def lanes(run: Run, lines: Sequence[Line], signals: Sequence[Signal], text: str)
     """The lanes of these signals. A frame is thick where some bit of the signal is a cause."""
     causes = causes_of(run.frames, lines)
     strong = {it.key for it in mentioned(run.names, text)}
-    return [Lane(label, run[it], frozenset().union(*(causes.get(place, ()) for place in it.places)), it.key in strong)
-            for label, it in zip(labels(signals), signals)]
+    values = [run[it] for it in signals]
+    has_free = any(len(it.positions) > 1 and "x" in "".join(found) for it, found in zip(signals, values))
+    filled = run.filled() if has_free else None
+    return [Lane(label, found, frozenset().union(*(causes.get(place, ()) for place in it.places)), it.key in strong,
+                 filled[it] if filled is not None and len(it.positions) > 1 else ())
+            for label, it, found in zip(labels(signals), signals, values)]
 
 
 def causes_of(frames: int, lines: Sequence[Line]) -> Dict[Place, Set[int]]:

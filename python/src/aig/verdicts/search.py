@@ -11,13 +11,17 @@ from typing import Dict, List, NamedTuple, Optional, Union
 from . import abc
 from .decide import Found, Task
 from .questions import NO_TIME, Answer, Questions, why
-from .row import ALIVE, has_constraints
-from .tools import Stop
+from .row import ALIVE, CONFIRMED, MOST_FRAMES, has_constraints
+from .tools import Stop, Stopped, ToolFailed, soon
 
 # The seconds of ABC's first try.
 SHORT = 5.0
-# The longest run that the solver is asked for because ABC knows one.
-LONGEST = 65536
+# How long the check of a bound may take after a search has ended early.
+LAST_SECONDS = 5.0
+# The ends of notes about an answer of ABC that is none about the circuit: the circuit that ABC had was another one.
+WRONG_RUN, WRONG_CERTIFICATE = "no run of the circuit", "a certificate that is wrong"
+# It changes with what the search finds. A folder whose search had another number is searched again.
+NUMBER = 2
 
 
 def growing(frames: int) -> List[int]:
@@ -29,9 +33,10 @@ def growing(frames: int) -> List[int]:
 
 
 class Asserted(NamedTuple):
-    """ABC's answer that there is a run of so many frames."""
+    """ABC's answer that there is a run, as a witness of so many frames."""
 
     frames: int
+    witness: bytes
 
 
 class Proved(NamedTuple):
@@ -106,7 +111,7 @@ class Search:
             if frames > self.known:
                 said = self.reach(frames)
                 if said.model is not None:
-                    return self.run_of(frames, said.model)
+                    return self.run_of(self.witness(frames, said.model))
                 self.gave_up = said.proof is None
                 if self.gave_up:
                     return False
@@ -123,24 +128,26 @@ class Search:
             self.known, self.base = frames, said.proof
         return said
 
-    def run_of(self, frames: int, model: bytes) -> bool:
-        """The shortest run, with a proof that there is no shorter one."""
-        witness = self.shortest(self.witness(frames, model))
-        reduced = self.ask.aig("reduce", files=[self.ask.circuit, witness])
-        said = self.ask.aig("check", self.of_property, files=[self.ask.circuit, reduced], good=(0, 1))
+    def run_of(self, witness: bytes) -> bool:
+        """The shortest run that the solver finds, with a proof that there is no shorter one. It begins with a run that
+        is known: that is an answer at any time."""
+        if not self.confirmed(witness):
+            return False
+        found = self.shortest(witness)
+        reduced = self.ask.aig("reduce", files=[self.ask.circuit, found])
+        return self.confirmed(reduced, **self.no_run_of(_length(reduced) - 1))
+
+    def confirmed(self, witness: bytes, **shorter: bytes) -> bool:
+        said = self.ask.aig("check", self.of_property, files=[self.ask.circuit, witness], good=(0, 1))
         verdict = said.decode().strip()
-        files = {"witness": reduced}
-        length = _length(reduced)
-        if length > 1:
-            files.update(self.no_run_of(length - 1))
-        return self.answer(verdict, "run", length, **files)
+        return verdict == CONFIRMED and self.answer(verdict, "run", _length(witness), witness=witness, **shorter)
 
     def witness(self, frames: int, model: bytes) -> bytes:
         return self.ask.aig("witness", *self.bounded(frames), files=[self.ask.circuit], named={"--model": model})
 
     def shortest(self, witness: bytes) -> bytes:
-        """The shortest run that the solver finds: most often it is the one that is known, so one frame less comes first;
-        then by halving."""
+        """The shortest run that the solver finds. Most often it is the one that is known, so one frame less comes first;
+        then halves."""
         tried = _length(witness) - 1
         while self.known < _length(witness) - 1:
             said = self.reach(tried)
@@ -153,10 +160,9 @@ class Search:
 
     def no_run_of(self, frames: int) -> Dict[str, bytes]:
         """The proof that no run of so many frames is there, if the search had it."""
-        if self.known == frames:
-            return self.ask.refute(*self.bounded(frames), proofs={"shorter": self.base}).proofs
-        self.ask.note("a shorter run was not ruled out")
-        return {}
+        if not frames or self.known != frames:
+            return {}
+        return self.ask.refute(*self.bounded(frames), proofs={"shorter": self.base}).proofs
 
     def induction(self, frames: int, step: bytes) -> bool:
         base: Optional[bytes] = self.base
@@ -174,6 +180,19 @@ class Search:
         verdict, proofs = self.ask.refute(*self.bounded(self.known), proofs={"base": self.base})
         return self.answer(verdict, "bound", self.known, **proofs)
 
+    def keep(self) -> None:
+        """What is known where the search ended early: the run, or the bound. The check of a bound ends soon."""
+        if self.found.by == "run" and self.found.frames > 1 and "shorter" not in self.found.files:
+            self.ask.note("a shorter run was not ruled out")
+        if self.known and not self.found.by:
+            with soon(LAST_SECONDS) as stop:
+                self.ask.stop = stop
+                try:
+                    verdict, proofs = self.ask.plain(*self.bounded(self.known), proofs={"base": self.base})
+                    self.answer(verdict, "bound", self.known, **proofs)
+                except Stopped:
+                    self.ask.note(f"bound of {self.known}: {NO_TIME}")
+
     # -- ABC
 
     def by_abc(self, seconds: Optional[float]) -> Optional[bool]:
@@ -185,7 +204,7 @@ class Search:
         if isinstance(said, Proved):
             return self.certificate(said)
         if isinstance(said, Asserted):
-            return self.asserted(said.frames)
+            return self.asserted(said)
         return None if said.more_time else False
 
     def pdr(self, program: str, seconds: Optional[float]) -> Union[Proved, Asserted, Unknown]:
@@ -198,29 +217,28 @@ class Search:
         one = self.ask.aig("select", "--to", "aag", self.of_property, files=[self.ask.circuit])
         folded = self.ask.aig("toaig", "--to", "aig", files=[abc.folded(one)])
         conflicts = f"-C {bounds.conflicts} " if bounds.conflicts else ""
-        # It drops what the property and the constraints do not read, and merges no latches.
-        read = "read_aiger one.aig; scleanup -c -e; logic; undc; strash; scleanup -c -e"
-        script = f"{read}; pdr -T {int(given)} {conflicts}-d -I inv.pla"
-        ran, made = self.ask.tool([program, "-q", script], given, {"one.aig": folded}, "inv.pla")
+        script = f"read_aiger one.aig; pdr -T {int(given)} {conflicts}-d -I inv.pla; write_cex -n run"
+        try:
+            ran, [invariant, run] = self.ask.tool([program, "-q", script], given, {"one.aig": folded}, "inv.pla", "run")
+        except ToolFailed as error:  # it is missing
+            self.ask.note(f"invariant: {error}")
+            return Unknown(False)
         asserted = re.search(rb"was asserted in frame (\d{1,5})\b", ran.out)
-        if asserted:
-            return Asserted(int(asserted[1]) + 1)
-        if b"Property proved" in ran.out and made is not None:
-            return Proved(one, made)
+        if asserted and run is not None and int(asserted[1]) < MOST_FRAMES:
+            frames = int(asserted[1]) + 1
+            return Asserted(frames, abc.witness(one, self.task.position, frames, run))
+        if b"Property proved" in ran.out and invariant is not None:
+            return Proved(one, invariant)
         had_no_time = ran.status is None or ran.status == 0 and b"onflict" not in ran.out
         if seconds is not None and had_no_time and given < whole_limit:
             return Unknown(True)
         self.ask.note(f"invariant: {why(program, ran, round(given))}")
         return Unknown(False)
 
-    def asserted(self, frames: int) -> bool:
-        """ABC knows a run: the solver finds it too."""
-        said = Answer()
-        if self.known < frames <= LONGEST:
-            said = self.reach(frames)
-        if said.model is not None:
-            return self.run_of(frames, said.model)
-        self.ask.note(f"ABC says that there is a run of {frames} frames")
+    def asserted(self, said: Asserted) -> bool:
+        if self.run_of(said.witness):
+            return True
+        self.ask.note(f"ABC's run of {said.frames} frames is {WRONG_RUN}")
         return False
 
     def certificate(self, proved: Proved) -> bool:
@@ -231,7 +249,7 @@ class Search:
             verdict, proofs = self.ask.refute(self.of_property, proofs={"proof": said.proof}, named=named)
             return self.answer(verdict, "certificate", 0, certificate=made, **proofs)
         if said.model is not None:
-            self.ask.note("ABC's invariant made a certificate that is wrong")
+            self.ask.note(f"ABC's invariant made {WRONG_CERTIFICATE}")
         return False
 
 

@@ -7,19 +7,22 @@ from typing import Callable, Dict, Hashable, List, NamedTuple, Optional, Sequenc
 
 import aig
 
-from .judge import MARK, Judged
+from .explained import Line
+from .judge import DISAGREES, MARK, Judged
 from .row import Row
 from .runs import Story, Told, story
 from .svg import escape, parts, shortened
 
 KIND = {
-    "fails": "bad", "never": "bad", "vacuous": "warn", "undecided": "warn", "bounded": "warn", "holds": "good",
+    "fails": "bad", "never": "bad", DISAGREES: "warn", "vacuous": "warn", "undecided": "warn", "bounded": "warn", "holds": "good",
     "reached": "good",
 }
 # Pictures have so many bytes of a page, and none is made of a run with more letters. The lines of `why` below those that
 # are seen at once are so many, and have so many causes.
 MOST_PICTURES, MOST_LETTERS = 1_500_000, 50_000_000
 MOST_LINES, SEEN_LINES, MOST_CAUSES = 200, 8, 100
+# Bits of a value that a line does not give, too many to show.
+_LONG = re.compile(r"\?{9,}")
 # The bytes of a source that is shown, the letters of a line, the lines of an assertion, and the letters of all of them.
 MOST_SOURCE, MOST_LINE, MOST_TEXT, MOST_SNIPPETS = 1 << 26, 1000, 200, 10_000_000
 
@@ -38,11 +41,12 @@ def counted(count: object, name: str) -> str:
 
 def kind(it: Judged) -> str:
     """How a row looks: one that is in doubt is not good."""
-    return "warn" if it.doubt else KIND[it.result]
+    return "warn" if it.doubt or it.denied else KIND[it.result]
 
 
-def verdict(it: Judged) -> str:
-    return f'<span class="v {kind(it)}"><i aria-hidden="true">{MARK[it.result]}</i>{escape(it.words)}</span>'
+def verdict(it: Judged, more: str = "") -> str:
+    said = f"{it.words} {more}" if more else it.words
+    return f'<span class="v {kind(it)}"><i aria-hidden="true">{MARK[it.result]}</i>{escape(said)}</span>'
 
 
 def anchor(row: Row) -> str:
@@ -125,12 +129,14 @@ class Sections:
     def section(self, it: Judged) -> str:
         row = it.row
         found = [
-            f'<header><h3 class=name>{escape(row.name)}</h3>{verdict(it)}<span class=sub>{escape(row.kind)} '
+            f'<header><h3 class=name>{escape(row.name)}</h3>{verdict(it, it.at)}<span class=sub>{escape(row.kind)} '
             f'<code>b{row.position}</code></span><span class="sub name">{escape(place(row))}</span></header>',
             self._sources.snippet(row),
         ]
-        if it.why:
+        if it.result == "vacuous":
             found.append(f"<p><b>Vacuous:</b> {escape(it.why)}.</p>")
+        if it.simulated:
+            found.append(f"<p{' class=warn' if it.result == DISAGREES else ''}>{escape(it.simulated)}.</p>")
         if it.doubt:
             found.append(f"<p class=warn><b>Perhaps vacuous:</b> {escape(it.doubt)}.</p>")
         if row.by == "run":
@@ -139,6 +145,8 @@ class Sections:
             found.append(self._proof(row))
         if row.notes:
             found.append(f"<p>Notes: {'; '.join(escape(note) for note in row.notes)}.</p>")
+        if row.by == "run":
+            found.append(f"<details><summary>Open it</summary>{_openers(row)}</details>")
         again = _commands(row) + (_commands(it.proof) if it.proof else "")
         if again:
             found.append(f"<details><summary>Check it again</summary>{again}</details>")
@@ -148,21 +156,29 @@ class Sections:
 
     def _run(self, it: Judged) -> str:
         """The waveform of a run, and why."""
-        row = it.row
+        row, seen = it.row, it.row.frames - 1
         said = "The cover is reached" if row.kind == "cover" else "The assertion fails"
+        if it.moment is None:
+            when = f"{said}, as frame {seen} of the run shows, whatever the x are."
+        elif it.moment.number == seen:
+            when = f"{said} {it.at}, whatever the x are."
+        else:
+            when = (f"{said} {it.at}, whatever the x are: the clock's edge at its end samples these values, and the "
+                    f"property is 1 at frame {seen}.")
         shorter = "<b>A shorter run may exist.</b>"
         if row.frames == 1:
             shorter = ""
         elif "shorter" in row.files:
             shorter = f"No run of {counted(row.frames - 1, 'frame')} does: that is checked too."
-        return f"{self._picture(row)}<p>{said} at frame {row.frames - 1}, whatever the x are. {shorter}</p>"
+        return f"{self._picture(it)}<p>{when} {shorter}</p>"
 
-    def _picture(self, row: Row) -> str:
+    def _picture(self, it: Judged) -> str:
+        row = it.row
         file = escape(row.files["witness"])
         letters = row.frames * len(self._told.circuit.entries)
         if self._room > 0 and letters <= MOST_LETTERS:
             key = (row.label, row.name, row.kind, self._sources.text(row), self._read(row.files["witness"]))
-            drawn = self._pictures.get(key) or self._drawn(row, file, letters)
+            drawn = self._pictures.get(key) or self._drawn(it, file, letters)
             if drawn is not None:
                 self._pictures[key] = drawn
                 self._room -= drawn.room
@@ -171,20 +187,23 @@ class Sections:
                 f"<code>aig wave --witness circuit.aig {file}</code> makes a waveform, and "
                 f"<code>aig why --witness circuit.aig {file}</code> says why.</p>")
 
-    def _drawn(self, row: Row, file: str, letters: int) -> Optional[Drawn]:
+    def _drawn(self, it: Judged, file: str, letters: int) -> Optional[Drawn]:
+        row = it.row
         told = self._story(row)
         if told is None:
             return None
         mark = "reached" if row.kind == "cover" else "fails"
         title = f"run of {counted(row.frames, 'frame')} to {row.name}"
-        names, waves = parts(told.lanes, told.run.frames, told.run.frames - 1, title, mark)
+        marked = told.run.frames - 1 if it.moment is None else it.moment.number
+        names, waves = parts(told.lanes, told.run.frames, marked, title, mark)
+        why = because(it, told.why)
         more = ""
         if told.left:
             more = (f"<p class=sub>{counted(told.left, 'more signal')}: "
                     f"<code>aig why --witness circuit.aig {file}</code></p>")
         found = (f'<div class="two"><div><div class="wave">{names}<div class="scroll">{waves}</div></div>{more}</div>'
-                 f"<div><p><b>Why</b>, from the last frame back:</p>{_why(told.why)}</div></div>")
-        return Drawn(found, len(found) + letters // 1000 + sum(map(len, told.why)) // 100)
+                 f"<div><p><b>Why</b>, from the last frame back:</p>{_why(why)}</div></div>")
+        return Drawn(found, len(found) + letters // 1000 + sum(map(len, why)) // 100)
 
     def _story(self, row: Row) -> Optional[Story]:
         try:
@@ -219,11 +238,23 @@ class Sections:
             return (f"By an invariant: a certificate of {counted(facts['bad'], 'claim')} over "
                     f"{counted(facts['inputs'], 'latch')} ({counted(facts['gates'], 'gate')}), and a proof of "
                     f"{self._size(row, 'proof')} that it is right.")
-        return (f"Proof of {self._size(row, 'base')}. No induction of up to {counted(row.frames, 'frame')} and no "
-                "invariant was found.")
+        ended = f"No induction of up to {counted(row.frames, 'frame')} and no invariant was found."
+        return f"Proof of {self._size(row, 'base')}. {'The notes say what ended the search.' if row.notes else ended}"
 
     def _size(self, row: Row, role: str) -> str:
         return size(len(self._read(row.files[role])))
+
+
+def because(it: Judged, lines: Sequence[Line]) -> List[str]:
+    """The lines of `why`. The first one says which way: that a property is 1 means that its assertion fails."""
+    said = "is reached" if it.row.kind == "cover" else "fails"
+    seen = it.row.frames - 1
+    moment = f" {it.at}" if it.moment else ""
+    if it.moment is None or it.moment.number != seen:
+        moment += f", seen at frame {seen}"
+    asked = [line for line in lines[:1] if line.is_asked]
+    causes = asked[0].because if asked else " ".join(map(str, lines[0].kept))
+    return [f"{it.row.name} {said}{moment}: {causes}", *(line.text for line in lines[len(asked):])]
 
 
 def _why(lines: Sequence[str]) -> str:
@@ -239,11 +270,19 @@ def _why(lines: Sequence[str]) -> str:
 
 def _lines(lines: Sequence[str]) -> str:
     def words(line: str) -> str:
-        named = line.split(" ")
+        named = _LONG.sub("?…?", line).split(" ")
         left = [f"… {len(named) - MOST_CAUSES} more"] if len(named) > MOST_CAUSES else []
         return " ".join(f"<i>{escape(shortened(word, MOST_LINE))}</i>" for word in named[:MOST_CAUSES] + left)
 
     return f'<pre class="why">{"".join(f"<span>{words(line)}</span>" for line in lines)}</pre>'
+
+
+def _openers(row: Row) -> str:
+    """The commands that show a run: as a dump for a waveform viewer, and at a prompt."""
+    file = row.files["witness"]
+    words = f"--witness circuit.aig {file}"
+    lines = (f"$ aig wave {words} > {row.position}.vcd", f"$ aig shell {words}")
+    return f"<pre>{chr(10).join(map(escape, lines))}</pre>"
 
 
 def _commands(row: Row) -> str:

@@ -21,14 +21,18 @@ from .hints import has_hints, hinted
 from .manifest import FORMAT, SCRIPT_OF_YOSYS, rows_as_json
 from .questions import NO_ANSWER, NO_TIME, Questions
 from .recheck import check_row
-from .row import CIRCUIT, CONSTRAINTS, ENDINGS, Row, name_of
-from .tools import Clock, Stop, Stopped, version
+from .simulated import Simulated
+from .row import CIRCUIT, CONSTRAINTS, ENDINGS, LEFT_OUT, UNDECIDED, Row, name_of
+from .search import LAST_SECONDS, NUMBER
+from .tools import GRACE, Clock, Stop, Stopped, version
 from .workers import Workers
 
 # The manifest is written while rows come in, as long as that takes less than this part of the time.
 WRITING = 0.05
 # How long a wait for a worker takes until the user's wish to stop is looked at.
 LOOK = 0.5
+# The note on a row whose search the user ended.
+STOPPED = "stopped"
 # No search takes longer than this.
 MOST_SECONDS = 10.0**9
 
@@ -48,12 +52,15 @@ class Session:
         self.design, self.bounds, self.programs, self.only = design, bounds, programs, only
         self.stop = stop or Stop()
         self.rows = [Row(CONSTRAINTS, "constraints", "")]
-        self.rows += [Row(it.position, it.kind, it.name, it.file, it.first, it.last, it.of) for it in design.assertions]
+        self.rows += [Row(it.position, it.kind, it.name, it.file, it.first, it.last, it.of,
+                          UNDECIDED if only is None or it.position in only else LEFT_OUT) for it in design.assertions]
         self.seconds: Dict[int, float] = {}
         self.rejected: List[str] = []
         self.versions = self._versions()
         self.folder = Folder(path, max(MOST_BYTES, bounds.proof_megabytes << 20 or sys.maxsize))
+        self.simulated = Simulated()
         self._goes_further = True  # than an earlier run
+        self._was_stopped = False  # some search
         self._written = Clock()
         self._cost = 0.0
 
@@ -68,7 +75,8 @@ class Session:
             named["drat2lrat"] = self.programs.drat2lrat
         if self.design.script:
             named["yosys"] = "yosys"
-        return {key: version(name, self.stop) for key, name in named.items()}
+        versions = {key: version(name, self.stop) for key, name in named.items()}
+        return {**versions, "search": f"aig-verdicts: search {NUMBER}"}
 
     # -- the folder
 
@@ -98,7 +106,8 @@ class Session:
         return {row.position: row for row in old.rows}
 
     def _searched_so_far(self, manifest: Dict[str, Any]) -> bool:
-        """Whether the earlier run had the same programs, and bounds that are no smaller. Hints find no verdict."""
+        """Whether the earlier run had the same search and programs, and bounds that are no smaller. Hints find no
+        verdict."""
         def searching(versions: Dict[str, str]) -> Dict[str, str]:
             return {key: value for key, value in versions.items() if key != "drat2lrat"}
 
@@ -157,6 +166,7 @@ class Session:
             "format": FORMAT, "name": self.design.name, "notes": self.design.notes, "bounds": asdict(self.bounds),
             "options": self.design.options, "sources": list(self.design.sources), "rows": rows_as_json(self.rows),
             "versions": self.versions, "sums": self.folder.sums,
+            "timing": self.design.timing.facts() if self.design.timing else {}, "simulated": self.simulated.facts(),
         }
 
     def write(self, now: bool = False) -> None:
@@ -175,6 +185,9 @@ class Session:
         """Writes what a search found."""
         row = self.rows[found.position + 1]
         self.seconds[row.position] = round(found.seconds, 1)
+        if found.stopped:
+            self._was_stopped = True
+            found.notes += [STOPPED] * (found.by != "run")
         if row.by in ("bound", "kept") and found.by in ("", row.by) and found.frames <= row.frames:
             row.notes = found.notes  # an earlier search knows more
             return
@@ -190,7 +203,7 @@ class Session:
         """Lets go of what an earlier search found, before its files change."""
         if row.files:
             names = list(row.files.values())
-            row.verdict, row.by, row.frames, row.notes, row.files = "undecided", "", 0, [], {}
+            row.verdict, row.by, row.frames, row.notes, row.files = UNDECIDED, "", 0, [], {}
             for name in names:
                 self.folder.sums.pop(name)
             self.write(True)
@@ -221,7 +234,7 @@ class Session:
                 try:
                     for row in rows:
                         left[workers.submit(Task(None, row.position, self.bounds, self.programs))] = row
-                    return self._collect(left, len(rows), progress)
+                    return self._collect(left, progress, LAST_SECONDS + GRACE if executor is None else 0.0)
                 finally:
                     if left:
                         self.stop()
@@ -230,32 +243,31 @@ class Session:
         finally:
             self.write(True)
 
-    def _collect(self, left: Dict[Future[Found], Row], count: int, progress: Progress) -> bool:
-        """Takes what the workers find, until all is found or the user stops it."""
+    def _collect(self, left: Dict[Future[Found], Row], progress: Progress, last_seconds: float) -> bool:
+        """Takes what the workers find, until all is found or the user stops it: then workers that know of the stop get
+        some seconds to say what they know. Whether all was searched."""
+        count, stopped = len(left), False
         progress(0, count, None)
-        complete = True
-        while left:
+        while left and not stopped:
             stopped = self.stop.stopped
-            ready, _ = wait(left, timeout=0 if stopped else LOOK, return_when=FIRST_COMPLETED)
+            if stopped:
+                ready = wait([future for future in left if not future.cancel()], timeout=last_seconds).done
+            else:
+                ready = wait(left, timeout=LOOK, return_when=FIRST_COMPLETED).done
             for future in ready:
                 row = left.pop(future)
-                try:
-                    self.take(_result(future, row))
-                except Stopped:
-                    complete = False
+                self.take(_result(future, row))
                 progress(count - len(left), count, row)
-            if stopped:
-                return complete and not left
             if not ready:
                 progress(count - len(left), count, None)
-        return complete
+        for row in left.values():
+            row.notes = [*row.notes, STOPPED]
+        return not left and not self._was_stopped
 
 
 def _result(future: Future[Found], row: Row) -> Found:
     """What a worker found. If it died, its property is undecided, and the others go on."""
     try:
         return future.result()
-    except Stopped:
-        raise
     except Exception as error:
         return Found(row.position, notes=[f"worker: {type(error).__name__}: {str(error)[:200]}"])

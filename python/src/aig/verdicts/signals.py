@@ -1,9 +1,10 @@
-"""The names of a circuit's signals, as `aig why` forms them."""
+"""The names of a circuit's signals, as `aig why` forms them. Bits with falling indices are a vector too, as those of a
+vector [2:9] of Verilog come so."""
 
 from __future__ import annotations
 
 import re
-from typing import Dict, Iterable, List, NamedTuple, Sequence, Tuple
+from typing import Dict, Iterable, Iterator, List, NamedTuple, Sequence, Tuple
 
 from ..entries import Entry
 
@@ -37,11 +38,13 @@ class Names:
 
     all    in their order: inputs, latches, outputs; no output that has the name of an earlier signal
     words  the signals that have a word in their symbols
+    at     the signal of each of their places
     """
 
     def __init__(self, entries: Iterable[Entry]):
         self.all: List[Signal] = []
         self.words: Dict[str, List[Signal]] = {}
+        self.at: Dict[Place, Signal] = {}
         sections: Dict[str, List[Entry]] = {"i": [], "l": [], "o": []}
         for entry in entries:
             if entry.letter in sections:
@@ -56,6 +59,7 @@ class Names:
 
     def _add(self, signal: Signal, symbols: Sequence[str]) -> None:
         self.all.append(signal)
+        self.at.update((place, signal) for place in signal.places)
         words = {re.sub(r"\[[0-9]+\]$", "", word) for symbol in symbols for word in symbol.split(" ")}
         for word in sorted(words | {signal.name}):
             self.words.setdefault(word, []).append(signal)
@@ -89,7 +93,29 @@ def _signals(letter: str, entries: Sequence[Entry]) -> List[Signal]:
         if len(group) > 1:
             base = firsts[group[0]].rpartition("[")[0]
             vectors[base] = vectors.get(base, 0) + 1
-    return [Signal(_name(firsts[group[0]], len(group), vectors), letter, tuple(group)) for group in groups]
+    found = [Signal(_name(firsts[group[0]], len(group), vectors), letter, tuple(group)) for group in groups]
+    return list(_with_falling(found))
+
+
+def _with_falling(signals: Sequence[Signal]) -> Iterator[Signal]:
+    """The signals, with a vector in place of single bits `X[n]`, `X[n-1]`, .. that follow each other."""
+    waiting: List[Signal] = []
+    for signal in [*signals, None]:
+        last = _BIT.fullmatch(waiting[-1].name) if waiting else None
+        if signal and last and len(signal.positions) == 1 and signal.name == f"{last[1]}[{int(last[2]) - 1}]":
+            waiting.append(signal)
+            continue
+        if last and len(waiting) > 1:
+            most = waiting[0].name.rpartition("[")[2]
+            positions = tuple(it.positions[0] for it in waiting)
+            yield Signal(f"{last[1]}[{last[2]}:{most}", waiting[0].letter, positions)
+        else:
+            yield from waiting
+        waiting = []
+        if signal and len(signal.positions) == 1:
+            waiting = [signal]
+        elif signal:
+            yield signal
 
 
 def _name(first: str, bits: int, vectors: Dict[str, int]) -> str:

@@ -15,7 +15,7 @@ _PARTS = re.compile(
     re.DOTALL,
 )
 _QUIET = re.compile(r'//[^\n]*|/\*(?:[^*]|\*(?!/))*(?:\*/)?|"(?:\\.|[^"\\\n])*"', re.DOTALL)
-_CHECK = re.compile(r"\b(?:assert|cover)\b")
+_CHECK = re.compile(r"(?<!`)\b(?:assert|cover)\b")
 _MACRO = re.compile(r"`define[ \t]+(\w+)((?:\\\r?\n|[^\n])*)")
 _USE = re.compile(r"`(\w+)")
 # A delay comes after these; after a name `#` has parameters.
@@ -68,6 +68,7 @@ class Sources:
         self.texts: Dict[str, bytes] = {}
         self._folders = list(folders)
         self._names: Dict[Path, str] = {}
+        self._paths: Dict[str, Path] = {}
         self._waiting: List[Tuple[Path, str, bool]] = []
         first = [self._name(path, True) for path in paths]
         included: Set[str] = set()
@@ -93,7 +94,7 @@ class Sources:
             while name in taken:
                 count += 1
                 name = f"{stem}_{count}.{suffix}" if dot and stem else f"{wanted}_{count}"
-            self._names[at] = name
+            self._names[at], self._paths[name] = name, path
             self._waiting.append((path, name, has_directives))
         return self._names[at]
 
@@ -156,6 +157,12 @@ class Sources:
         if lists:
             notes.append(f"{places(lists)}: `always` with a list of signals is read as `always @*`")
         return notes
+
+    def as_written(self, message: str) -> str:
+        """A message with the paths of the user in its places, and without the columns."""
+        names = "|".join(re.escape(name) for name in sorted(self._paths, key=len, reverse=True))
+        place = re.compile(rf"(?<![\w./-])(?:sources/)?({names})(:\d+)(?:\.\d+(?:-\d+\.\d+)?)?")
+        return place.sub(lambda it: f"{self._paths[it[1]]}{it[2]}", message)
 
     def write(self, folder: Path) -> None:
         for name, text in self.texts.items():

@@ -7,7 +7,8 @@ from __future__ import annotations
 import hashlib
 import re
 from dataclasses import dataclass, field
-from typing import FrozenSet, Iterator, List, Optional, Sequence, Tuple
+from itertools import groupby
+from typing import FrozenSet, Iterator, List, NamedTuple, Optional, Sequence, Tuple
 
 # The least width of a frame, the height of a lane and the gap below it, the width of a letter, what is above and below.
 CELL, LANE, GAP, LETTER, TOP, BOTTOM = 30, 22, 8, 7.3, 26, 20
@@ -27,6 +28,7 @@ STYLE = """\
 .w .edge{stroke:var(--edge);stroke-width:1.6;stroke-dasharray:4 2;fill:none}
 .w .mark{fill:var(--edge);font-weight:bold}.w .h{stroke:var(--pale);stroke-width:1}
 .w .xb{stroke:var(--pale);stroke-width:.8}.w .xb.k{stroke:var(--key);stroke-width:2.4}.w .s{font-weight:bold}
+.w .f{fill:var(--pale);font-style:italic;font-weight:normal;stroke:var(--paper);stroke-width:3px;paint-order:stroke}
 """
 
 
@@ -36,12 +38,14 @@ class Lane:
 
     keys    frames whose value is a cause
     strong  whether the name stands out
+    filled  the values of a run in which each x of this one is 0, or nothing
     """
 
     name: str
     values: Sequence[str]
     keys: FrozenSet[int] = field(default_factory=frozenset)
     strong: bool = False
+    filled: Sequence[str] = ()
 
 
 def escape(text: str) -> str:
@@ -78,6 +82,23 @@ def hexadecimal(bits: str) -> str:
     padded = "0" * (-len(bits) % 4) + bits
     digits = [padded[at : at + 4] for at in range(0, len(padded), 4)]
     return "".join("x" if "x" in digit else f"{int(digit, 2):x}" for digit in digits)
+
+
+class Digits(NamedTuple):
+    """Hex digits next to each other, and whether each has an x in it."""
+
+    text: str
+    are_free: bool
+
+
+def digits(bits: str, filled: str) -> List[Digits]:
+    """The hex digits of a value. One that has an x is that of the other value, where there is one."""
+    known = hexadecimal(bits) or "x" * -(-len(bits) // 4)
+    if not filled:
+        return [Digits(hexadecimal(bits), False)]
+    pairs = zip(hexadecimal(filled), known)
+    return [Digits("".join(digit for digit, _ in group), are_free)
+            for are_free, group in groupby(pairs, lambda pair: pair[1] == "x")]
 
 
 def shortened(name: str, most: int = 26) -> str:
@@ -118,8 +139,8 @@ class _Picture:
         self.failing = None if failing is None else column_of.get(failing)
         self.room = int(max([len(shortened(visible(lane.name))) for lane in lanes] + [5]) * LETTER) + 14
         self.left = self.room if alone else 0
-        wide = max((len(hexadecimal(lane.values[frame])) for lane in lanes for frame in column_of
-                    if len(lane.values[frame]) > 1), default=0)
+        wide = max((len(hexadecimal(value)) for lane in lanes for frame in column_of
+                    for value in (lane.values[frame], *lane.filled[frame : frame + 1]) if len(value) > 1), default=0)
         self.cell = max(CELL, min(84, int(wide * LETTER + 14)))
         self.width = max(self.left + self.cell * len(self.shown) + 6, self.left + 74)
         self.height = TOP + len(lanes) * (LANE + GAP) + BOTTOM
@@ -184,7 +205,7 @@ class _Picture:
 
     def _lane(self, lane: Lane, y: int) -> Iterator[str]:
         before: Optional[Tuple[int, str]] = None
-        for begin, end, value, key in _spans(lane, self.shown):
+        for begin, end, value, filled, key in _spans(lane, self.shown):
             if set(value) == {"x"}:
                 yield self._unknown(self.x(begin), self.x(end), y, len(value), key)
             elif len(value) == 1:
@@ -192,6 +213,8 @@ class _Picture:
                 yield _level(self.x(begin), self.x(end), y, value, turns, key)
             else:
                 yield _vector(self.x(begin), self.x(end), y, value, key)
+            if len(value) > 1:
+                yield _number_of(self.x(begin), self.x(end), y, digits(value, filled), key)
             before = end, value
 
     def _unknown(self, x: int, to: int, y: int, bits: int, key: bool) -> str:
@@ -199,17 +222,19 @@ class _Picture:
                 f'height="{LANE - 4}" fill="url(#{self.ident})"><title>{_start("x" * bits)}: any value</title></rect>')
 
 
-def _spans(lane: Lane, shown: Sequence[Optional[int]]) -> List[Tuple[int, int, str, bool]]:
-    """Columns from and to with the same value, and whether it is a cause. Frames that are left out begin a new one."""
-    spans: List[Tuple[int, int, str, bool]] = []
+def _spans(lane: Lane, shown: Sequence[Optional[int]]) -> List[Tuple[int, int, str, str, bool]]:
+    """Columns from and to with the same value and the same filled one, and whether it is a cause. Frames that are left
+    out begin a new one."""
+    spans: List[Tuple[int, int, str, str, bool]] = []
     goes_on = False
     for column, frame in enumerate(shown):
         if frame is not None:
             value, key = lane.values[frame], frame in lane.keys
-            if goes_on and spans[-1][2:] == (value, key):
-                spans[-1] = (spans[-1][0], column + 1, value, key)
+            filled = lane.filled[frame] if lane.filled and len(value) > 1 else ""
+            if goes_on and spans[-1][2:] == (value, filled, key):
+                spans[-1] = (spans[-1][0], column + 1, value, filled, key)
             else:
-                spans.append((column, column + 1, value, key))
+                spans.append((column, column + 1, value, filled, key))
         goes_on = frame is not None
     return spans
 
@@ -227,10 +252,19 @@ def _level(x: int, to: int, y: int, value: str, turns: bool, key: bool) -> str:
 
 def _vector(x: int, to: int, y: int, value: str, key: bool) -> str:
     high, low, middle = y + 2, y + LANE - 2, y + LANE // 2
-    text = hexadecimal(value)
-    room = int((to - x - 8) / LETTER)
-    shown = text if len(text) <= room else text[: max(room - 1, 0)] + "…"
     outline = f"M{x + 1} {middle}L{x + 5} {high}H{to - 5}L{to - 1} {middle}L{to - 5} {low}H{x + 5}Z"
-    return (f'<path class="b{" k" if key else ""}" d="{outline}"><title>{len(value)}&#39;b{_start(value)}</title></path>'
-            f'<text class="{"v" if key else "pale"}" x="{(x + to) / 2:g}" y="{y + LANE - 6}" text-anchor="middle">'
-            f"{shown}</text>")
+    return f'<path class="b{" k" if key else ""}" d="{outline}"><title>{len(value)}&#39;b{_start(value)}</title></path>'
+
+
+def _number_of(x: int, to: int, y: int, parts_of_it: Sequence[Digits], key: bool) -> str:
+    """The digits of a value, as many as there is room for."""
+    room = int((to - x - 8) / LETTER)
+    is_cut = sum(len(it.text) for it in parts_of_it) > room
+    left = max(room - 1, 0) if is_cut else room
+    shown = []
+    for text, are_free in parts_of_it:
+        text, left = text[:left], left - len(text[:left])
+        shown.append(f'<tspan class="f">{text}</tspan>' if are_free and text else text)
+    said = "".join(shown) + "…" * is_cut
+    return (f'<text class="{"v" if key else "pale"}" x="{(x + to) / 2:g}" y="{y + LANE - 6}" text-anchor="middle">'
+            f"{said}</text>" if said else "")

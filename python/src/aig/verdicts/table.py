@@ -5,11 +5,13 @@ from __future__ import annotations
 import re
 from typing import Dict, List, Sequence, Tuple
 
-from .judge import Judged
+from .judge import DISAGREES, Judged
+from .row import LEFT_OUT
 from .svg import escape, visible
 
 # What a CI server takes a result for.
-JUNIT = {"fails": "failure", "never": "failure", "vacuous": "failure", "bounded": "skipped", "undecided": "error"}
+JUNIT = {"fails": "failure", "never": "failure", "vacuous": "failure", "bounded": "skipped", LEFT_OUT: "skipped",
+         "undecided": "error", DISAGREES: "error"}
 # The widest column; a longer name moves the rest of its own line alone.
 MOST_WIDE = 120
 _NO_XML = re.compile("[^\t\n\x20-\ud7ff\ue000-\ufffd\U00010000-\U0010ffff]")
@@ -27,7 +29,8 @@ def cells(it: Judged) -> List[str]:
     """The columns: position, place, kind, name, verdict, what it was found by, files."""
     row = it.row
     place = f"{row.file}:{row.last}" if row.file else ""
-    shown = "; ".join(part for part in (it.by or it.why, it.doubt) if part)
+    denial = it.simulated if it.result == DISAGREES else it.denied
+    shown = "; ".join(part for part in (it.by or it.why, it.doubt, denial) if part)
     return [row.label, place, row.kind, row.name, it.words, shown, " ".join(row.files.values())]
 
 
@@ -39,8 +42,8 @@ def text(table: Sequence[Judged]) -> str:
 
 
 def junit(name: str, table: Sequence[Judged], seconds: Dict[int, float]) -> str:
-    """A failing, vacuous or never reached one is a failure; one that is known for some frames alone is skipped; one
-    that is undecided is an error."""
+    """A failing, vacuous or never reached one is a failure; one that is known for some frames alone or was left out is
+    skipped; one that is undecided is an error."""
     cases = [_case(name, it, seconds.get(it.row.position, 0.0)) for it in table]
     counts = {tag: sum(found == tag for found, _ in cases) for tag in ("failure", "error", "skipped")}
     heading = (f'tests="{len(cases)}" failures="{counts["failure"]}" errors="{counts["error"]}" '
@@ -56,7 +59,8 @@ def _case(name: str, it: Judged, seconds: float) -> Tuple[str, str]:
     attributes = f'classname="{_xml(name)}.{row.kind}" name="{_xml(row.name)}" time="{seconds:.1f}"'
     if row.file:
         attributes += f' file="{_xml(row.file)}" line="{row.last}"'
-    detail = "\n".join(part for part in [it.by, it.why, it.doubt, *row.notes, *row.files.values()] if part)
+    parts = [it.by, it.why, it.doubt, it.denied, it.simulated, *row.notes, *row.files.values()]
+    detail = "\n".join(part for part in parts if part)
     if tag:
         inner = f'<{tag} message="{_xml(it.words)}">{_xml(detail)}</{tag}>'
     else:

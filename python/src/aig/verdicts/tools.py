@@ -7,21 +7,28 @@ import shutil
 import signal
 import subprocess
 import tempfile
+import textwrap
 import threading
 import time
+from contextlib import contextmanager
 from dataclasses import dataclass
 from pathlib import Path
-from typing import List, Mapping, Optional, Sequence, Set
+from typing import Iterator, List, Mapping, Optional, Sequence, Set
 
 from .._program import held, program
 from ..errors import error_of
 
 # Seconds that a program gets after its own limit, before it is killed.
 GRACE = 2.0
+# What installs Yosys, a solver and ABC.
+INSTALL = "apt install yosys cadical"
+_INSTALLED = ("yosys", "cadical", "berkeley-abc", "yosys-abc")
 VERSION_SECONDS = 4.0
 # How much of a program's output is read.
 MOST_OUTPUT = 1 << 28
 MOST_ERROR = 1 << 16
+# How long the last line of it may be in a message.
+MOST_SAID = 400
 
 
 class Stopped(Exception):
@@ -42,8 +49,9 @@ class Ran:
 
     @property
     def said(self) -> str:
-        words = (self.err or self.out).decode("utf-8", "replace").strip()
-        return words[-400:] if words else "nothing"
+        """The last line of it."""
+        lines = (self.err or self.out).decode("utf-8", "replace").strip().splitlines()
+        return textwrap.shorten(lines[-1], MOST_SAID, placeholder=" ..") if lines else "nothing"
 
 
 class Stop:
@@ -85,23 +93,43 @@ def _kill(process: subprocess.Popen[bytes]) -> None:
             pass
 
 
+def missing(name: str) -> str:
+    """What to say of a program that is not there; nothing if it is there."""
+    if shutil.which(name) is not None:
+        return ""
+    return f"there is no program {name} on the path" + f" ({INSTALL})" * (name in _INSTALLED)
+
+
 def found(name: str) -> str:
     """The path of a program, from any folder."""
     path = shutil.which(name)
     if path is None:
-        raise ToolFailed(f"there is no program {name} on the path")
+        raise ToolFailed(missing(name))
     return os.path.abspath(path)
 
 
+@contextmanager
+def soon(seconds: float) -> Iterator[Stop]:
+    """A Stop that ends what runs after so many seconds."""
+    stop = Stop()
+    timer = threading.Timer(seconds, stop)
+    timer.daemon = True
+    timer.start()
+    try:
+        yield stop
+    finally:
+        timer.cancel()
+
+
 def run(words: Sequence[str], folder: Path, seconds: float, stop: Stop, megabytes: int = 0,
-        file_megabytes: int = 0) -> Ran:
-    """Runs a program in a folder, with limits on its memory and on each file that it writes (0 is none). Its output
-    goes to files there, so no pipe fills up."""
+        file_megabytes: int = 0, processor_seconds: int = 0) -> Ran:
+    """Runs a program in a folder, with limits on its memory, on each file that it writes and on its processor time (0 is
+    none). Its output goes to files there, so no pipe fills up."""
     stop.look()
     out, err = folder / "out", folder / "err"
     with out.open("wb") as to, err.open("wb") as wrong:
-        process = subprocess.Popen(_bounded(words, megabytes, file_megabytes), cwd=folder, stdin=subprocess.DEVNULL,
-                                   stdout=to, stderr=wrong, start_new_session=True)
+        process = subprocess.Popen(_bounded(words, megabytes, file_megabytes, processor_seconds), cwd=folder,
+                                   stdin=subprocess.DEVNULL, stdout=to, stderr=wrong, start_new_session=True)
         stop.begin(process)
         try:
             status: Optional[int] = process.wait(seconds + GRACE)
@@ -114,10 +142,11 @@ def run(words: Sequence[str], folder: Path, seconds: float, stop: Stop, megabyte
     return Ran(status, _start_of(out, MOST_OUTPUT), _start_of(err, MOST_ERROR))
 
 
-def _bounded(words: Sequence[str], megabytes: int, file_megabytes: int) -> List[str]:
+def _bounded(words: Sequence[str], megabytes: int, file_megabytes: int, processor_seconds: int) -> List[str]:
     """A shell that sets the limits before the program begins: what the program starts has them too."""
     bounds = [f"ulimit -f {file_megabytes * 2048}"] * (file_megabytes > 0)
     bounds += [f"ulimit -v {megabytes * 1024}"] * (megabytes > 0)
+    bounds += [f"ulimit -t {processor_seconds}"] * (processor_seconds > 0)
     return ["/bin/sh", "-c", "; ".join([*bounds, 'exec "$@"']), "sh", found(words[0]), *words[1:]]
 
 

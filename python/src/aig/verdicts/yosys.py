@@ -12,12 +12,20 @@ import re
 from pathlib import Path
 from typing import Any, Dict, Iterator, List, Optional, Sequence, Set, Tuple
 
-from .lax import constant_outputs, drivers_of_a_bit, has_race, lost_widths, place, signed_addresses
+from . import left_out, processes, rtlil
+from .labels import REPEATED, Label, as_blocks, give_names, labels
+from .lax import ends_of_simulation, wired_outputs
+from .lowered import lower
+from .messages import failure
+from .misread import own_warnings
+from .places import with_place
 from .sources import places
 from .tools import Stop, ToolFailed, run
+from .warnings import differing
+from .wiring import has_loop, loops
 
-# Cells with values that Verilog leaves open. `$pmux` is the one of a `parallel_case`: the first item that matches counts.
-# Its last input is the first item. No value of a circuit is x, so nothing is equal to an x that is written in `===`.
+# Cells with values that Verilog leaves open. No value of a circuit is x, so nothing is equal to an x that is written in
+# `===`.
 _UNKNOWN = r"""
 (* techmap_celltype = "$div $mod $divfloor $modfloor" *)
 module by_zero(A, B, Y);
@@ -52,16 +60,6 @@ module equal_to_x(A, B, Y);
   input [A_WIDTH-1:0] A; input [B_WIDTH-1:0] B; output [Y_WIDTH-1:0] Y;
   wire _TECHMAP_FAIL_ = ^(_TECHMAP_CONSTMSK_A_ & _TECHMAP_CONSTVAL_A_) !== 1'bx && ^(_TECHMAP_CONSTMSK_B_ & _TECHMAP_CONSTVAL_B_) !== 1'bx;
   assign Y = _TECHMAP_CELLTYPE_ == "$nex";
-endmodule
-(* techmap_celltype = "$pmux" *)
-module first_item(A, B, S, Y);
-  parameter WIDTH = 1, S_WIDTH = 1;
-  input [WIDTH-1:0] A; input [WIDTH*S_WIDTH-1:0] B; input [S_WIDTH-1:0] S; output [WIDTH-1:0] Y;
-  wire [WIDTH*(S_WIDTH+1)-1:0] R;
-  assign R[WIDTH-1:0] = A;
-  genvar k;
-  generate for (k = 0; k < S_WIDTH; k = k + 1) assign R[WIDTH*(k+1) +: WIDTH] = S[k] ? B[WIDTH*k +: WIDTH] : R[WIDTH*k +: WIDTH]; endgenerate
-  assign Y = R[WIDTH*S_WIDTH +: WIDTH];
 endmodule"""
 
 # `memory_memx` asks whether an address has an x. None has, for all of them are free values by then.
@@ -74,7 +72,7 @@ module address_without_x(A, B, Y);
 endmodule"""
 
 # A cover becomes an assertion that it never happens. An assertion under an `if` gets a twin, which says that the `if` never
-# happens: if that is proved, nothing was asserted.
+# happens: if that is proved, nothing was asserted. So does one that Yosys says is never asserted.
 _TWINS = r"""
 (* techmap_celltype = "$cover" *)
 module cover_of_yosys(input A, input EN);
@@ -82,6 +80,8 @@ module cover_of_yosys(input A, input EN);
 endmodule
 (* techmap_celltype = "$assert" *)
 module assert_of_yosys(input A, input EN);
+  parameter _TECHMAP_CONSTMSK_EN_ = 0, _TECHMAP_CONSTVAL_EN_ = 0;
+  wire _TECHMAP_FAIL_ = _TECHMAP_CONSTMSK_EN_ && _TECHMAP_CONSTVAL_EN_;
   \$assert _TECHMAP_REPLACE_ (.A(A), .EN(EN));
   \$assert \_TECHMAP_REPLACE_.condition (.A(1'b0), .EN(EN));
 endmodule"""
@@ -96,17 +96,40 @@ def _map(name: str, text: str) -> List[str]:
 
 
 def reading(sources: Sequence[str], top: Optional[str], defines: Sequence[str]) -> List[str]:
+    """The commands that read the sources."""
+    return [
+        " ".join(["tee -q -o tree read_verilog -sv -formal -dump_ast1 -no_dump_ptr", *(f"-D{it}" for it in defines), *sources]),
+        f"hierarchy -check {f'-top {top}' if top else '-auto-top'}",
+        "write_rtlil read.il", "design -reset",
+    ]
+
+
+# What Yosys says of `$finish` and `$stop` in a clocked block.
+_ENDS = "outside initial block is unsupported"
+
+# What is done with the files between these commands.
+PREPARED = ("# here aig-verdicts works on read.il: it makes each cell $check an assertion with registers (lowered.py), leaves out boxes,\n"
+            "# unread memories and loop variables (left_out.py), writes some processes anew (processes.py: prepared), and gives\n"
+            "# assertions the names of blocks that were made of labels (labels.py)")
+NAMED = ("# here aig-verdicts makes circuit.aig of made.aig: the names and the order of inputs, latches, outputs and properties are\n"
+         "# others, and inputs that nothing reads are gone (names.py)")
+SETTLED = "# here aig-verdicts works on reset.il: it keeps the order of asynchronous values, and clocks assertions (processes.py: settled)"
+
+
+def resetting() -> List[str]:
+    """The commands that find asynchronous resets."""
+    return ["read_rtlil read.il", "proc_clean", "proc_rmdead", "proc_prune", "proc_init", "proc_arst", "write_rtlil reset.il",
+            "design -reset"]
+
+
+def flattening() -> List[str]:
     """The commands up to one flat module with all of its cells. Equal assertions are kept apart from the beginning."""
     return [
         *_map("unknown", _UNKNOWN), *_map("addresses", _ADDRESSES),
-        " ".join(["tee -q -o tree read_verilog -sv -formal -dump_ast1 -no_dump_ptr", *(f"-D{it}" for it in defines), *sources]),
-        f"hierarchy -check {f'-top {top}' if top else '-auto-top'}",
-        "tee -q -o items dump",
-        "proc -norom",
+        "read_rtlil reset.il", "proc_mux", "proc_dlatch", "proc_dff", "proc_memwr", "proc_clean", "opt_expr -keepdc",
         "setattr -set keep 1 t:$assert t:$cover t:$assume",
         "json -o modules.json",
         "techmap -max_iter 1 -map %unknown t:$div t:$mod t:$divfloor t:$modfloor t:$shiftx t:$eqx t:$nex",
-        "techmap -max_iter 1 -map %unknown t:$pmux a:parallel_case %i",
         "select -set idle w:$*$memwr$*_ADDR* w:$*$memwr$*_DATA* %u w:$*$formal$*_CHECK* %u",
         *["select -set idle @idle @idle %ci1:-[S] w:$procmux$*_Y c:$procmux$* %u %i %u"] * _STEPS,
         "opt_expr -mux_undef @idle",
@@ -119,7 +142,7 @@ def making(one_clock: bool, conditions: bool, wires: bool) -> List[str]:
     """The commands from the flat module to an AIGER file. Where there is one clock, each frame is a cycle of it."""
     return [
         *_map("twins", _TWINS), "read_rtlil flat.il",
-        *(["select -set guarded w:* %co1:+[EN] t:$assert %i", "techmap -max_iter 1 -map %twins @guarded"] if conditions else []),
+        *(["techmap -max_iter 1 -map %twins t:$assert"] if conditions else []),
         "techmap -max_iter 1 -map %twins t:$cover",
         "setattr -set keep 1 t:$assert", "chformal -live -fair -remove",
         # an assumption at a clock's edge is one on the values that the edge samples
@@ -132,8 +155,10 @@ def making(one_clock: bool, conditions: bool, wires: bool) -> List[str]:
         "formalff -clk2ff -ff2anyinit",
         "setundef -undriven -anyseq", "wreduce -keepdc", "opt -fine -keepdc",
         "techmap", "setundef -undriven -anyseq", "opt -fast",
-        "aigmap", "opt_merge", "opt_clean", "formalff -anyinit2ff -fine", "opt_clean",
-        "tee -q -o order select -list t:$assert", "write_aiger -symbols -vmap names made.aig",
+        "aigmap", "opt_merge", "opt_clean", "formalff -anyinit2ff -fine", "opt_clean", "check",
+        "tee -q -o order select -list t:$assert", "tee -q -o assumed select -list t:$assume", "write_aiger -symbols made.aig",
+        # `-vmap` of Yosys 0.52 crashes where two outputs are one wire; without outputs the numbers are the same
+        "delete -output w:*", "logger -nowarn \"Treating .*undriven\"", "write_aiger -vmap names numbers.aig",
     ]
 
 
@@ -149,15 +174,84 @@ class Yosys:
         ran = run([self._program, "-q", "-s", "script.ys"], self.folder, self._seconds, self._stop)
         if ran.status is None:
             raise ToolFailed(f"yosys did not end in {self._seconds:g} s")
+        self.warnings += _warnings((ran.err + ran.out).decode("utf-8", "replace").splitlines())
         if ran.status != 0:
-            raise ToolFailed(f"yosys ended with status {ran.status}: {ran.said}")
-        for line in (ran.err + ran.out).decode("utf-8", "replace").splitlines():
-            if "Warning: " in line:
-                place, _, text = line.partition("Warning: ")
-                self.warnings.append(place + text.strip().rstrip("."))
+            is_read = (self.folder / "tree").is_file()
+            raise ToolFailed(with_place(failure(ran), self.text("tree").splitlines() if is_read else []))
+
+    def read(self, commands: Sequence[str]) -> bool:
+        """Reads the sources. Whether labels of assertions had to become blocks in the copies that Yosys reads."""
+        known: Set[Label] = set()
+        while True:
+            try:
+                self.run(commands)
+                return bool(known)
+            except ToolFailed as error:
+                if _ENDS in str(error):
+                    found_ends = ends_of_simulation(self.text("tree").splitlines())
+                    raise ToolFailed(f"{places(found_ends)}: `$finish` or `$stop` outside of an `initial`: use an assertion") from None
+                if REPEATED not in str(error):
+                    raise
+                found = labels(self.text("tree").splitlines())
+                if found <= known:
+                    raise ToolFailed(f"{error}: leave out the label") from None
+                known |= found
+            for path in (self.folder / "sources").iterdir():
+                text = path.read_bytes().decode("latin-1")
+                path.write_bytes(as_blocks(path.name, text, known).encode("latin-1"))
+
+    def make(self, commands: Sequence[str], flat: Dict[str, Any]) -> None:
+        """Runs the commands that end with the AIGER file. A loop of gates is none of it, and `write_aiger` crashes there."""
+        of_words, self.warnings = self.warnings, []
+        try:
+            self.run(commands)
+        except ToolFailed:
+            if not has_loop(self.warnings):
+                raise
+        if has_loop(self.warnings):
+            raise ToolFailed(f"{places(loops(of_words, self.warnings, flat))}: a loop of gates without a register, as a latch that is made of gates")
+        self.warnings = [warning for warning in of_words if not has_loop([warning])] + self.warnings
+        self.look_at_warnings()
+
+    def look_at_warnings(self) -> None:
+        """Stops at a warning that says that the netlist may not be that of the source."""
+        for line in differing(self.warnings, own_warnings(self.text("tree").splitlines())):
+            raise ToolFailed(f"{line}: the circuit may not be that of the source")
+
+    def prepare(self, free: Sequence[str]) -> List[str]:
+        """Between `hierarchy` and `proc`: what Yosys would read in another way is written anew. Returns notes."""
+        design = rtlil.read(self.text("read.il"))
+        lower(design)
+        for module in design.modules:
+            give_names(module)
+        wired = [it for module in design.modules for it in wired_outputs(module)]
+        if wired:
+            raise ToolFailed(f"{places(wired)}: an output of an instance drives a `wand` or `wor`: give it a wire of its own")
+        said = left_out.open_boxes(design, free)
+        unread = [it for module in design.modules for it in left_out.drop_unread_memories(module)]
+        for module in design.modules:
+            left_out.drop_loop_variables(module)
+            processes.prepared(module)
+        self.write("read.il", design)
+        return said + [f"{it} is a memory that nothing reads, and is left out" for it in unread]
+
+    def settle(self) -> List[str]:
+        """Between `proc_arst` and the rest of `proc`: asynchronous values in the order of the source. Returns notes."""
+        design = rtlil.read(self.text("reset.il"))
+        found = [it for module in design.modules for it in processes.settled(module)]
+        self.write("reset.il", design)
+        return [f"{it} has an asynchronous set and reset: where one ends while the other is on, the circuit takes the value of the "
+                "other one, as hardware does, and a simulation keeps the old one" for it in found]
+
+    def write(self, name: str, design: rtlil.Text) -> None:
+        (self.folder / name).write_text(design.text(), encoding="latin-1")
 
     def text(self, name: str) -> str:
         return (self.folder / name).read_text(encoding="latin-1")
+
+    def cells_in(self, name: str) -> List[str]:
+        """The cells that `select -list` wrote."""
+        return [line.split("/", 1)[1] for line in self.text(name).splitlines() if "/" in line]
 
     def modules(self, name: str) -> Dict[str, Any]:
         """The modules that Yosys' `json` wrote."""
@@ -165,12 +259,24 @@ class Yosys:
         return modules
 
 
+def _warnings(lines: Sequence[str]) -> List[str]:
+    """What Yosys warns of. Lines that are indented belong to the warning above them."""
+    found: List[str] = []
+    is_one = False
+    for line in lines:
+        if "Warning: " in line:
+            where, _, text = line.partition("Warning: ")
+            found.append(where + text.strip().rstrip("."))
+        elif is_one and line.startswith("    "):
+            found[-1] += "\n" + line.strip()
+        is_one = "Warning: " in line or is_one and line.startswith("    ")
+    return found
+
+
 # -- what the modules say
 
 
 CHECKS = ("$assert", "$cover")
-SEVERAL_CLOCKS = "registers have several clocks or edges, or a clock that is computed or read as data: a frame is the time between changes of clocks"
-MOST_NOTES = 20
 
 
 def instances(modules: Dict[str, Any], top: str) -> Dict[str, int]:
@@ -212,7 +318,7 @@ def cells(modules: Dict[str, Any]) -> Iterator[Tuple[str, Dict[str, Any]]]:
         yield from module["cells"].items()
 
 
-def _inputs(cell: Dict[str, Any]) -> Iterator[Tuple[str, List[Any]]]:
+def inputs_of(cell: Dict[str, Any]) -> Iterator[Tuple[str, List[Any]]]:
     for port, bits in cell["connections"].items():
         if cell["port_directions"].get(port) != "output":
             yield port, bits
@@ -226,9 +332,9 @@ def one_clock(flat: Dict[str, Any]) -> bool:
     has_steps = False  # registers of each frame, whatever the clock is
     for cell in module["cells"].values():
         has_steps |= cell["type"] == "$ff"
-        clocks = _clocks(cell)
+        clocks = clock_edges(cell)
         edges.update(edge for port in clocks.values() for edge in port)
-        for port, bits in _inputs(cell):
+        for port, bits in inputs_of(cell):
             if port not in clocks:
                 read.update(bits)
     if not edges:
@@ -238,7 +344,7 @@ def one_clock(flat: Dict[str, Any]) -> bool:
     return not others and not has_steps and clock in inputs and clock not in read
 
 
-def _clocks(cell: Dict[str, Any]) -> Dict[str, List[Tuple[Any, int]]]:
+def clock_edges(cell: Dict[str, Any]) -> Dict[str, List[Tuple[Any, int]]]:
     """The ports that read clocks, and each clock with its edge."""
     ports = {}
     for port in ("CLK", "RD_CLK", "WR_CLK"):
@@ -250,56 +356,3 @@ def _clocks(cell: Dict[str, Any]) -> Dict[str, List[Tuple[Any, int]]]:
             enabled, edge = parameter("ENABLE").ljust(len(bits), "0"), parameter("POLARITY").ljust(len(bits), "0")
             ports[port] = [(bit, int(edge[k])) for k, bit in enumerate(bits) if enabled[k] == "1"]
     return ports
-
-
-# -- what is wrong, and what a reader of the verdicts has to know
-
-
-def live_places(modules: Dict[str, Any]) -> List[str]:
-    return [place(cell) for _, cell in cells(modules) if cell["type"] == "$live"]
-
-
-def look(runs: Yosys, modules: Dict[str, Any], flat: Dict[str, Any]) -> None:
-    """Rejects what would make a circuit of another design."""
-    for warning in runs.warnings:
-        match = re.match(r"(?:sources/)?(.*?:\d+): Identifier `\\?(\S*\.\S*)' is implicitly declared", warning)
-        if match:
-            raise ToolFailed(f"{match[1]}: {match[2]} is a name inside of an instance, and Yosys has implicitly declared a wire without a driver: make it a port")
-        if "multiple conflicting drivers" in warning:
-            raise ToolFailed(f"Yosys: {warning}: a wire has several drivers")
-    twice = drivers_of_a_bit(runs.text("flat.il").splitlines()) + constant_outputs(cell for _, cell in cells(flat))
-    if twice:
-        raise ToolFailed(f"{places(twice)} has several drivers, or is an input that is driven, and one of them is a constant")
-    items = [line for line in runs.text("items").splitlines() if re.match(r"\s*case (?:.*[ ,{])?\d+'[01-]*[xz]", line)]
-    if items:
-        raise ToolFailed("an item of a `case` has x or z, which no value is equal to: `casez` and `casex` have items with ?")
-    lost = lost_widths(runs.text("tree").splitlines())
-    if lost:
-        raise ToolFailed(f"{places(lost)}: a function or task gets a constant expression that is narrower than 32 bits, and Yosys leaves out the width of its input: name the value, as with a `wire`")
-    signed = [place for module in modules.values() for place in signed_addresses(module)]
-    if signed:
-        raise ToolFailed(f"{places(signed)}: the address of a memory is signed, and Yosys reads a negative one as a positive one: write a 0 in front of one without sign, as with {{1'b0, a}}")
-    lowered = [place(cell) for _, cell in cells(modules) if cell["type"] == "$check"]
-    if lowered:
-        raise ToolFailed(f"{places(lowered)}: this Yosys writes assertions as `$check`, and the script is for Yosys 0.23")
-
-
-def notes(runs: Yosys, modules: Dict[str, Any], flat: Dict[str, Any], has_one_clock: bool) -> List[str]:
-    """What a reader of the verdicts has to know, the loudest first."""
-    said = [] if has_one_clock else [SEVERAL_CLOCKS]
-    unknown = [place(cell) for _, cell in cells(modules) if cell["type"] in ("$eqx", "$nex")
-               and any(bit in ("x", "z") for _, bits in _inputs(cell) for bit in bits)]
-    if unknown:
-        said.append(f"{places(unknown)}: compares with x or z. No value of a circuit is x, so `===` is 0 there and `!==` is 1, also for a register without initial value")
-    live = live_places(modules)
-    if live:
-        said.append(f"{places(live)}: no row, for it asks for liveness")
-    waits = [place(cell) for _, cell in cells(flat) if re.match(r"\$(adff|aldff|dffsr|dlatch|adlatch|sr)", cell["type"])]
-    if waits and has_one_clock:
-        said.append(f"{places(waits)}: asynchronous resets and latches follow their inputs once a frame")
-    writers = [place(cell) for _, cell in cells(flat) if cell["type"] == "$mem_v2" and has_race(cell)]
-    if writers:
-        said.append(f"{places(writers)}: several blocks write a memory. Where two of them write one word at once, Verilog does not say which value it gets, and the circuit takes one of them")
-    warned = [re.sub(r"\bsources/", "", f"Yosys: {warning}") for warning in runs.warnings]
-    return said + list(dict.fromkeys(warned))[:MOST_NOTES]
-

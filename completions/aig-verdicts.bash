@@ -1,0 +1,22 @@
+# Completion of `aig-verdicts` for bash: put it where bash-completion looks, or `source` it. It works without that.
+# tools/make_completions.py writes aig-verdicts.bash: its options from the help of aig-verdicts, all else from
+# aig-verdicts.bash.in.
+
+_aig_verdicts() {
+    local -A options=(
+        [run]="--abc --conflicts --dask --define --drat2lrat --frames --free --help --hints --include --jobs --json --junit --megabytes --no-conditions --no-simulator --no-wires --only --out --proof-megabytes --quiet --seconds --simulator --solver --top --verbose --zip"
+        [demo]="--help"
+        [recheck]="--help --include --jobs --json --junit --megabytes --page --quiet --simulate --simulator --sources --yosys"
+        [replay]="--help --hold --only --random --simulator --to --verbose"
+    )
+    local word=${COMP_WORDS[COMP_CWORD]} words=""
+    if ((COMP_CWORD == 1)); then
+        words="${!options[*]} --help --version"
+    elif [[ $word == -* ]]; then
+        words=${options[${COMP_WORDS[1]}]-}
+    fi
+    mapfile -t COMPREPLY < <(compgen -W "$words" -- "$word")
+}
+
+# Where the function finds nothing, bash completes files.
+complete -o bashdefault -o default -F _aig_verdicts aig-verdicts

@@ -1,0 +1,59 @@
+"""What became of a run in a simulator, in words."""
+
+from __future__ import annotations
+
+from enum import Enum
+from typing import NamedTuple, Sequence
+
+from .compared import Difference
+
+# The differences that a message has.
+MOST_NAMED = 3
+
+
+class Word(Enum):
+    """What a simulator says of a run, from the best to the worst, and how a line says so."""
+
+    AGREES = "in {0} too"
+    BY_OTHER_VALUES = "in {0} too, but "
+    UNKNOWN = "not decided in {0}: "
+    DISAGREES = "{0} disagrees: "
+    NOT_REPLAYED = "not replayed: "
+
+    @property
+    def status(self) -> int:
+        """The exit status that it asks for."""
+        return {Word.AGREES: 0, Word.DISAGREES: 5}.get(self, 4)
+
+    @property
+    def rank(self) -> int:
+        return list(Word).index(self)
+
+
+class Outcome(NamedTuple):
+    """What became of a run, and how much was compared."""
+
+    word: Word
+    why: str = ""
+    differences: Sequence[Difference] = ()
+    signals: int = 0
+    asserted: int = 0
+    values: int = 0
+
+    def said(self, simulator: str) -> str:
+        """The run of a row, in words."""
+        begin: str = self.word.value
+        return begin.format(simulator) + "; ".join(part for part in (self.why, named(self.differences)) if part)
+
+    def said_of_random(self, simulator: str) -> str:
+        if self.word is not Word.AGREES:
+            return self.said(simulator)
+        return f"as in {simulator}: {self.signals} signals, {self.asserted} assertions, {self.values} values"
+
+
+def named(differences: Sequence[Difference]) -> str:
+    """The first differences, in words."""
+    shown = [it.said() for it in differences[:MOST_NAMED]]
+    if len(differences) > MOST_NAMED:
+        shown.append(f"and {len(differences) - MOST_NAMED} more")
+    return "; ".join(shown)

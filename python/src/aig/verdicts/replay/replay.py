@@ -1,0 +1,202 @@
+"""Plays the runs of a bundle in a simulator, which reads the design's own sources. Neither Yosys nor the circuit is on
+that way."""
+
+from __future__ import annotations
+
+import re
+import shlex
+from dataclasses import replace
+from itertools import product
+from pathlib import Path
+from typing import List, Optional, Sequence
+
+from ...circuit import Circuit
+from ..bundle import Bundle
+from ..folder import write_whole
+from ..manifest import SCRIPT_OF_YOSYS
+from ..row import Row
+from ..sources import look_at_words
+from ..table import plain
+from ..timing import Timing, of_facts
+from ..tools import Stop
+from .adapted import BEFORE, Adapted, NotReplayed
+from .boxes import without_bodies
+from .compared import Comparison, Difference, Property, properties
+from .log import Log
+from .older import timing_of_older
+from .outcome import Outcome, Word
+from .places import Places
+from .sides import Sides, Source
+from .signals import Frame, named
+from .simulator import Rejected, Simulator
+from .stimulus import Dice, Hold, of_witness
+from .testbench import Playing
+
+# What `$past` is before the first frame of a witness: x, then other values, as any is right.
+PASTS = ("'bx", "0", "-1")
+# So many values of the run itself are tried, too.
+MOST_PASTS = 4
+_OF_PAST = re.compile(r"(?:.*\.)?past(?:_\d+)+")
+# In random runs, all registers of `$past` begin with 0 or with 1.
+RANDOM_PASTS = ("0", "-1")
+# The orders in which inputs change where a frame is no cycle.
+ORDERS = (("first", "rest"), ("all",), ("rest", "first"))
+# How often signals that are x get the value of the run, or a testbench is mended.
+MOST_CHOICES = 8
+_PLAIN = re.compile(r"[A-Za-z_][\w$]*")
+
+
+class Replay:
+    """A bundle, and the simulator that plays its runs. In random runs, some inputs may be held."""
+
+    def __init__(self, bundle: Bundle, simulator: Simulator, stop: Stop, holds: Sequence[Hold] = ()):
+        self._bundle, self._simulator, self._stop, self._holds = bundle, simulator, stop, holds
+        top, defines = bundle.manifest["name"], bundle.manifest["options"]["defines"]
+        look_at_words(top, defines)
+        sources = {name: bundle.summed(f"sources/{name}").decode("latin-1") for name in bundle.manifest["sources"]}
+        script = bundle.summed(SCRIPT_OF_YOSYS).decode("latin-1")
+        self._circuit = Circuit(bundle.circuit())
+        self._timing = self._timing_of(script, "\n".join(sources.values()))
+        names = _read(script, list(sources))
+        simulator.data = {name: text.encode("latin-1") for name, text in sources.items() if name not in names}
+        defines = ["FORMAL", "YOSYS", *defines]
+        text = simulator.preprocessed(sources, names, defines)
+        text = without_bodies(text, bundle.manifest["options"].get("free", []))
+        adapted = Adapted(text)
+        self._checks, self._places = adapted.checks, Places(text, top)
+        self._source = Source(top, adapted.text, defines)
+        self._properties = properties(bundle.rows, self._checks)
+        self._sides = Sides(self._circuit, self._source, self._timing, simulator)
+        self._steps = adapted.steps
+
+    def _timing_of(self, script: str, text: str) -> Timing:
+        facts = self._bundle.manifest["timing"]
+        timing = of_facts(facts) if facts else timing_of_older(script, self._circuit, text)
+        if timing.clock and not _PLAIN.fullmatch(timing.clock_name):
+            raise NotReplayed(f"the clock {timing.clock_name} has no plain name")
+        return timing
+
+    @property
+    def left_out(self) -> Sequence[str]:
+        """The signals of the circuit that are not compared."""
+        return self._sides.left_out
+
+    # -- runs
+
+    def random(self, frames: int, seed: int) -> Outcome:
+        """Plays a random run, and compares all values in each frame."""
+        run = Dice(self._circuit, self._timing, self._holds, self._stop).run(frames, seed)
+        return self._best(run, [RANDOM_PASTS[seed % 2], PASTS[0]], None, None)
+
+    def row(self, row: Row, to: Optional[Path] = None) -> Outcome:
+        """Plays the run of a row that fails or is reached, and writes its testbench."""
+        try:
+            run = of_witness(self._circuit, self._bundle.summed(row.files["witness"]), self._stop)
+        except NotReplayed as error:
+            return Outcome(Word.NOT_REPLAYED, str(error))
+        known = next(it for it in self._properties if row in it.rows)
+        return self._best(run, [*PASTS, *self._pasts_of(run[0])], known, to and to / f"{row.position}.tb.v")
+
+    def _pasts_of(self, frame: Frame) -> List[str]:
+        """The values that registers of `$past` have where a run begins."""
+        found = (it for it in named(self._circuit.entries) if it.letter == "l" and _OF_PAST.fullmatch(it.path))
+        values = ("".join(frame[0][at] for _, at in sorted(it.positions.items(), reverse=True)) for it in found)
+        return list(dict.fromkeys(f"{len(bits)}'b{bits}" for bits in values))[:MOST_PASTS]
+
+    def _best(self, run: Sequence[Frame], pasts: Sequence[str], known: Optional[Property],
+              to: Optional[Path]) -> Outcome:
+        """The best outcome of all ways to play a run that mean the same."""
+        best: Optional[Outcome] = None
+        ways = product(pasts if self._steps else pasts[:1], ORDERS[:1] if self._timing.is_cycle else ORDERS)
+        for past, order in ways:
+            try:
+                told = self._played(Playing(self._sides.player, run, order), past, known, to if best is None else None)
+            except NotReplayed as error:
+                told = Outcome(Word.NOT_REPLAYED, str(error))
+            if best is None or told.word.rank < best.word.rank:
+                best = told
+            if best.word is Word.AGREES:
+                break
+        assert best is not None
+        return best
+
+    def _played(self, playing: Playing, past: str, known: Optional[Property], to: Optional[Path]) -> Outcome:
+        """Plays a run until no more x gets a value."""
+        shown = self._sides.player.shown
+        for _ in range(MOST_CHOICES):
+            bench = playing.text(self._heading(len(playing.frames), past, known, to))
+            try:
+                said = self._source.run(bench, past, self._simulator)
+            except Rejected as error:
+                player = playing.player
+                if error.is_double and not player.wired or error.fixed - player.fixed:
+                    player = replace(player, wired=player.wired or error.is_double, fixed=player.fixed | error.fixed)
+                    self._sides.player = playing.player = player
+                    continue
+                raise NotReplayed(f"{self._simulator.program}: {error}") from None
+            log = Log(said, self._checks, self._timing.is_cycle)
+            if len(log.frames) != len(playing.frames):
+                raise NotReplayed(f"the simulation ends in frame {len(log.frames)}")
+            found = Comparison(log, playing.frames, playing.player, self._checks)
+            differences = found.of_signals()
+            new = {shown[at].path for at in found.unknown if shown[at].is_whole} - playing.watched
+            if not new:
+                break
+            playing.watched |= new
+        if to:
+            write_whole(to, self._source.behind(bench).encode("latin-1"))
+        return self._told(found, differences, known)
+
+    def _heading(self, frames: int, past: str, known: Optional[Property], to: Optional[Path]) -> List[str]:
+        """The first lines of a testbench: what it plays, and how."""
+        if known is None or to is None:
+            return []
+        row, defines = known.rows[0], [*self._source.defines, f"{BEFORE}={past}"]
+        macros = " ".join(shlex.quote(f"-D{it}") for it in defines)
+        numbers = ", ".join(f"`aig value {it} {known.wrong} ..`" for it in sorted(known.numbers))
+        return [f"The run of {plain(row.name)} ({row.file}:{row.last}). Play it with",
+                f"  iverilog -g2012 {macros} -s aig_tb -o aig.vvp {to.name} && vvp -n aig.vvp",
+                f"It {'happens' if row.kind == 'cover' else 'fails'} in frame {frames - 1}: {numbers} before "
+                f"`aig frame {frames - 1}`. The design follows the testbench.", ""]
+
+    # -- what it means
+
+    def _told(self, found: Comparison, differences: List[Difference], known: Optional[Property]) -> Outcome:
+        if self._timing.is_cycle:
+            differences += found.of_own_values(self._sides.with_own_values)
+        if known is None or not self._steps:  # what `$past` is before a witness begins is not known here
+            differences += found.of_properties([it for it in self._properties if it is not known])
+        placed = [self._placed(it) for it in sorted(differences, key=lambda it: it.frame)]
+        if placed and self._sides.unset:
+            return Outcome(Word.NOT_REPLAYED, f"the testbench cannot set {self._sides.unset[0]}")
+        paths = {it.path for it in self._sides.player.shown}
+        counts = placed, len(paths), len(found.asserted), found.values
+        if known is None:
+            return Outcome(Word.DISAGREES if placed else Word.AGREES, "", *counts)
+        broken, happens = found.broken(), found.happens_at_end(known)
+        if happens and not broken:
+            return Outcome(Word.BY_OTHER_VALUES if placed else Word.AGREES, "", *counts)
+        if happens is None and not broken:
+            return Outcome(Word.UNKNOWN, "it is x" if found.is_ever(known, "x") else "its block never runs", *counts)
+        if self._reads_before(broken[1] if broken else len(found.frames) - 1):
+            return Outcome(Word.UNKNOWN, "what `$past` is before the run decides it", *counts)
+        why = f"it does not {'happen' if known.wrong == '1' else 'fail'}"
+        if broken:
+            why = f"the assumption of {broken[0].place} is broken in frame {broken[1]}"
+        return Outcome(Word.DISAGREES, why, *counts)
+
+    def _reads_before(self, number: int) -> bool:
+        """Whether some `$past` may read what was before the run in this frame."""
+        return self._steps > 0 and (number <= self._steps or not self._timing.is_cycle)
+
+    def _placed(self, it: Difference) -> Difference:
+        if it.file:
+            return it
+        file, line = self._places.of(it.name)
+        return it._replace(file=file, line=line)
+
+
+def _read(script: str, names: Sequence[str]) -> List[str]:
+    """The sources that Yosys was told to read, in their order; the others are included, or data."""
+    line = re.search(r"\bread_verilog -sv [^\n]*", script)
+    return [name for name in re.findall(r"\bsources/(\S+)", line[0] if line else "") if name in names]

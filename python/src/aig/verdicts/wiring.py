@@ -1,0 +1,69 @@
+"""What `check` warns of in the flat module: wires of Yosys' own without a driver, and loops of gates."""
+
+from __future__ import annotations
+
+import re
+from typing import Any, Dict, Iterator, List, Pattern, Sequence, Set
+
+from .lax import place
+
+_UNDRIVEN = re.compile(r"Wire .*?\.(\$\S+)(?: \[(\d+)\])? is used but has no driver")
+_LOOP = "found logic loop in module"
+_CELL = re.compile(r"cell (\S+) \(\S+\)")
+_WIRE = re.compile(r"wire \\(\S+)")
+# Cells that keep or judge what they read: registers, memories, assertions and the like.
+_KEEPS = re.compile(r"\$(.*ff.*|.*latch.*|sr|mem.*|assert|assume|cover|live|fair|check|print|scopeinfo)")
+
+
+def undriven(warnings: Sequence[str], module: Dict[str, Any]) -> List[str]:
+    """The places of wires that Yosys made, that nothing drives and that something reads: the circuit has a free value
+    there, where the source has another one."""
+    found = []
+    for match in filter(None, map(_UNDRIVEN.match, warnings)):
+        wire = module["netnames"].get(match[1])
+        if wire is None or _is_read(wire["bits"][int(match[2] or 0)], module):
+            found.append(f"{place(wire) if wire else '?'}: {match[1]}")
+    return found
+
+
+def _is_read(first: Any, module: Dict[str, Any]) -> bool:
+    """Whether a named wire, a register, a memory or an assertion depends on a bit."""
+    named = {bit for name, wire in module["netnames"].items() if not name.startswith("$") for bit in wire["bits"]}
+    readers: Dict[Any, List[Dict[str, Any]]] = {}
+    for cell in module["cells"].values():
+        for port, bits in cell["connections"].items():
+            for bit in bits if cell["port_directions"].get(port) != "output" else ():
+                readers.setdefault(bit, []).append(cell)
+    seen: Set[Any] = {first}
+    waiting = [first]
+    while waiting:
+        bit = waiting.pop()
+        if bit in named:
+            return True
+        for cell in readers.get(bit, ()):
+            if _KEEPS.fullmatch(cell["type"]) or not cell["type"].startswith("$"):
+                return True
+            new = set(_outputs(cell)) - seen
+            seen |= new
+            waiting += new
+    return False
+
+
+def _outputs(cell: Dict[str, Any]) -> Iterator[Any]:
+    return (bit for port, bits in cell["connections"].items() if cell["port_directions"].get(port) == "output" for bit in bits)
+
+
+def loops(of_words: Sequence[str], of_gates: Sequence[str], module: Dict[str, Any]) -> List[str]:
+    """The places of the cells in loops of the flat module. A loop of words may be none of gates, and a loop of gates may go
+    through a latch, which is none of words: it has the places of its wires."""
+    found = [module["cells"].get(name.lstrip("\\")) for name in _in_loops(_CELL, of_words)]
+    found = found or [module["netnames"].get(name) for name in _in_loops(_WIRE, of_gates)]
+    return [place(it) for it in found if it]
+
+
+def _in_loops(pattern: Pattern[str], warnings: Sequence[str]) -> List[str]:
+    return [name for warning in warnings if _LOOP in warning for name in pattern.findall(warning)]
+
+
+def has_loop(warnings: Sequence[str]) -> bool:
+    return any(_LOOP in warning for warning in warnings)
