@@ -7,10 +7,10 @@
 #   make bench      measures the program that the gate proved, else build/aig, beside a C++ program: ten minutes
 #   make lib        builds the library for C without its proofs, as build/lib/libaig.a and libaig.so
 #   make install    installs the program and the library that the gate proved, else those of build with a warning; and
-#                   aig-verdicts
+#                   aig-explain and aig-verdicts
 #   make wheel      writes the wheel of the Python package with that program into build
 #   make dist       packs a release of a commit whose gate has passed, into build/dist
-#   make clean      removes build/aig, build/aig_callers, build/lib and build/dist
+#   make clean      removes build/aig, build/aig_tests, build/lib and build/dist
 #
 # `make install` takes PREFIX and DESTDIR. Like `make bench` and `make wheel` it takes PROGRAM, for another program than
 # the one that it would choose; and LIBRARY, for another folder of libaig.a and libaig.so, or for none: `LIBRARY=`.
@@ -36,9 +36,9 @@ build/aig: $(SOURCES)
 demo: build/aig
 	@tests/tour.py build/aig
 
-build/aig_callers: $(SOURCES)
+build/aig_tests: $(SOURCES)
 	@mkdir -p build
-	@tools/build_unproved.sh "$(CURDIR)" aig_callers build/aig_callers
+	@tools/build_unproved.sh "$(CURDIR)" aig_tests build/aig_tests
 
 lib: build/lib/libaig.a
 	@echo "build/lib has libaig.a and libaig.so. Nothing of them is proved; 'make prove' makes proved ones."
@@ -48,9 +48,9 @@ build/lib/libaig.a: $(SOURCES) $(LIBRARY_SOURCES)
 	@mkdir -p build/lib
 	@tools/unproved_library.py build/lib
 
-test: build/aig build/aig_callers build/lib/libaig.a
+test: build/aig build/aig_tests build/lib/libaig.a
 	@echo "Running all tests on build/aig: about ten minutes on two processors."
-	@tests/all.py --crates build/aig
+	@tests/all.py build/aig
 
 prove:
 	@.ci/run
@@ -61,7 +61,7 @@ bench: $(PROGRAM)
 install: $(PROGRAM) $(addsuffix /libaig.a,$(LIBRARY))
 	@[ "$(PROGRAM)" != build/aig ] || echo "make install: warning: nothing of this program is proved" >&2
 	install -D "$(PROGRAM)" "$(ROOT)/bin/aig"
-	install -D tools/aig-verdicts "$(ROOT)/bin/aig-verdicts"
+	for name in aig-explain aig-verdicts; do install -D "tools/$$name" "$(ROOT)/bin/$$name"; done
 	for file in $$(cd python/src && find aig -name '*.py' -o -name '*.v'); do \
 	    install -D -m 644 "python/src/$$file" "$(ROOT)/share/aig/python/$$file"; \
 	done
@@ -71,6 +71,7 @@ install: $(PROGRAM) $(addsuffix /libaig.a,$(LIBRARY))
 	for name in aig aig-verdicts; do \
 	    install -D -m 644 "completions/$$name.bash" "$(ROOT)/share/bash-completion/completions/$$name"; \
 	done
+	install -D -m 644 completions/aig.bash "$(ROOT)/share/bash-completion/completions/aig-explain"
 	install -D -m 644 completions/_aig "$(ROOT)/share/zsh/site-functions/_aig"
 	if [ "$(LIBRARY)" ]; then \
 	    install -D -m 644 include/aig.h "$(ROOT)/include/aig.h" && \
@@ -81,6 +82,7 @@ install: $(PROGRAM) $(addsuffix /libaig.a,$(LIBRARY))
 	fi
 	install -D -m 644 -t "$(DOCUMENTS)" *.md LICENSE-*
 	cp -R docs examples "$(DOCUMENTS)"
+	tools/contracts.py --page "$(DOCUMENTS)/docs/CONTRACTS.md"
 	cp --parents include/aig.h python/README.md benchmarks/README.md crates/*/README.md $(SPECS) "$(DOCUMENTS)"
 	chmod -R u=rwX,go=rX "$(DOCUMENTS)"
 
@@ -92,7 +94,7 @@ dist:
 	@tools/pack.py
 
 clean:
-	rm -rf build/aig build/aig_callers build/lib build/dist
+	rm -rf build/aig build/aig_tests build/lib build/dist
 
 .PHONY: aig demo lib test prove bench install wheel dist clean
 .DELETE_ON_ERROR:

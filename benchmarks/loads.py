@@ -22,6 +22,8 @@ claims KIND SIZE INPUTS LATCHES GATES          a certificate for it: no two latc
                                                copy, with all of the circuit
 multiplier BITS                                two multipliers of so many bits, one of a * b and one of b * a; the bad
                                                state is that they differ
+pigeons HOLES                                  one pigeon more than holes; the bad state is that each is in a hole of its
+                                               own. Its inputs are the variables of `pigeons` in tests/library/families.py
 
 Shapes of random circuits: in `random` a right side is mostly among the 4,096 variables before the gate, every eighth
 anywhere; in `chain` each gate reads the one before it; in `comb` every second gate reads the gate before it and the one
@@ -414,8 +416,32 @@ def multiplier(_, bits):
     yield from (f"{gate} {a} {b}\n" for gate, a, b in both.gates)
 
 
+# ---- pigeons
+
+def pigeons(_, holes):
+    count, gates = holes * (holes + 1), []
+
+    def conjunction(literals):
+        """The literal of a chain of gates."""
+        whole, *rest = literals
+        for literal in rest:
+            gates.append((2 * (count + len(gates) + 1), max(whole, literal), min(whole, literal)))
+            whole = gates[-1][0]
+        return whole
+
+    at = [[2 * (pigeon * holes + hole + 1) for hole in range(holes)] for pigeon in range(holes + 1)]
+    clauses = [conjunction([literal ^ 1 for literal in row]) ^ 1 for row in at]
+    clauses += [conjunction([one[hole], other[hole]]) ^ 1 for hole in range(holes)
+                for place, one in enumerate(at) for other in at[:place]]
+    bad = conjunction(clauses)
+    yield f"aag {count + len(gates)} {count} 0 0 {len(gates)} 1\n"
+    yield from (f"{literal}\n" for row in at for literal in row)
+    yield f"{bad}\n"
+    yield from (f"{gate} {a} {b}\n" for gate, a, b in gates)
+
+
 KINDS = {kind.__name__: kind for kind in (circuit, names, comment, stimulus, changing, values, cipher, zeros, edits,
-                                          ascon, rewires, ring, claims, multiplier)}
+                                          ascon, rewires, ring, claims, multiplier, pigeons)}
 
 
 def made(kind, *words, seed=SEED):

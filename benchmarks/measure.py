@@ -93,9 +93,9 @@ class Programs:
         supervised.run(["c++", "-O2", "-static", "-std=c++17", "-o", program, source], check=True)
         return program
 
-    def aig_callers(self):
+    def aig_tests(self):
         """It is beside the program that is measured, or proved, or it is built."""
-        name = "aig_callers"
+        name = "aig_tests"
         proved = f"{REPOSITORY}/crates/{name}/out/{name}"
         beside = f"{os.path.dirname(self.named)}/{name}" if self.named else proved
         return next((it for it in (beside, proved) if os.access(it, os.X_OK)), None) or unproved(name, REPOSITORY)
@@ -898,7 +898,7 @@ def hints(programs, chosen):
 
 
 def cooked(programs, holes):
-    """The proofs of Cook's refutation. Beside each is a case of aig_callers, which checks it."""
+    """The proofs of Cook's refutation. Beside each is a case of aig_tests, which checks it."""
     variables, clauses, _ = families.pigeons(holes)
     write(f"pigeons.{holes}.cnf", families.dimacs(variables, clauses))
     write(f"pigeons.{holes}.drat", text_of(families.cook(holes)))
@@ -912,7 +912,7 @@ def cooked(programs, holes):
 
 
 def of_case(programs, proof):
-    return ["sh", "-c", 'exec "$1" "$2" < "$3"', "sh", programs.get("aig_callers"), WORD, f"{proof}.case"]
+    return ["sh", "-c", 'exec "$1" "$2" < "$3"', "sh", programs.get("aig_tests"), WORD, f"{proof}.case"]
 
 
 # ---- certificates

@@ -6,7 +6,7 @@ _aig_verdicts() {
     local -A options=(
         [run]="--abc --conflicts --dask --define --drat2lrat --frames --free --help --hints --include --jobs --json --junit --megabytes --no-conditions --no-simulator --no-wires --only --out --proof-megabytes --quiet --seconds --simulator --solver --top --verbose --zip"
         [demo]="--help"
-        [recheck]="--help --include --jobs --json --junit --megabytes --page --quiet --simulate --simulator --sources --yosys"
+        [recheck]="--help --include --jobs --json --junit --megabytes --page --quiet --seed --simulate --simulator --sources --yosys"
         [replay]="--help --hold --only --random --simulator --to --verbose"
     )
     local word=${COMP_WORDS[COMP_CWORD]} words=""

@@ -1,24 +1,24 @@
-# Completion of `aig` for bash: put it where bash-completion looks, or `source` it. It works without bash-completion.
+# Completion of `aig` and `aig-explain` for bash: put it where bash-completion looks, or `source` it. It works without bash-completion.
 # tools/make_completions.py writes aig.bash: its tables from the program's help, all else from aig.bash.in.
 
 _aig() {
     local commands="toaig info select unroll sim wave bench shell check witness reduce why cnf refute strengthen help"
     local -A options=(
-        [toaig]="--to --explain --progress --help"
-        [info]="--names --json --explain --progress --help"
-        [select]="--to --from --as --property --names --explain --progress --help"
-        [unroll]="--frames --to --map --explain --progress --help"
-        [sim]="--explain --progress --help"
-        [wave]="--witness --explain --progress --help"
-        [bench]="--circuit-out --stimulus-out --explain --progress --help"
-        [shell]="--witness --explain --progress --help"
-        [check]="--trace --properties --property --alive --frames --explain --progress --help"
-        [witness]="--model --frames --step --certificate --alive --property --explain --progress --help"
-        [reduce]="--explain --progress --help"
-        [why]="--of --frame --depth --witness --json --explain --progress --help"
-        [cnf]="--frames --property --step --certificate --alive --explain --progress --help"
-        [refute]="--frames --property --step --certificate --alive --explain --progress --help"
-        [strengthen]="--to --certificate --property --explain --progress --help"
+        [toaig]="--to --progress --help"
+        [info]="--names --json --progress --help"
+        [select]="--to --from --as --property --names --progress --help"
+        [unroll]="--frames --to --map --progress --help"
+        [sim]="--progress --help"
+        [wave]="--witness --progress --help"
+        [bench]="--circuit-out --stimulus-out --progress --help"
+        [shell]="--witness --progress --help"
+        [check]="--trace --properties --property --alive --frames --progress --help"
+        [witness]="--model --frames --step --certificate --alive --property --progress --help"
+        [reduce]="--progress --help"
+        [why]="--of --frame --depth --witness --json --progress --help"
+        [cnf]="--frames --property --step --certificate --alive --progress --help"
+        [refute]="--frames --property --step --certificate --alive --progress --help"
+        [strengthen]="--to --certificate --property --progress --help"
     )
     # What the value of an option is: one of these words, a file, or a number.
     local -A values=(
@@ -56,8 +56,8 @@ _aig() {
     local first=1 words=("") joins="" i
     COMPREPLY=()
 
-    # The command, which --explain and --progress may precede.
-    while ((COMP_CWORD > first)) && [[ ${COMP_WORDS[first]} == --@(explain|progress) ]]; do
+    # The command, which --progress may precede.
+    while ((COMP_CWORD > first)) && [[ ${COMP_WORDS[first]} == --progress ]]; do
         ((first++))
     done
     local command=${COMP_WORDS[first]}
@@ -95,7 +95,7 @@ _aig() {
     fi
     local value=${values["$command $option"]-}
     if ((COMP_CWORD == first)); then
-        _aig_reply "" -W "$commands --explain --progress --help --version" -- "$command"
+        _aig_reply "" -W "$commands --progress --help --version" -- "$command"
     elif [[ $command == help ]]; then
         _aig_reply "" -W "$commands" -- "$word"
     elif [[ $value == file ]]; then
@@ -126,4 +126,4 @@ _aig_reply() {
 }
 
 # Where the function finds nothing, bash completes names by itself: those in quotes, and those with `~` or `$`.
-complete -o filenames -o bashdefault -o default -F _aig aig
+complete -o filenames -o bashdefault -o default -F _aig aig aig-explain

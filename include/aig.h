@@ -21,10 +21,11 @@
  * The library keeps no state, opens no file and starts no thread. Any number of threads may call it at once, with rooms
  * of their own.
  *
- * It is proved what each call does with the bytes, for all inputs (docs/PROVED.md). Nothing proves this header, or that
- * your program keeps to it: pointers and lengths are right; a bool is 0 or 1; the room, *length and *confirmed overlap
- * nothing else; `malloc`, `realloc` and `free` belong to one allocator, and align to 16 bytes. Do not call from a
- * signal handler, or after a fork in the child of a process with threads.
+ * It is proved what each call does with the bytes, for all inputs (docs/PROVED.md); the reason that it writes after
+ * AIG_REFUSED is only tested. Nothing proves this header, or that your program keeps to it: pointers and lengths are
+ * right; a bool is 0 or 1; the room, *length and *confirmed overlap nothing else; `malloc`, `realloc` and `free` belong
+ * to one allocator, and align to 16 bytes. Do not call from a signal handler, or after a fork in the child of a process
+ * with threads.
  */
 #ifndef AIG_H
 #define AIG_H

@@ -4,7 +4,8 @@
 usage: make_wheel.py FOLDER [PROGRAM]
 
 With a PROGRAM, the wheel has it as a script, so pip puts it on the path; the wheel is for this platform only. Without
-one, the wheel is pure Python, and the package finds the program on the path. Both have the command `aig-verdicts`.
+one, the wheel is pure Python, and the package finds the program on the path. Both have the commands `aig-explain` and
+`aig-verdicts`.
 `pip install` of this folder calls `build_wheel`: there AIG_PROGRAM names the program to pack, if it is set."""
 
 import base64
@@ -30,6 +31,7 @@ Description-Content-Type: text/markdown
 {readme}"""
 ENTRY_POINTS = """\
 [console_scripts]
+aig-explain = aig.explain.command:main
 aig-verdicts = aig.verdicts.command:main
 """
 

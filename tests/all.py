@@ -2,9 +2,8 @@
 """Runs every test script on a program, and counts all checks in the last line. The lines before it say what was left
 out, and why.
 
-The script with the large files takes most of the time, so it runs beside all others. With --crates the tests of the
-crates run beside both. It runs them by `rt try --test`, which proves nothing; in the gate `rt ci` proves and runs them.
-Of a script that fails, all output is shown. A script that does not end in its time fails, and is ended."""
+The script with the large files takes most of the time, so it runs beside all others. Of a script that fails, all output is
+shown. A script that does not end in its time fails, and is ended."""
 
 import argparse
 import collections
@@ -26,11 +25,12 @@ WHOLE_SECONDS = 15 * SECONDS
 LARGE = "run_large.py"
 SCRIPTS = ("run_bounds.py", "run_gate.py", "run_program.py", "run_faults.py", "run_random.py", "run_library.py",
            "run_dist.py", "run_hints.py", "tour.py")
-# this runs aig_callers
+# this runs aig_tests
 STEPS = "run_steps.py"
 # these run the package of Python, and aig-verdicts as far as it needs no other program
-PACKAGES = ("python/tests/run_package.py", "python/tests/run_pages.py", "python/tests/run_bundles.py",
-            "python/tests/run_circuit.py", "python/tests/run_replay.py", "python/tests/run_netlists.py")
+PACKAGES = ("python/tests/run_package.py", "python/tests/run_explain.py", "python/tests/run_pages.py",
+            "python/tests/run_bundles.py", "python/tests/run_circuit.py", "python/tests/run_replay.py",
+            "python/tests/run_netlists.py")
 # this compares a few random designs with a simulator
 RANDOM = "python/tests/random_verilog.py"
 # this tries some of the planted bugs of the package
@@ -39,9 +39,8 @@ PLANTED = ("tools/planted_python.py", "--sample", "40")
 COMPARED = ("benchmarks/measure.py", "compare", "--count", "40")
 NO_COMPILER = ("echo", "compare: left out: there is no c++")
 # these read the sources and pages alone
-READERS = ("tools/definitions.py", "tools/contracts.py", "tools/edges.py", "tools/unused.py", "tools/pages.py",
-           "tools/pictures.py", "tools/version.py")
-CRATES = ("aig_tests", "aig_command_tests")
+READERS = ("tools/definitions.py", "tools/contracts.py", "tools/edges.py", "tools/named_crates.py", "tools/unused.py",
+           "tools/pages.py", "tools/pictures.py", "tools/version.py")
 COUNTS = re.compile(r"(\d+) passed[,;] (\d+) failed")
 # what a script left out: its name, and why
 LEFT_OUT = re.compile(r"(?m)^(.*?): left out: (.*)$")
@@ -89,13 +88,12 @@ def last_lines(scripts):
 
 def main():
     parser = argparse.ArgumentParser(description=__doc__, formatter_class=argparse.RawDescriptionHelpFormatter)
-    parser.add_argument("--crates", action="store_true", help="also the tests of the crates, without a proof")
-    parser.add_argument("program", nargs="?", help="the program that is tested, with aig_callers beside it (else "
+    parser.add_argument("program", nargs="?", help="the program that is tested, with aig_tests beside it (else "
                                                    "those that the gate built)")
     chosen = parser.parse_args()
     program = [os.path.abspath(chosen.program)] if chosen.program else []
     lanes = [[(name, [f"{TESTS}/{name}", *program], REPOSITORY) for name in names] for names in ([LARGE], SCRIPTS)]
-    steps = [f"{os.path.dirname(program[0])}/aig_callers"] if program else []
+    steps = [f"{os.path.dirname(program[0])}/aig_tests"] if program else []
     lanes[1] += [(STEPS, [f"{TESTS}/{STEPS}", *steps], REPOSITORY)]
     lanes[0] += [(RANDOM, [f"{REPOSITORY}/{RANDOM}", *program], REPOSITORY)]
     named = [word for it in program for word in ("--aig", it)]
@@ -104,8 +102,6 @@ def main():
     lanes[1] += [(name, [f"{REPOSITORY}/{name}"], REPOSITORY) for name in READERS]
     packages = [(name, [f"{REPOSITORY}/{name}", *program], REPOSITORY) for name in PACKAGES]
     lanes.append([*packages, (PLANTED[0], [f"{REPOSITORY}/{PLANTED[0]}", *PLANTED[1:], *program], REPOSITORY)])
-    if chosen.crates:
-        lanes.append([(name, ["rt", "try", "--test"], f"{REPOSITORY}/crates/{name}") for name in CRATES])
     with concurrent.futures.ThreadPoolExecutor() as pool:
         scripts = [each for lane in pool.map(lambda lane: [ended(*task) for task in lane], lanes) for each in lane]
     print("\n".join(last_lines(scripts)))

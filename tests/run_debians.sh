@@ -1,52 +1,85 @@
 #!/bin/sh
-# Runs what needs Yosys with the Yosys, ABC, cadical and Python of other versions of Debian: the tour of README.md, designs
-# with known truth, the commands of docs/FLOW.md and other parts of run_tools.py, COUNT random programs (500), and whether
-# this Yosys makes the circuit of the shipped bundle, or one with the same names. debootstrap makes a folder of each
-# version below FOLDER (700 MB), and the next call uses it again. It is no part of the gate, and needs root, debootstrap,
-# unshare and a mirror of Debian (MIRROR, else that of debootstrap).
+# Runs what needs Yosys with the Yosys, ABC, cadical, Icarus Verilog and Python of other versions of Debian. In each version:
+# the tour of README.md, designs with known truth, bundles, the commands of docs/FLOW.md and other parts of run_tools.py,
+# COUNT random programs (500), and whether this Yosys makes the circuit of the shipped bundle, or one with the same names
+# (debians/suite.sh). Each version also makes bundles, and checks those of the others. Then the package and the wheel are
+# installed as README says, each where nothing else is, and README and FLOW are typed there (debians/installed.sh).
+#
+# It makes folders of each version below FOLDER (1 GB), and the next call uses them again. It is no part of the gate, and
+# needs root, debootstrap, unshare, dpkg-deb and a mirror of Debian (MIRROR, else that of debootstrap). STEPS names some of
+# the steps alone: suite, exchanged, package, wheel.
 #
 # usage: run_debians.sh PROGRAM FOLDER SUITE ..     as: run_debians.sh build/aig /var/tmp/debians bookworm trixie sid
 set -eu
 repository=$(cd "$(dirname "$0")/.." && pwd)
 program=$(realpath "$1") folder=$(realpath -m "$2")
 shift 2
+steps=${STEPS:-suite exchanged package wheel}
+mirror=${MIRROR:-}
+tools="yosys cadical cryptominisat z3 python3 python3-click iverilog g++"
 failed=0
-mkdir -p "$folder"
+mkdir -p "$folder/exchanged"
+
+# plain SUITE: a folder with the least of this version of Debian
+plain() {
+    [ ! -e "$folder/$1.plain/made" ] || return 0
+    rm -rf "$folder/$1.plain"
+    debootstrap --variant=minbase "$1" "$folder/$1.plain" $mirror > "$folder/$1.plain.log" 2>&1
+    chroot "$folder/$1.plain" apt-get update >> "$folder/$1.plain.log" 2>&1
+    touch "$folder/$1.plain/made"
+}
+
+# made SUITE: a folder that has the tools, too. debootstrap itself does not find a session bus for Yosys of Debian 12.
+made() {
+    [ ! -e "$folder/$1/made" ] || return 0
+    plain "$1"
+    rm -rf "$folder/$1"
+    cp -a "$folder/$1.plain" "$folder/$1"
+    rm "$folder/$1/made"
+    chroot "$folder/$1" env DEBIAN_FRONTEND=noninteractive apt-get install -qy --no-install-recommends $tools \
+        > "$folder/$1.log" 2>&1
+    touch "$folder/$1/made"
+}
+
+# within ROOT SCRIPT WORD ..: runs a script of debians, to which the mounts belong: they go when it ends
+within() {
+    root=$1 script=$2
+    shift 2
+    unshare -m sh "$repository/tests/debians/$script" "$root" "$repository" "$folder" "$program" "$@" || failed=1
+}
+
+is_step() {
+    case " $steps " in *" $1 "*) return 0 ;; *) return 1 ;; esac
+}
+
 for suite; do
-    root=$folder/$suite
-    if [ ! -e "$root/made" ]; then
-        rm -rf "$root"
-        debootstrap --variant=minbase --include=yosys,cadical,python3,python3-click,iverilog,g++ "$suite" "$root" \
-            ${MIRROR:-} > "$root.log" 2>&1
-        touch "$root/made"
-    fi
-    mkdir -p "$root/aig"
-    yosys=$(chroot "$root" yosys -V | cut -d' ' -f1,2)
-    echo "== $suite: $yosys, cadical $(chroot "$root" cadical --version), $(chroot "$root" python3 --version)"
-    # the mounts are this call's own, and go when it ends
-    unshare -m sh -c '
-        root=$1 program=/mnt/$4 failed=0
-        mount --bind "$2" "$root/aig" && mount -t proc proc "$root/proc" && mount --bind "$3" "$root/mnt" || exit 1
-        inside() {
-            echo "-- $*"
-            chroot "$root" env PYTHONDONTWRITEBYTECODE=1 "AIG_PROGRAM=$program" python3 "/aig/$@"
-        }
-        inside tests/tour.py "$program" || failed=1
-        inside python/tests/run_designs.py "$program" || failed=1
-        parts=
-        for part in flow conversions unrolled witnesses proofs own_variables certificates verdicts aig_verdicts traces; do
-            parts="$parts --part $part"
-        done
-        inside tests/run_tools.py $parts "$program" || failed=1
-        if [ -e "$2/python/tests/random_verilog.py" ]; then
-            inside python/tests/random_verilog.py 1 "$5" --program "$program" || failed=1
-        else
-            echo "random programs: left out: there is no random_verilog.py"
+    is_step suite || is_step exchanged || continue
+    made "$suite"
+    said=$(chroot "$folder/$suite" sh -c 'yosys -V; iverilog -V; python3 -V; echo cadical $(cadical --version)' 2> /dev/null)
+    echo "== $suite: $(echo "$said" | grep -E '^(Yosys|Icarus Verilog version|Python|cadical)' | tr '\n' ' ')"
+    ! is_step suite || within "$folder/$suite" suite.sh "${COUNT:-500}"
+    ! is_step exchanged || within "$folder/$suite" exchanged.sh make "$suite"
+done
+if is_step exchanged; then
+    for suite; do
+        echo "== $suite: bundles of the other versions"
+        within "$folder/$suite" exchanged.sh check "$suite"
+    done
+fi
+if is_step package || is_step wheel; then
+    rm -rf "$folder/release"
+    mkdir "$folder/release"
+    "$repository/tests/debians/release.py" "$program" "$folder/release"
+fi
+for suite; do
+    for way in package wheel; do
+        if is_step $way; then
+            echo "== $suite: the $way, where nothing else is installed"
+            plain "$suite"
+            rm -rf "$folder/$suite.$way"
+            cp -a "$folder/$suite.plain" "$folder/$suite.$way"
+            within "$folder/$suite.$way" installed.sh $way
         fi
-        said=$(inside tools/aig-verdicts recheck --yosys /aig/examples/queue.verdicts 2>&1)
-        echo "$said"
-        echo "$said" | grep -qE "Yosys makes the same circuit|its names are the same" || failed=1
-        exit $failed
-    ' sh "$root" "$repository" "$(dirname "$program")" "$(basename "$program")" "${COUNT:-500}" || failed=1
+    done
 done
 exit $failed

@@ -88,6 +88,14 @@ def look_for_verdicts(program, tally, way, root):
     tally.check(f"{way}: aig-verdicts", said.returncode == 0 and said.stdout.startswith(version), said)
 
 
+def look_for_explanations(tally, way, command, **settings):
+    """Checks the installed command `aig-explain`: it runs the program beside it, and explains the run."""
+    said = supervised.run([os.path.abspath(command), "info", "/"], cwd="/", stdin=DEVNULL, capture_output=True,
+                          timeout=runs.SECONDS, check=False, **settings)
+    tally.compare(f"{way}: aig-explain", (said.returncode, said.stderr),
+                  (3, b"aig: circuit: input or output\n  file: /\n  it is a folder: name a file\n"))
+
+
 def look(program, tally, way, root, functions="zsh/site-functions"):
     """Checks an installed copy. `root` is the folder that has bin/ and share/."""
     share = f"{root}/share"
@@ -98,7 +106,7 @@ def look(program, tally, way, root, functions="zsh/site-functions"):
         page = f"{share}/man/man{name[-1]}/{name}"
         found = contents(page) if os.path.exists(page) else gzip.decompress(contents(f"{page}.gz"))
         tally.check(f"{way}: the page {name}", found == text, page)
-    for name in ("aig", "aig-verdicts"):
+    for name in ("aig", "aig-explain", "aig-verdicts"):
         bash = f"{share}/bash-completion/completions/{name}"
         asked = supervised.run(["bash", "-c", 'source "$1" && complete -p "$2"', "bash", bash, name], capture_output=True,
                                text=True, check=False)
@@ -116,6 +124,7 @@ def look(program, tally, way, root, functions="zsh/site-functions"):
     tally.compare(f"{way}: who may read it", modes, {"0o755"})
     take(runs.Program(f"{root}/bin/aig", True), f"{documents}/examples", tally)
     look_for_verdicts(program, tally, way, root)
+    look_for_explanations(tally, way, f"{root}/bin/aig-explain", env={"PATH": os.environ["PATH"]})
     look_for_library(made(program).library, tally, way, os.path.abspath(root))
 
 
@@ -172,6 +181,7 @@ def in_environment(program, name, given, tally):
                              timeout=runs.SECONDS, check=False)
     version = f"aig {pack.version_of(program.path)}".encode()
     tally.check(f"{name}: aig-verdicts", command.returncode == 0 and command.stdout.startswith(version), command)
+    look_for_explanations(tally, name, f"{name}/bin/aig-explain", env={"PATH": ""})
     os.mkdir(f"demo_{name}")
     command = supervised.run([os.path.abspath(f"{name}/bin/aig-verdicts"), "demo"], env={"PATH": ""}, cwd=f"demo_{name}",
                              stdin=DEVNULL, capture_output=True, timeout=runs.SECONDS, check=False)

@@ -283,8 +283,41 @@ def planted_of_python(program, tally, _):
         "two = 1\n", "one = 1\n", "one = 1\ntwo = 1\n", "one = 1\ntwo = 2\n", "")],
         ["\n", None, None, "one = 2\n\n", None])
     many = planted_python.all_bugs()
-    first, again, other = (planted_python.sampled(many, 40, commit) for commit in ("one", "one", "two"))
+    with replaced(planted_python, "SEEN", pathlib.Path("missing")):
+        first, again, other = (planted_python.sampled(many, 40, commit) for commit in ("one", "one", "two"))
     tally.check("planted: a sample", first == again != other and len({bug.name for bug in first}) == 40)
+    missing = [bug.seen for bug in many if not planted_python.file_of(bug.seen).is_file()]
+    tally.compare("planted: each part has a file", missing, [])
+    with replaced(planted_python, "ROOT", pathlib.Path.cwd()), replaced(planted_python, "SEEN", pathlib.Path("seen")):
+        noted(tally)
+
+
+def noted(tally):
+    """Which planted bugs of Python count as seen before: not those of another text, source or part."""
+    bug = planted_python.Bug("a.one", "It is 2.", "a.py", "run_b.py c", [("= 1", "= 2")])
+    others = [bug._replace(name=f"a.{number}", seen="run_b.py f") for number in range(9)]
+    bugs = [bug, *others]
+    os.makedirs(f"{planted_python.SCRIPTS}/b")
+    files = {"a.py": True, "run_b.py": False, "b/c.py": True, "b/d.py": False}
+    paths = {name: name if name == "a.py" else f"{planted_python.SCRIPTS}/{name}" for name in files}
+    for path in paths.values():
+        write(path, "parts = c.c, d.e, f")
+    tally.compare("planted: files of parts", [planted_python.file_of(it.seen).name for it in bugs[:2]],
+                  ["c.py", "run_b.py"])
+    tally.compare("planted: none is noted", planted_python.unseen(bugs), bugs)
+    planted_python.note(bugs, bugs[:-1], bugs)
+    tally.compare("planted: all but one are noted", planted_python.unseen(bugs), bugs[-1:])
+    tally.compare("planted: a sample begins with it", planted_python.sampled(bugs, 3, "one")[:1], bugs[-1:])
+    for name, is_other in files.items():
+        write(paths[name], "parts = c.c, d.e, f\n")
+        tally.compare(f"planted: after a change of {name}", bug in planted_python.unseen(bugs), is_other)
+        write(paths[name], "parts = c.c, d.e, f")
+    other = bug._replace(changes=[("= 1", "= 3")])
+    tally.compare("planted: another bug of this name", planted_python.unseen([other, *others]), [other, others[-1]])
+    planted_python.note(others[-1:], others[-1:], bugs)
+    tally.compare("planted: all are noted", planted_python.unseen(bugs), [])
+    planted_python.note(bugs[:2], bugs[:1], bugs)
+    tally.compare("planted: one is not seen any more", planted_python.unseen(bugs), bugs[1:2])
 
 
 # Processors and gigabytes, and how many crates are then proved side by side.

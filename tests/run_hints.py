@@ -1,5 +1,5 @@
 #!/usr/bin/env python3
-"""Runs `aig refute` and aig_callers on proofs with hints (LRAT): random ones, large ones, hostile ones, and those that
+"""Runs `aig refute` and aig_tests on proofs with hints (LRAT): random ones, large ones, hostile ones, and those that
 a program in C++ makes of proofs in DRAT. A part that needs a compiler of C++ is left out where there is none."""
 
 from hints.formulas import formulas, options

@@ -1,21 +1,19 @@
 #!/usr/bin/env python3
-"""Runs the built program as a user does: each subcommand on small files, the arguments, the help and the causes of
-messages beside docs/BEHAVIOUR.md, what --explain says, manual pages and completions, what a run needs, and talks
-through pipes. Output, error text and exit status have to be those that stand here: from the standard, from worked
+"""Runs the built program as a user does: each subcommand on small files, the arguments and the help beside
+docs/BEHAVIOUR.md, manual pages and completions, what a run needs, and talks through pipes. Each run that is rejected is
+explained too. Output, error text and exit status have to be those that stand here: from the standard, from worked
 examples, and from library/reference.py, a plain simulator and workbench."""
 
 from library import runs
 from program.ample import ample
 from program.bench import bench
+from program.causes import causes
 from program.certificates import certificates
 from program.check import check
 from program.cnf import cnf
 from program.completions import completions
 from program.definitions import definitions
 from program.descriptors import descriptors
-from program.diagnostics import diagnostics
-from program.explain import explain
-from program.explain_option import explain_option
 from program.helps import helps
 from program.info import info
 from program.json_lines import json_lines
@@ -37,6 +35,7 @@ from program.same_files import same_files
 from program.select import select
 from program.shell import shell
 from program.sim import sim
+from program.strengthened import strengthened_texts
 from program.talks import talks
 from program.terminals import terminals
 from program.toaig import toaig
@@ -49,11 +48,12 @@ from program.words import words
 PARTS = {"bench": bench, "kept": kept, "owners": owners, "descriptors": descriptors, "words": words, "sim": sim,
          "wave": wave, "check": check, "replays": replays, "toaig": toaig, "unroll": unroll, "cnf": cnf,
          "info": info, "select": select, "witness": witness, "refute": refute, "proofs": proofs,
-         "large_proofs": large_proofs, "definitions": definitions, "certificates": certificates, "properties": properties,
-         "names": names, "ample": ample, "reduce": reduce, "why": why,
+         "large_proofs": large_proofs, "definitions": definitions, "certificates": certificates,
+         "strengthened": strengthened_texts, "properties": properties, "names": names, "ample": ample,
+         "reduce": reduce, "why": why, "causes": causes,
          "json_lines": json_lines, "help": helps,
-         "pages": pages, "completions": completions, "diagnostics": diagnostics, "explain": explain,
-         "explain_option": explain_option, "needs": needs, "talks": talks, "progress": progress, "terminals": terminals,
+         "pages": pages, "completions": completions, "needs": needs, "talks": talks, "progress": progress,
+         "terminals": terminals,
          "shell": shell, "large_session": large_session,
          "large_saves": large_saves, "same_files": same_files}
 

@@ -35,7 +35,7 @@ BUILD_SECONDS = 3600
 PARTS = (*(f"run_program.py {part}" for part in (
     "refute", "proofs", "large_proofs", "certificates", "ample", "bench", "sim", "wave", "check", "replays", "toaig", "unroll",
     "cnf", "info", "select", "witness", "properties", "names", "reduce", "why", "kept", "owners", "descriptors", "words", "help",
-    "diagnostics", "explain", "explain_option", "needs", "talks", "same_files", "definitions", "shell", "large_session",
+    "needs", "talks", "same_files", "definitions", "shell", "large_session",
     "large_saves")),
     *(f"run_faults.py {part}" for part in ("kept", "writes", "calls", "allocations", "limits")),
     *(f"run_random.py {part}" for part in (

@@ -1,15 +1,21 @@
 #!/usr/bin/env python3
-"""Compares docs/CONTRACTS.md, the page of all public contracts, with the sources, and fails where they differ.
+"""Compares docs/CONTRACTS.md, the list of all public contracts, with the sources, and fails where they differ.
 
-The page differs where a clause, a signature or the first sentence of a comment was changed, and where a call has other
-lines to believe. README.md and docs/PROVED.md are compared too: the last column of each table that ends with the column
-`lines to believe` has the lines of the call, or of its clause, in the column `call, clause`, and in a row that says
-`more` only those that are not of what a circuit file is; and each clause that docs/PROVED.md shows stands in the
-sources. --write writes the page and these columns. It reads text and proves nothing. The texts of definitions are not
-on the page."""
+The list has one line per call: the names of its clauses, the lines to believe, and a sum of its signature and clauses.
+So the list differs where a clause or a signature was changed, and where a call has other lines to believe. --of NAME
+prints the contracts of that name in full, and --page FILE writes those of all calls: `make install` puts that page in
+place of the list.
+
+README.md and docs/PROVED.md are compared too. The last column of each table that ends with the column `lines to
+believe` has the lines of the call, or of its clause, in the column `call, clause`; a row that says `more` has only
+those that are not of what a circuit file is. docs/PROVED.md says how many calls have no clause. Each clause that it
+shows has to be in the sources. --write writes the list and these numbers. The script reads text and proves nothing. The texts of definitions are on neither
+page."""
 
 import argparse
 import difflib
+import hashlib
+import pathlib
 import re
 import sys
 import textwrap
@@ -22,15 +28,31 @@ README = ROOT / "README.md"
 PROVED = ROOT / "docs" / "PROVED.md"
 BELIEVED, CALL = "lines to believe", "call, clause"
 MORE, CIRCUIT_FILE = " more", ("read_circuit", "circuit")
+UNCLAIMED = re.compile(r"\d+(?= public calls have no clause\b)")
 WIDTH = 120
 MOST_SHOWN = 60
 
-HEAD = """# The contracts
+LIST_HEAD = """# The contracts
+
+This page lists all public contracts: each exported function, method, type and law, with the names of its clauses.
+*Lines* is how many lines of definitions one has to believe for the call: all lines of the definitions that its clauses
+reach (`tools/definitions.py --of NAME` lists them). The sum is of the signature and the clauses.
+`tools/contracts.py --write` makes the list from the sources, and the gate compares the two. So the diff of this page
+shows which public clauses a change touches.
+
+    tools/contracts.py --of refute              # the contract in full, clause by clause as in the sources
+    tools/contracts.py --page contracts.md      # the contracts of all calls
+
+An installed copy of this page has them all in full. [PROVED.md](PROVED.md) says the same in prose, and
+[DEFINITIONS.md](DEFINITIONS.md) explains the definitions. A call without a clause is proved to be safe and to return,
+like all others; `requires` is what it asks of its caller. A clause without a name is listed as `ensures`.
+"""
+
+PAGE_HEAD = """# The contracts
 
 This page has all public contracts: what each exported function, method and law asks of its caller (`requires`) and
-promises (`ensures`), clause by clause as in the sources. `tools/contracts.py --write` makes the page from the sources,
-and the gate compares the two. So the diff of this page shows what a change does to the public clauses.
-[PROVED.md](PROVED.md) says the same in prose, and [DEFINITIONS.md](DEFINITIONS.md) explains the definitions.
+promises (`ensures`), clause by clause as in the sources. [PROVED.md](PROVED.md) says the same in prose, and
+[DEFINITIONS.md](DEFINITIONS.md) explains the definitions.
 
 - `result` is what a call returns. `x.now` is what a reference `x` leads to. For a mutable one, `x.old` is that before
   the call, and `x.new` after it.
@@ -57,6 +79,12 @@ def clause(head, text):
     return [one] if len(one) <= WIDTH else [f"    {head} {lines[0]}", *(f"        {line}" for line in lines[1:])]
 
 
+def signature(export):
+    """Returns the lines of an export's signature and its clauses."""
+    heads = [export.block.head, export.head] if export.block else [export.head]
+    return [*dict.fromkeys(heads), *(line for it in export.clauses for line in clause(*it))]
+
+
 def entry(promises, export):
     """Returns the lines of an export's entry."""
     lines = [f"### `{export.name}`", ""]
@@ -65,53 +93,53 @@ def entry(promises, export):
         about.append(f"(In the public module `{export.module}`; lib.rt does not export it by name.)")
     if about:
         lines += [*wrapped(" ".join(about)), ""]
-    heads = [export.block.head, export.head] if export.block else [export.head]
-    lines += ["```", *dict.fromkeys(heads), *(line for it in export.clauses for line in clause(*it)), "```"]
+    lines += ["```", *signature(export), "```"]
     cited = promises.cited(export)
     if cited:
         names = ", ".join(f"`{name}`" for name in sorted({key[2] for key in cited}))
-        count = promises.specs.lines(promises.specs.reached(cited))
-        lines += ["", f"Cites {names}: {count} lines to believe."]
+        lines += ["", f"Cites {names}: {lines_to_believe(promises, export)} lines to believe."]
     return "\n".join([*lines, ""]).split("\n")
 
 
-def page(promises):
-    """Returns the lines of the page."""
-    lines = HEAD.split("\n")
+def lines_to_believe(promises, export):
+    """Returns how many lines of definitions the clauses of an export reach."""
+    return promises.specs.lines(promises.specs.reached(promises.cited(export)))
+
+
+def row(promises, export):
+    """Returns an export's line of the list."""
+    names = [re.sub(r"^ensures (?=\w)|[ :=]+$", "", head) for head, _ in export.clauses]
+    total = hashlib.sha256("\n".join(signature(export)).encode()).hexdigest()[:8]
+    cells = [f"`{export.name}`", ", ".join(names), str(lines_to_believe(promises, export) or ""), total]
+    return "|" + "|".join(f" {it} " if it else " " for it in cells) + "|"
+
+
+def by_crate(promises, head, of_crate):
+    """Returns the lines of a page: its head, and for each crate its title and what it exports."""
+    lines = head.split("\n")
     for crate in promises.crates:
-        lines += [f"## `{crate.name}`", "", *wrapped(crate.doc), ""]
-        for other, names in crate.passed_on.items():
-            lines += [*wrapped(f"It exports again from `{other}`: {', '.join(f'`{it}`' for it in names)}."), ""]
-        for export in promises.exports:
-            if export.crate == crate.name:
-                lines += entry(promises, export)
+        exports = [it for it in promises.exports if it.crate == crate.name]
+        lines += [f"## `{crate.name}`", "", *of_crate(promises, crate, exports)]
     return lines[:-1]
+
+
+def crate_in_full(promises, crate, exports):
+    """Returns the lines of the whole page for a crate."""
+    lines = [*wrapped(crate.doc), ""]
+    for other, names in crate.passed_on.items():
+        lines += [*wrapped(f"It exports again from `{other}`: {', '.join(f'`{it}`' for it in names)}."), ""]
+    return lines + [line for it in exports for line in entry(promises, it)]
+
+
+def crate_in_rows(promises, _, exports):
+    """Returns the lines of the list for a crate."""
+    rows = [row(promises, it) for it in exports]
+    return ["| call | clauses | lines | sum |", "|---|---|---|---|", *rows, ""] if rows else []
 
 
 def read_page():
     """Returns the lines of the page as it is, or none where there is no page."""
     return PAGE.read_text(encoding="utf-8").split("\n")[:-1] if PAGE.is_file() else []
-
-
-def heading(lines, at):
-    """Returns the last heading up to a line."""
-    return next((line for line in reversed(lines[: at + 1]) if line.startswith("#")), "")
-
-
-def differences(old, new):
-    """Yields the lines that one of two pages has alone, below the headings of their entries."""
-    last = None
-    if old == new:
-        return
-    for kind, a, b, c, d in difflib.SequenceMatcher(None, old, new, autojunk=False).get_opcodes():
-        if kind == "equal":
-            continue
-        here = heading(old, a) if b > a else heading(new, c)
-        if here != last:
-            yield here
-        last = here
-        yield from (f"-{line}" for line in old[a:b] if line != here)
-        yield from (f"+{line}" for line in new[c:d] if line != here)
 
 
 def wrong_numbers(promises):
@@ -133,12 +161,19 @@ def lines_of(promises, name, clause, known=frozenset()):
     return [promises.specs.lines(promises.believed(it, clause) - known) for it in promises.having(name, clause)]
 
 
+def without_clause(promises):
+    """Returns how many exported functions have no clause."""
+    return sum(not it.clauses and re.search(r"\bfn\b", it.head) is not None for it in promises.exports)
+
+
 def counted(promises, path):
-    """Returns the lines of a page, with the lines to believe of its tables as they are by the sources."""
+    """Returns the lines of a page, with its numbers as they are by the sources: the lines to believe of its tables, and
+    how many calls have no clause."""
     name, clause = CIRCUIT_FILE
     circuit_file = set().union(*(promises.believed(it, clause) for it in promises.having(name, clause)))
     found, column = [], None
-    for line in path.read_text(encoding="utf-8").split("\n"):
+    text = UNCLAIMED.sub(str(without_clause(promises)), path.read_text(encoding="utf-8"))
+    for line in text.split("\n"):
         cells = [it.strip() for it in line.split("|")[1:-1]] if line.startswith("|") else []
         if cells and cells[-1] == BELIEVED:
             column = cells.index(CALL)
@@ -163,13 +198,42 @@ def wrong_quotes(promises):
             yield f"docs/PROVED.md shows a clause that no call has: {' '.join(shown.split())}"
 
 
+def wrong_pages(promises, new):
+    """Yields how the list and the numbers of README.md and docs/PROVED.md differ from the sources."""
+    yield from wrong_numbers(promises)
+    yield from wrong_quotes(promises)
+    pages = [(PAGE, read_page(), new)]
+    pages += [(it, it.read_text(encoding="utf-8").split("\n"), counted(promises, it)) for it in (README, PROVED)]
+    for path, old, sources in pages:
+        yield from difflib.unified_diff(old, sources, path.name, "the sources", lineterm="", n=0)
+
+
+def print_of(promises, name):
+    """Prints the contracts of a name in full."""
+    found = promises.named(name)
+    if not found:
+        sys.exit(f"no crate exports {name}: docs/CONTRACTS.md has the names")
+    for export in found:
+        print("\n".join([f"`{export.crate}`", "", *entry(promises, export)]))
+
+
 def main():
     reader = argparse.ArgumentParser(description=__doc__, formatter_class=argparse.RawDescriptionHelpFormatter)
-    reader.add_argument("--write", action="store_true", help="write the page")
+    kind = reader.add_mutually_exclusive_group()
+    kind.add_argument("--write", action="store_true", help="write the list, and the columns of README and PROVED")
+    kind.add_argument("--of", metavar="NAME", help="print the contracts of one call, as `Bench::rewire`, in full")
+    kind.add_argument("--page", metavar="FILE", help="write the contracts of all calls to FILE")
     chosen = reader.parse_args()
     sys.stdout.reconfigure(encoding="utf-8")
     promises = Promises()
-    new = page(promises)
+    if chosen.of:
+        print_of(promises, chosen.of)
+        return 0
+    if chosen.page:
+        whole = by_crate(promises, PAGE_HEAD, crate_in_full)
+        pathlib.Path(chosen.page).write_text("\n".join(whole) + "\n", encoding="utf-8")
+        return 0
+    new = by_crate(promises, LIST_HEAD, crate_in_rows)
     count = f"{len(promises.exports)} entries with {sum(len(it.clauses) for it in promises.exports)} clauses"
     if chosen.write:
         PAGE.write_text("\n".join(new) + "\n", encoding="utf-8")
@@ -177,22 +241,16 @@ def main():
             path.write_text("\n".join(counted(promises, path)), encoding="utf-8")
         print(f"{count}: written to docs/CONTRACTS.md")
         return 0
-    wrong = [*wrong_numbers(promises), *wrong_quotes(promises)]
-    for path in (README, PROVED):
-        old = path.read_text(encoding="utf-8").split("\n")
-        wrong += difflib.unified_diff(old, counted(promises, path), path.name, "the sources", lineterm="", n=0)
-    for line in wrong:
+    wrong = [*wrong_pages(promises, new)]
+    for line in wrong[:MOST_SHOWN]:
         print(line)
-    found = [*differences(read_page(), new)]
-    for line in found[:MOST_SHOWN]:
-        print(line)
-    if len(found) > MOST_SHOWN:
-        print(f"and {len(found) - MOST_SHOWN} lines more")
-    if found:
-        print("docs/CONTRACTS.md (-) differs from the sources (+): tools/contracts.py --write writes it anew")
-    if not found and not wrong:
-        print(f"{count}: docs/CONTRACTS.md is as the sources are")
-    return 1 if found or wrong else 0
+    if len(wrong) > MOST_SHOWN:
+        print(f"and {len(wrong) - MOST_SHOWN} lines more")
+    if wrong:
+        print("pages (-) differ from the sources (+): tools/contracts.py --write writes them anew")
+        return 1
+    print(f"{count}: docs/CONTRACTS.md is as the sources are")
+    return 0
 
 
 if __name__ == "__main__":

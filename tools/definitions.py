@@ -1,10 +1,11 @@
 #!/usr/bin/env python3
 """Prints which definitions a reader has to believe: those that the contracts of exported functions reach.
 
-It compares the lists under "Definitions" in the READMEs of the crates with the heads of the files of specs/, and fails
-where they differ; --write writes them. Each file of a crate's specs/ has a line: how many of its lines are reached, and of how many. With --names the
-definitions themselves are listed. It fails where one that is reached is in specs/state/, which is for what proofs alone
-need.
+It compares the lists under "Definitions" in the READMEs of the crates with the heads of the files of specs/, and the
+numbers of docs/DEFINITIONS.md with the sources. It fails where they differ; --write writes them. It also fails where
+"Where to begin" of that page names a file that is not there. Each file of a crate's specs/ has a line: how many of its
+lines are reached, and of how many. With --names the definitions themselves are listed. It fails where one that is
+reached is in specs/state/, which is for what proofs alone need.
 
 `--of NAME` prints the definitions of one call, as `convert`, `Bench::rewire` or `aig_refute::check`, and their lines.
 With `--clause CLAUSE` it prints those of one clause. A clause without a name is called `ensures` or `requires`. With
@@ -12,6 +13,10 @@ With `--clause CLAUSE` it prints those of one clause. A clause without a name is
 who has read that. As in
 
     tools/definitions.py --of refute --clause unreachable --given check.confirmed
+
+`--code` prints the bodies between the proved clauses and the system: those that say which file, which arguments and
+which stream a command gets. No clause can say that, because std does not say which bytes these have. README.md has the
+count of their lines, which is compared.
 
 What public modules show counts as exported too: crates above use it.
 
@@ -28,6 +33,18 @@ from sources.exports import Crate, crates
 from sources.specs import ROOT, Specs, head, words
 
 LIST = re.compile(r"(?ms)^## Definitions\n\n(.*?)(?=^## |\Z)")
+PAGE = ROOT / "docs" / "DEFINITIONS.md"
+# What the page says of all definitions.
+SHARE = re.compile(r"\d+(?= %\s+of\s+the\s+lines\b)")
+EXAMPLES = re.compile(r"\d+ of \d+(?=\s+files\s+have\s+an\s+example\b)")
+# A file of specs/ as the page names it: `base/Value` of aig_base.
+POINTER = re.compile(r"`(\w+)/(\w+)`")
+README = ROOT / "README.md"
+CODE = re.compile(r"\d+(?=\s+lines\s+of\s+code\b)")
+# The functions between the clauses and the system, each with its file.
+BETWEEN = (("aig/src/main.rt", "main"), ("aig/src/main.rt", "run"), ("aig/src/main.rt", "run_on"),
+           ("aig_program/src/arguments.rt", "all"), ("aig_files/src/files.rt", "open"),
+           ("aig_files/src/files.rt", "output"), ("aig_files/src/terminal.rt", "write_some"))
 WIDTH = 120
 
 
@@ -141,6 +158,57 @@ def compare_lists(specs, reached, write):
     return wrong
 
 
+def code():
+    """Returns the functions between the clauses and the system, each with the lines of its body."""
+    found = []
+    for file, name in BETWEEN:
+        text = (ROOT / "crates" / file).read_text(encoding="utf-8")
+        body = re.search(rf"(?ms)^( *)(?:pub )?fn {name}\b[^{{]*(?:\{{[^\n]*\}}\n[^{{]*)*?\{{\n(.*?)^\1\}}$", text)
+        if not body:
+            sys.exit(f"{file} has no function {name}")
+        found.append((file, name, body[2].rstrip("\n").split("\n")))
+    return found
+
+
+def print_code():
+    """Prints these functions and the count of their lines."""
+    bodies = code()
+    for file, name, lines in bodies:
+        print("\n".join([f"{file}: {name}", *lines, ""]))
+    print(f"{sum(len(lines) for _, _, lines in bodies)} lines of code")
+
+
+def with_examples(specs):
+    """Returns how many files with definitions have an example, and how many there are, without those of state/."""
+    files = [it for it in by_file(specs, specs.table) if "state" not in it.parts]
+    return sum("Example" in head(ROOT / "crates" / it) for it in files), len(files)
+
+
+def counts(specs, reached):
+    """Returns what pages say in numbers: a page, the pattern of a number, its value and what it counts."""
+    shown, files = with_examples(specs)
+    return ((PAGE, SHARE, round(100 * specs.lines(reached) / specs.lines(specs.table)), "the share of lines"),
+            (PAGE, EXAMPLES, f"{shown} of {files}", "how many files have an example"),
+            (README, CODE, sum(len(lines) for _, _, lines in code()), "how many lines of code to read"))
+
+
+def compare_pages(specs, reached, write):
+    """Compares the numbers of pages and the names of docs/DEFINITIONS.md with the sources, or writes the numbers.
+    Returns how many are wrong."""
+    wrong = [f"{PAGE.name}: no file of specs/ is {crate}/{name}"
+             for crate, name in POINTER.findall(PAGE.read_text(encoding="utf-8"))
+             if not (ROOT / "crates" / f"aig_{crate}" / "specs" / f"{name}.antt").is_file()]
+    for page, pattern, value, what in counts(specs, reached):
+        text = page.read_text(encoding="utf-8")
+        if write:
+            page.write_text(pattern.sub(str(value), text), encoding="utf-8")
+        elif pattern.findall(text) != [str(value)]:
+            wrong.append(f"{page.name} does not say {what}: {value} (--write)")
+    for line in wrong:
+        print(line)
+    return len(wrong)
+
+
 def with_clause(promises, name, clause):
     """Returns the exports of a name that have a clause, or all of them where no clause is asked for. It ends the script
     where there is none."""
@@ -172,11 +240,15 @@ def print_of(promises, name, clause, given):
 def main():
     reader = argparse.ArgumentParser(description=__doc__, formatter_class=argparse.RawDescriptionHelpFormatter)
     reader.add_argument("--names", action="store_true", help="list the definitions")
-    reader.add_argument("--write", action="store_true", help="write the lists of the READMEs")
+    reader.add_argument("--write", action="store_true", help="write the lists of the READMEs and the numbers")
     reader.add_argument("--of", metavar="NAME", help="one call, as `convert`, `Bench::rewire` or `aig_refute::check`")
     reader.add_argument("--clause", help="with --of: one clause of the call")
     reader.add_argument("--given", metavar="NAME[.CLAUSE]", help="with --of: without what this call or clause rests on")
+    reader.add_argument("--code", action="store_true", help="print the code between the clauses and the system")
     chosen = reader.parse_args()
+    if chosen.code:
+        print_code()
+        return 0
     if not chosen.of and (chosen.clause or chosen.given):
         reader.error("--clause and --given are for one call: --of NAME")
     promises = Promises()
@@ -186,7 +258,7 @@ def main():
     specs = promises.specs
     reached = set().union(*(promises.believed(it) for it in promises.exports))
     wrong = print_files(specs, reached, chosen.names)
-    differ = compare_lists(specs, reached, chosen.write)
+    differ = compare_lists(specs, reached, chosen.write) + compare_pages(specs, reached, chosen.write)
     print(f"{specs.lines(reached)} lines of {specs.lines(specs.table)} to believe, of {len(reached)} definitions; "
           f"{wrong} in the wrong folder")
     return 1 if wrong or differ else 0

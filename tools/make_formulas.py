@@ -1,25 +1,28 @@
 #!/usr/bin/env python3
-"""Writes text_proofs.rt and binary_proofs.rt of crates/aig_tests/src: random formulas of 20 to 60 variables, three
-literals a clause, that no assignment satisfies, each with the proof that cadical writes of it. It says too of how many first clauses cadical
-finds a satisfying assignment: all but the last.
+"""Writes the cases of tests/steps/kept.txt that cadical proves: random formulas of 20 to 60 variables, three literals a
+clause, that no assignment satisfies, though cadical finds one of all clauses but the last. tests/steps/kept.py reads
+them, in both forms of a proof.
 
 cadical is Debian's package `cadical`; another version of it may write other proofs."""
 
 import os
 import random
-import re
 import subprocess
+import sys
 import tempfile
 
-SOURCES = os.path.dirname(os.path.dirname(os.path.abspath(__file__))) + "/crates/aig_tests/src"
+TESTS = os.path.dirname(os.path.dirname(os.path.abspath(__file__))) + "/tests"
+sys.path.insert(0, TESTS)
+
+from library.plain_steps import steps_of  # noqa: E402
+from program.proofs import text_of  # noqa: E402
+from steps.cases import line_of  # noqa: E402
+from steps.kept import FILE, OF_CADICAL  # noqa: E402
+
 UNSATISFIABLE = 20  # cadical's status
 CLAUSES_A_VARIABLE = 5
-# The files: the form of the proofs, the numbers of variables, and cadical's option.
-FILES = (("text", range(20, 57, 4), ["--no-binary"]), ("binary", [*range(22, 57, 4), 60], []))
-HEAD = """//! Random formulas and a solver's proofs of them in the {form} form. `tools/make_formulas.py` writes this file.
-use crate::refutations::Refuted;
-
-pub static {name}: [Refuted; {count}] = ["""
+# The form of a proof, numbers of variables, and cadical's option for that form.
+FORMS = (("text", range(20, 57, 4), ["--no-binary"]), ("binary", [*range(22, 57, 4), 60], []))
 
 
 def random_formula(variables, rng):
@@ -39,7 +42,7 @@ def solved(variables, clauses, *options):
 
 
 def contradiction(variables, seed):
-    """The first formula from this seed on that no assignment satisfies, cut behind the clause that makes it one."""
+    """The first formula from this seed on that no assignment satisfies, cut after the clause that makes it one."""
     while True:
         clauses = random_formula(variables, random.Random(seed))
         if solved(variables, clauses)[0] == UNSATISFIABLE:
@@ -50,41 +53,29 @@ def contradiction(variables, seed):
     return clauses
 
 
-def escaped(byte):
-    """A byte in a byte string."""
-    special = {ord("\n"): "\\n", ord("\\"): "\\\\", ord('"'): '\\"', 0: "\\0"}
-    return special.get(byte) or (chr(byte) if 32 <= byte < 127 else f"\\x{byte:02x}")
+def spelled(steps):
+    return text_of(steps).decode().replace("\n", " ").rstrip()
 
 
-def byte_string(data):
-    """A byte string in lines, none of which begins with a blank: that would not count."""
-    lines = [""]
-    for word in re.findall(rb"[^ \n]*[ \n]*", data) if b"\0" not in data else [bytes([byte]) for byte in data]:
-        piece = "".join(map(escaped, word))
-        if len(lines[-1]) + len(piece) > 109 and not piece.startswith(" "):
-            lines.append("")
-        lines[-1] += piece
-    return 'b"' + "\\\n        ".join(lines) + '"'
-
-
-def rows(counts, options):
-    """The rows of a table."""
-    for variables in counts:
-        clauses = contradiction(variables, 1000 * variables)
-        _, proof = solved(variables, clauses, *options)
-        # The first step of a text ends its line.
-        text = " ".join(f"{' '.join(map(str, clause))} 0" for clause in clauses).replace(" 0 ", " 0\n", 1)
-        yield (f"    (\n        {variables},\n        {byte_string(text.encode())},\n        {len(clauses) - 1},\n"
-               f"        {byte_string(proof)},\n    ),\n")
+def entries():
+    """The cases, as the file has them."""
+    for form, counts, options in FORMS:
+        for variables in counts:
+            clauses = contradiction(variables, 1000 * variables)
+            _, proof = solved(variables, clauses, *options)
+            formula = spelled((False, clause) for clause in clauses)
+            yield (f"{OF_CADICAL[form]}, {variables} variables\n{variables}: {formula}\n{spelled(steps_of(proof))}\n"
+                   f"{line_of(clauses, proof)}\n")
 
 
 def main():
+    with open(FILE, encoding="utf-8") as file:
+        others = [entry for entry in file.read().split("\n\n") if not entry.startswith(tuple(OF_CADICAL.values()))]
     with tempfile.TemporaryDirectory() as folder:
         os.chdir(folder)
-        for form, counts, options in FILES:
-            head = HEAD.format(form=form, name=form.upper() + "_PROOFS", count=len(counts))
-            with open(f"{SOURCES}/{form}_proofs.rt", "w", encoding="ascii") as file:
-                file.write(head + "\n" + "".join(rows(counts, options)) + "];\n")
+        made = [*entries()]
+    with open(FILE, "w", encoding="utf-8") as file:
+        file.write("\n".join(made) + "\n" + "\n\n".join(others))
 
 
 if __name__ == "__main__":

@@ -1,6 +1,6 @@
 #!/usr/bin/env python3
-"""Writes the manual pages in man/ from what the help of the program and of aig-verdicts says, from docs/BEHAVIOUR.md and
-from docs/FORMATS.md. usage: tools/make_manual.py PROGRAM"""
+"""Writes the manual pages in man/ from what the help of the program and of aig-verdicts says, from docs/BEHAVIOUR.md,
+docs/EXPLAIN.md and docs/FORMATS.md. usage: tools/make_manual.py PROGRAM"""
 
 import os
 import sys

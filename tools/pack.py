@@ -40,8 +40,9 @@ Description: verified AIGER toolkit
  Converts, simulates, edits, unrolls and checks and-inverter graphs in the
  AIGER formats, and writes their runs as waves. It is for people who run
  hardware model checkers and have to trust a verdict. The package has the
- program, a library for C, and aig-verdicts, which finds the verdicts on the
- assertions of a Verilog design with Yosys, cadical and ABC.
+ program, a library for C, aig-explain, which says why a command failed, and
+ aig-verdicts, which finds the verdicts on the assertions of a Verilog design
+ with Yosys, cadical and ABC.
 """
 
 COPYRIGHT = """\

@@ -1,12 +1,14 @@
 #!/usr/bin/env python3
-"""Compares the pages with each other, and docs/CALLING.md with the programs of crates/aig_callers.
+"""Compares the pages with each other, and docs/CALLING.md with the programs of crates/aig_tests.
 
 - Each link to a file leads to one, and each link to a section to a heading of its page.
 - No line has more than 120 columns, except for code.
-- Each block of Rattle code in CALLING.md is a piece of a module of crates/aig_callers, the page names each module, and
+- VERDICTS.md and PROVED.md name the files of Python that an auditor of a `recheck` reads, each with its lines. None of
+  them has more than 250.
+- Each block of Rattle code in CALLING.md is a piece of a module of crates/aig_tests, the page names each module, and
   what it says that a program prints is a line of the crate's `stdout`.
 
---write breaks the lines of each paragraph anew that has a longer one. The script reads text and proves nothing."""
+--write breaks the lines of each paragraph anew that has a longer one, and counts the lines of those files. The script reads text and proves nothing."""
 
 import argparse
 import itertools
@@ -20,8 +22,12 @@ PATTERNS = ("*.md", "docs/*.md", "examples/*.md", "python/*.md", "crates/*/READM
 LONG_LINES = ("docs/CONTRACTS.md", "docs/PERFORMANCE.md")
 COLUMNS = 120
 CALLING = ROOT / "docs" / "CALLING.md"
-CALLERS = ROOT / "crates" / "aig_callers"
+CALLERS = ROOT / "crates" / "aig_tests"
 MARK = re.compile(r" *(?:-|\d+\.) ")
+# What an auditor of a `recheck` reads, the pages that say so, and the most lines that such a file may have.
+AUDITED = tuple(ROOT / "python" / "src" / "aig" / "verdicts" / name for name in ("checked.py", "decisions.py"))
+NAMES_AUDITED = ("docs/VERDICTS.md", "docs/PROVED.md")
+MOST_AUDITED = 250
 
 
 def blocks(text):
@@ -81,7 +87,8 @@ def is_long(block):
 def rewrite(path):
     """Breaks the long lines of a page's paragraphs anew."""
     old = path.read_text(encoding="utf-8")
-    new = "\n".join("\n".join(filled(block) if is_long(block) else block) for block in blocks(old))
+    text = recounted(old) if str(path.relative_to(ROOT)) in NAMES_AUDITED else old
+    new = "\n".join("\n".join(filled(block) if is_long(block) else block) for block in blocks(text))
     if new != old:
         path.write_text(new, encoding="utf-8")
 
@@ -121,17 +128,39 @@ def wrong_programs():
     calling = (CALLERS / "src" / "calling.rt").read_text(encoding="utf-8")
     names = re.findall(r"(?m)^mod (\w+);", calling)
     if sorted(names) != sorted(re.findall(r"(?m)^    (\w+)::run\(rt\)", calling)):
-        yield "crates/aig_callers: calling.rt does not run each module once"
+        yield "crates/aig_tests: calling.rt does not run each module once"
     yield from (f"docs/CALLING.md does not name {name}.rt" for name in names if f"{name}.rt" not in text)
     sources = [(CALLERS / "src" / "calling" / f"{name}.rt").read_text(encoding="utf-8") for name in names]
     for piece in re.findall(r"(?ms)^```rust\n(.*?)^```$", text):
         if not any(f"\n{piece}" in source for source in sources):
-            yield f"docs/CALLING.md: no module of crates/aig_callers has {piece.splitlines()[0]}"
+            yield f"docs/CALLING.md: no module of crates/aig_tests has {piece.splitlines()[0]}"
     printed = (CALLERS / "stdout").read_text(encoding="utf-8").splitlines()
     section = text.partition("\n## From Rattle\n")[2].partition("\n## ")[0]
     for line in re.findall(r"It\s+prints\s+`([^`]+)`", section):
         if " ".join(line.split()) not in printed:
-            yield f"docs/CALLING.md: crates/aig_callers does not print {line}"
+            yield f"docs/CALLING.md: crates/aig_tests does not print {line}"
+
+
+def counted(path):
+    return path.read_text(encoding="utf-8").count("\n")
+
+
+def recounted(text):
+    """A page with the right numbers of lines of the files that an auditor reads."""
+    for path in AUDITED:
+        text = re.sub(rf"(`{path.name}`\s\()\d+(\slines\))", rf"\g<1>{counted(path)}\g<2>", text)
+    return text
+
+
+def wrong_counts():
+    """Yields what pages say wrong of the files that an auditor reads, and those that are too long."""
+    for path in AUDITED:
+        if counted(path) > MOST_AUDITED:
+            yield f"{path.relative_to(ROOT)}: {counted(path)} lines are too many to read"
+        for page in NAMES_AUDITED:
+            said = re.findall(rf"`{path.name}`\s\((\d+)\slines\)", (ROOT / page).read_text(encoding="utf-8"))
+            if said != [str(counted(path))]:
+                yield f"{page}: {path.name} has {counted(path)} lines, and the page says so once"
 
 
 def is_by_hand(path):
@@ -142,7 +171,7 @@ def is_by_hand(path):
 
 def main():
     reader = argparse.ArgumentParser(description=__doc__, formatter_class=argparse.RawDescriptionHelpFormatter)
-    reader.add_argument("--write", action="store_true", help="break long lines anew")
+    reader.add_argument("--write", action="store_true", help="break long lines anew, and count lines")
     chosen = reader.parse_args()
     paths = sorted(path for pattern in PATTERNS for path in ROOT.glob(pattern))
     wrong = [*wrong_programs()]
@@ -152,6 +181,7 @@ def main():
             rewrite(path)
         text = path.read_text(encoding="utf-8")
         wrong += [*wrong_links(name, text), *(wrong_lines(name, text) if name not in LONG_LINES else ())]
+    wrong += wrong_counts()
     for line in wrong:
         print(line)
     if not wrong:

@@ -8,8 +8,12 @@ A file of bugs begins with `file:` and the path of a source. Each bug is a parag
 `seen:` with the script and its part, and pairs of `old:` and `new:`. `old:` is a piece of one line that is in the
 source exactly once. An edit that no longer applies fails, whatever is tried.
 
-With --sample N it tries so many bugs. The commit chooses them, and each commit chooses others. tests/all.py tries 40,
-and runs all parts without a bug too, so a sample does that for one part of each script alone."""
+seen.txt has a sum of each bug that was seen: of the bug, of its source, and of the file of its part. --new tries the
+bugs whose sum is another one, or is not there; --write notes those that are seen.
+
+With --sample N it tries so many bugs: first those that --new would try, then those that the commit chooses; each commit
+chooses others. tests/all.py tries 40, and runs all parts without a bug too, so a sample does that for one part of each
+script alone."""
 
 import argparse
 import collections
@@ -32,8 +36,10 @@ sys.path.insert(0, str(ROOT / "tests"))
 from library import runs, supervised  # noqa: E402
 
 BUGS, SCRIPTS = "python/tests/planted", "python/tests"
+# The sums of the bugs that were seen.
+SEEN = ROOT / BUGS / "seen.txt"
 # What the scripts read.
-COPIED = ("python", "tests", "examples", "tools", "include")
+COPIED = ("python", "tests", "examples", "tools", "include", "docs")
 # Processor seconds that a part may take: a bug may go on for ever.
 MOST_SECONDS = 120
 
@@ -83,10 +89,44 @@ def is_right_python(bug):
         return False
 
 
+def file_of(seen):
+    """The file of a part: one in the folder of its script, else the script."""
+    script, part = seen.split()
+    path = ROOT / SCRIPTS / script
+    folder = path.with_name(path.stem.removeprefix("run_"))
+    found = [folder / f"{name}.py" for name in re.findall(rf"(\w+)\.{part}_?\b", path.read_text())]
+    return next((each for each in found if each.is_file()), path)
+
+
+def sum_of(bug):
+    """The sum of a bug, of its source, and of the file of the part that has to see it."""
+    texts = [str(tuple(bug)), (ROOT / bug.file).read_text(), file_of(bug.seen).read_text()]
+    return hashlib.sha256("\0".join(texts).encode()).hexdigest()[:16]
+
+
+def recorded():
+    """The names of the bugs that were seen, with their sums."""
+    return dict(line.split() for line in SEEN.read_text().splitlines()) if SEEN.exists() else {}
+
+
+def unseen(bugs):
+    """Those that are not noted as seen, as they are now."""
+    before = recorded()
+    return [bug for bug in bugs if before.get(bug.name) != sum_of(bug)]
+
+
+def note(bugs, seen, known):
+    """Notes which of the bugs that were tried were seen. Of all others, those stay of which nothing changed."""
+    without = {bug.name for bug in (*unseen(known), *bugs)} - {bug.name for bug in seen}
+    SEEN.write_text("".join(f"{bug.name} {sum_of(bug)}\n" for bug in known if bug.name not in without))
+
+
 def sampled(bugs, count, commit):
-    """So many of the bugs, as the commit chooses."""
+    """So many of the bugs: first those that are not noted as seen, then those that the commit chooses."""
+    new = {bug.name for bug in unseen(bugs)}
+
     def order(bug):
-        return hashlib.sha256(f"{commit} {bug.name}".encode()).hexdigest()
+        return bug.name not in new, hashlib.sha256(f"{commit} {bug.name}".encode()).hexdigest()
 
     return sorted(bugs, key=order)[:count]
 
@@ -164,44 +204,65 @@ def results(tasks, copies, work):
         yield from zip(tasks, pool.map(one, tasks))
 
 
-def main():
+def arguments():
     parser = argparse.ArgumentParser(description=__doc__, formatter_class=argparse.RawDescriptionHelpFormatter)
     parser.add_argument("--jobs", type=int, default=2, help="how many parts run side by side (else 2)")
     parser.add_argument("--only", action="append", help="the bugs whose names hold this; may be given again")
+    parser.add_argument("--new", action="store_true", help="the bugs that are not noted as seen, as they are now")
     parser.add_argument("--sample", type=int, metavar="N", help="so many of the bugs, as the commit chooses")
     parser.add_argument("--list", action="store_true", help="prints the bugs, and tries none")
+    parser.add_argument("--write", action="store_true", help="notes the bugs that are seen")
     parser.add_argument("program", nargs="?", help="the program that the package runs (else that of the gate)")
-    words = parser.parse_args()
-    known = all_bugs()
-    broken = [bug.name for bug in known if not is_right_python(bug)]
-    for name in broken:
+    return parser.parse_args()
+
+
+def chosen(known, words):
+    """The bugs that the command line asks for."""
+    bugs = [bug for bug in known if not words.only or any(word in bug.name for word in words.only)]
+    bugs = unseen(bugs) if words.new else bugs
+    return bugs if words.sample is None else sampled(bugs, words.sample, gate.asked("git", "rev-parse", "HEAD"))
+
+
+def tried(bugs, copies, are_sampled):
+    """The bugs that are seen, and how many others there are. Of a sample, one part of each script runs without a bug."""
+    rights = {bug.seen.split()[0] if are_sampled else bug.seen: bug.seen for bug in bugs}
+    failed, seen = 0, []
+    for part, shown in results(sorted(rights.values()), copies, Copy.shown):
+        if shown.has_failed is not False:
+            print(f"{part}: FAILED: without a bug: {shown.why}", flush=True)
+            failed += 1
+    for bug, shown in results(bugs, copies, Copy.tried):
+        if shown.has_failed:
+            seen.append(bug)
+        else:
+            print(f"{bug.name}: FAILED: not seen by {bug.seen}: {shown.why}", flush=True)
+            failed += 1
+    return seen, failed
+
+
+def main():
+    words = arguments()
+    every = all_bugs()
+    known = [bug for bug in every if is_right_python(bug)]
+    for name in sorted({bug.name for bug in every} - {bug.name for bug in known}):
         print(f"{name}: FAILED: it cannot be applied", flush=True)
-    bugs = [bug for bug in known if bug.name not in broken]
-    bugs = [bug for bug in bugs if not words.only or any(word in bug.name for word in words.only)]
-    if words.sample is not None:
-        bugs = sampled(bugs, words.sample, gate.asked("git", "rev-parse", "HEAD"))
+    bugs = chosen(known, words)
     if words.list:
         for bug in bugs:
             print(f"{bug.name}: {bug.wrong} ({bug.seen})")
         print(f"{len(bugs)} planted bugs")
         return 0
     program = os.path.abspath(words.program or runs.PROVED_PROGRAM)
-    failed = len(broken)
     with tempfile.TemporaryDirectory(prefix="planted-") as name:
         copies = [Copy(f"{name}/{number}", program) for number in range(max(1, words.jobs))]
-        rights = {bug.seen.split()[0] if words.sample is not None else bug.seen: bug.seen for bug in bugs}
-        for seen, shown in results(sorted(rights.values()), copies, Copy.shown):
-            if shown.has_failed is not False:
-                print(f"{seen}: FAILED: without a bug: {shown.why}", flush=True)
-                failed += 1
-        passed = 0
-        for bug, shown in results(bugs, copies, Copy.tried):
-            passed, failed = passed + bool(shown.has_failed), failed + (not shown.has_failed)
-            if not shown.has_failed:
-                print(f"{bug.name}: FAILED: not seen by {bug.seen}: {shown.why}", flush=True)
+        seen, failed = tried(bugs, copies, words.sample is not None)
+    if words.write:
+        note(bugs, seen, known)
+    failed += len(every) - len(known)
     usage = resource.getrusage(resource.RUSAGE_CHILDREN)
     seconds = usage.ru_utime + usage.ru_stime
-    print(f"planted bugs of Python, {seconds:.0f} processor seconds: {passed} passed, {failed} failed")
+    print(f"{len(known) - len(unseen(known))} of {len(every)} planted bugs of Python are noted as seen")
+    print(f"planted bugs of Python, {seconds:.0f} processor seconds: {len(seen)} passed, {failed} failed")
     return 1 if failed else 0
 
 

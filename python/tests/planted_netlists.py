@@ -2,6 +2,8 @@
 """Plants errors in what Yosys read, as if Yosys were wrong, and counts those that `aig-verdicts run` sees by Icarus
 Verilog: an operator, a bit of a constant, an edge, a value of a register, or an index is another one.
 
+Nine of ten have to be seen: else it fails.
+
 usage: planted_netlists.py [PROGRAM] [COUNT]. It needs yosys, cadical and iverilog, and is no part of the gate."""
 
 import json
@@ -114,3 +116,4 @@ if __name__ == "__main__":
             print(f"{result}: {source.name}, seed {seed - 1}, {kind}: {edit}", flush=True)
     missed = counts.get("missed", 0)
     print(f"planted netlists: {sum(counts.values()) - missed} seen, {missed} missed")
+    sys.exit(missed > wanted / 10)

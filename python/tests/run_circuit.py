@@ -18,7 +18,6 @@ os.environ["AIG_PROGRAM"] = os.path.abspath(sys.argv[1] if len(sys.argv) > 1 els
 from aig.verdicts import names, tree, warnings, yosys  # noqa: E402
 from aig.verdicts.cycles import cycles_of  # noqa: E402
 from aig.verdicts.design import read_verilog  # noqa: E402
-from aig.verdicts.row import Row  # noqa: E402
 from aig.verdicts.places import with_place  # noqa: E402
 from aig.verdicts.scope import Scope  # noqa: E402
 from aig.verdicts.sources import Sources, look_at_words, plain_name  # noqa: E402
@@ -26,6 +25,7 @@ from aig.verdicts.labels import as_blocks, labels  # noqa: E402
 from aig.verdicts.messages import failure  # noqa: E402
 from aig.verdicts.tools import Ran, Stop, ToolFailed  # noqa: E402
 from aig.verdicts.versions import untried  # noqa: E402
+from believed import believed  # noqa: E402
 
 
 class Folder(unittest.TestCase):
@@ -402,7 +402,7 @@ class WithYosys(Folder):
             ("reg r = 0; always @(posedge other) r <= q; always @* x: assert (!r || !q); endmodule", "frame 4"),
         ):
             design = self.read(head + text)
-            found = cycles_of(design.circuit).at(Row(0, "assert", "x", by="run", frames=5))
+            found = cycles_of(design.circuit).at(believed(0, "assert", "x", by="run", frames=5))
             self.assertEqual(str(found), wanted, text)
 
     def test_signed_addresses(self):

@@ -10,11 +10,11 @@ from pathlib import Path
 PYTHON = Path(__file__).resolve().parent.parent
 sys.path[:0] = [str(PYTHON / "src"), str(PYTHON.parent / "tests")]
 from library import runs  # noqa: E402
-from pages import browser, made, moments, sentences, sizes, tags, values  # noqa: E402
+from pages import browser, made, moments, sentences, sizes, tags, values, wide  # noqa: E402
 
 PARTS = {
     "values": values.values, "names": values.names, "lines": values.lines, "frames": values.frames,
-    "mentioned": values.mentioned,
+    "mentioned": values.mentioned, "wide": wide.wide,
     "pictures": tags.pictures, "hostile": tags.hostile, "many": tags.many, "sizes": sizes.sizes,
     "moments": moments.moments, "for_ever": moments.for_ever, "sentences": sentences.sentences,
     "browser": browser.browser, "made": made.made,

@@ -1,13 +1,14 @@
 """Random circuits and certificates. Those with names of any kind: `strengthen` and `cnf --certificate` write the bytes of
-library/certificate.py, or its fault. Small ones, right and wrong, beside a search of all states (library/all_states.py):
-`refute` takes a proof exactly where start and step keep the property, and then no run reaches it; else `witness` writes the
-run of the start or of the step that fails, and `check` shows the part."""
+library/certificate.py, or its fault, and the same if a mapping takes the place of the names. Small ones, right and wrong,
+beside a search of all states (library/all_states.py): `refute` takes a proof exactly where start and step keep the
+property, and then no run reaches it; else `witness` writes the run of the start or of the step that fails, and `check`
+shows the part."""
 
 from at_random.cases import Wrong, each
 from at_random.waves import renamed
 from library.all_states import broken_by, model_of, reaches, run_of
 from library.broken import circuit
-from library.certificate import clauses_of, formula, proof_of, strengthened
+from library.certificate import clauses_of, formula, literals_of, proof_of, strengthened
 from library.dimacs import read_formula
 from library.families import searched
 from library.plain_reader import Fault, Parts, Reader, in_order, spelled
@@ -44,7 +45,39 @@ def named(rng, parts, model):
     chosen = rng.choice((0, 0, 1, 4))
     names = [(letter, place, name(old) if letter in b"il" and rng.randrange(4) < chosen else old)
              for letter, place, old in parts.names]
-    return parts._replace(names=names, comment=rng.choice((None, None, b"", b"by hand", b"MAPPING 1\n2 2\n", b" MAPPING")))
+    comment = rng.choice((None, None, b"", b"by hand", b"MAPPING 1\n2 2\n", b" MAPPING", any_mapping(rng, parts, defined)))
+    return parts._replace(names=names, comment=comment)
+
+
+def any_mapping(rng, parts, defined):
+    """A mapping of some inputs and latches, which is wrong now and then."""
+    entries = [literal for literals in literals_of(parts).values() for literal in literals]
+    chosen = rng.sample(entries, rng.randrange(len(entries) + 1))
+    if rng.randrange(8) == 0:
+        chosen.append(rng.choice((0, *entries)))
+    lines = [b"%d %d" % (own ^ rng.randrange(2), rng.choice(defined) ^ rng.randrange(2)) for own in chosen]
+    if lines and rng.randrange(8) == 0:
+        lines[rng.randrange(len(lines))] = rng.choice((b"", b"2", b"2 x", b" 2 2", b"2 2 ", b"%d 2" % (2 * parts.most + 2)))
+    return b"".join(line + b"\n" for line in (b"MAPPING %d" % (len(lines) + (rng.randrange(12) == 0)), *lines))
+
+
+def is_mark(name):
+    """Whether a name says what an input or a latch stands for."""
+    letter, _, text = name
+    return letter in (b"i", b"l") and text.startswith(b"= ")
+
+
+def mapped(rng, parts):
+    """The certificate with the lines of a mapping in the place of the names that begin with `= `."""
+    own = literals_of(parts)
+    pairs = [(own[letter][place], int(name[2:])) for letter, place, name in filter(is_mark, parts.names)]
+    rng.shuffle(pairs)
+    lines = [rng.choice((b"", b"by hand\n")) + b"MAPPING %d" % len(pairs)]
+    for literal, meaning in pairs:
+        sign = rng.randrange(2)
+        lines.append(b"%d %d" % (literal ^ sign, meaning ^ sign))
+    names = [name for name in parts.names if not is_mark(name)]
+    return parts._replace(names=names, comment=b"\n".join(lines) + rng.choice((b"", b"\n", b"\nmore\n")))
 
 
 def bytes_of(program, rng):
@@ -55,6 +88,7 @@ def bytes_of(program, rng):
     write("claims", text)
     asked = rng.randrange(len(model.bad) + (rng.randrange(8) == 0)) if model.bad else 0
     words = ["--certificate", "claims", "--property", str(asked), "model"]
+    answers = []
     for word, command, written in (("strengthen", ["strengthen", "--to", "aag"], lambda x: spelled(x, "aag")),
                                    ("strengthen", ["strengthen", "--to", "aig"], lambda x: spelled(in_order(x), "aig")),
                                    ("cnf", ["cnf"], lambda x: formula(x, asked))):
@@ -65,6 +99,15 @@ def bytes_of(program, rng):
             wanted = refused(f"{fault}")
         if got != wanted:
             raise Wrong(f"{command}: {got}, wanted {wanted}")
+        answers.append((command, got))
+    if answers[0][1].status == 0 and any(map(is_mark, claims.names)):
+        # The binary format may want other numbers, and a mapping has those of the text.
+        formats = ("aag", "aig") if in_order(claims) == claims else ("aag",)
+        write("claims", spelled(mapped(rng, claims), rng.choice(formats)))
+        for command, wanted in answers:
+            got = program.run(*command, *words)
+            if got != wanted:
+                raise Wrong(f"{command}, by a mapping: {got}, wanted {wanted}")
     return "written" if wanted.status == 0 else "refused"
 
 
@@ -215,6 +258,8 @@ def verdict_of(program, rng):
         if is_reached and rng.randrange(3):
             continue
         claims = rng.choice(KINDS)(rng, model, states)
+        if any(map(is_mark, claims.names)) and rng.randrange(2):
+            claims = mapped(rng, claims)
         x = strengthened(model, 0, claims)
         if 2 * len(x.inputs) + len(x.latches) <= 12 and len(x.gates) <= 60:
             break

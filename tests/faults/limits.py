@@ -99,8 +99,8 @@ def least_to_begin(program):
 def sweep(program, tally, words, least, step):
     """The runs from one limit on, until memory is enough."""
     whole, told = limited(program, words, None), 0
-    # A line of a script or a session may find no memory, and the next one some; an explanation may find none.
-    is_free = words[0] in ("bench", "shell", "--explain")
+    # A line of a script or a session may find no memory, and the next one some.
+    is_free = words[0] in ("bench", "shell")
     for limit in range(least, least + step * MOST, step):
         ended = limited(program, words, limit)
         if ended == whole:

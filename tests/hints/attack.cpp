@@ -1,7 +1,7 @@
 // attack COUNT SEED PROGRAM
 //
 // Makes random formulas of two to six variables, each with a proof in LRAT, and has PROGRAM check them, which is
-// aig_callers. A third of the proofs are right: they have hints that give nothing, gaps in their numbers, groups of
+// aig_tests. A third of the proofs are right: they have hints that give nothing, gaps in their numbers, groups of
 // hints in any order, and variables of their own. The steps of the others are changed, and bytes of some of these.
 //
 // PROGRAM marks each step. A slow reference has to give the same marks, except where bytes were changed. No proof may

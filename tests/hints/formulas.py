@@ -1,5 +1,5 @@
 """Random formulas with proofs in LRAT, made in C++ by tests/hints/attack.cpp: a slow reference marks each step as
-aig_callers does, and no proof refutes a formula that an assignment satisfies."""
+aig_tests does, and no proof refutes a formula that an assignment satisfies."""
 
 import re
 

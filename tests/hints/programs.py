@@ -11,7 +11,7 @@ from library.runs import REPOSITORY, LeftOut, Program
 
 HERE = os.path.dirname(os.path.abspath(__file__))
 COMPILERS = ("c++", "g++", "clang++")
-PROOF_TESTS = "aig_callers"
+PROOF_TESTS = "aig_tests"
 _room = tempfile.TemporaryDirectory()
 
 
@@ -33,7 +33,7 @@ def ran(name, *words):
 
 
 def proof_tests(program):
-    """The program aig_callers, which is beside the program that is tested, or that the gate proved."""
+    """The program aig_tests, which is beside the program that is tested, or that the gate proved."""
     proved = f"{REPOSITORY}/crates/{PROOF_TESTS}/out/{PROOF_TESTS}"
     path = f"{os.path.dirname(program.path)}/{PROOF_TESTS}" if program.is_named else proved
     if not os.access(path, os.X_OK):

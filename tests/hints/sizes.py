@@ -33,7 +33,7 @@ def end(number):
 
 
 class Sizes:
-    """Checks what aig_callers says of proofs."""
+    """Checks what aig_tests says of proofs."""
 
     def __init__(self, checker, tally):
         self.checker, self.tally = checker, tally

@@ -1,7 +1,7 @@
 """Proofs in DRAT that tests/hints/drat2lrat.cpp turns into LRAT, with --trim and without it. `aig refute` takes them
-for each of its goals, and for no other formula. aig_callers takes those of formulas that no circuit has. Another
+for each of its goals, and for no other formula. aig_tests takes those of formulas that no circuit has. Another
 checker in C++ takes them too, also where no hint may give nothing. Of a random proof it names the first step that is
-wrong, as aig_callers does. Then come its messages and statuses."""
+wrong, as aig_tests does. Then come its messages and statuses."""
 
 import os
 
@@ -105,7 +105,7 @@ def own_variables(tally, checker):
                 line = lines_of(checker, [case(variables, clauses, contents(lrat))])[0]
                 marks, _, end = line.partition(" ")
                 is_right = WRONG not in marks and ON_FIRST in marks and end == REFUTED
-                tally.check(f"translated: {name}, {form}, {way}, by aig_callers", is_right, line[-40:])
+                tally.check(f"translated: {name}, {form}, {way}, by aig_tests", is_right, line[-40:])
                 tally.check(f"translated: {name}, {form}, {way}: deletions", (DELETED in marks) == (
                     way == "trimmed" or any(is_deleted for is_deleted, _ in steps)), marks[-40:])
 
@@ -127,7 +127,7 @@ def random_proofs(tally, checker, seed):
 
 
 def end_of(line):
-    """How the check of a proof in DRAT ends by the line of aig_callers, which goes on after a wrong step."""
+    """How the check of a proof in DRAT ends by the line of aig_tests, which goes on after a wrong step."""
     marks, _, end = line.partition(" ")
     return f"step {marks.index(WRONG) + 1}" if WRONG in marks else end
 
@@ -145,7 +145,7 @@ def one(tally, checker, name, variables, clauses, proof, end):
         if status == 0:
             lrat = contents("f.lrat")
             line = lines_of(checker, [b"%d %d %d\n%s%s" % (variables, len(clauses), len(lrat), clauses, lrat)])[0]
-            tally.check(f"{name}, {words}, by aig_callers", WRONG not in line and line.endswith(REFUTED), line)
+            tally.check(f"{name}, {words}, by aig_tests", WRONG not in line and line.endswith(REFUTED), line)
             tally.compare(f"{name}, {words}, by lrat_check", ran("lrat_check", "f.cnf", "f.lrat")[0], 0)
             os.remove("f.lrat")
 

@@ -7,7 +7,10 @@ from library.families import searched
 from library.plain_reader import Fault, levels_of
 
 LIMIT = 4194303
-LITERAL = re.compile(rb"0|[1-9][0-9]*")
+NUMBER = rb"(0|[1-9][0-9]*)"
+LITERAL = re.compile(NUMBER)
+HEADING = re.compile(rb"MAPPING " + NUMBER)
+PAIR = re.compile(NUMBER + rb" " + NUMBER)
 
 
 # ---- what the certificate's inputs and latches stand for
@@ -20,15 +23,46 @@ def literals_of(parts):
 def meanings(model, certificate):
     """For each input and each latch of the certificate the literal of the model that it stands for, or None."""
     names = {(letter, place): name for letter, place, name in certificate.names if letter in (b"i", b"l")}
+    defined = {0, *model.inputs, *(latch[0] for latch in model.latches), *(gate[0] for gate in model.gates)}
     if not any(name.startswith(b"= ") for name in names.values()):
-        if (certificate.comment or b"").startswith(b"MAPPING"):
-            raise Fault("certificate: comment")
+        said = mapping(defined, certificate)
+        if said is not None:
+            return {letter: [said.get(literal) for literal in literals]
+                    for letter, literals in literals_of(certificate).items()}
         shared = literals_of(model)
         return {letter: [shared[letter][place] if place < len(shared[letter]) else None for place in range(len(literals))]
                 for letter, literals in literals_of(certificate).items()}
-    defined = {0, *model.inputs, *(latch[0] for latch in model.latches), *(gate[0] for gate in model.gates)}
     return {letter: [named(defined, letter, place, names.get((letter, place), b"")) for place in range(len(literals))]
             for letter, literals in literals_of(certificate).items()}
+
+
+def mapping(defined, certificate):
+    """What a mapping in the comment says of inputs and latches, by their literals; None if there is no mapping."""
+    lines = (certificate.comment or b"").split(b"\n")
+    start = next((at for at, line in enumerate(lines) if line.startswith(b"MAPPING")), None)
+    if start is None:
+        return None
+    heading = HEADING.fullmatch(lines[start])
+    # A number of more digits is more than any file has lines.
+    count = int(heading[1][:12]) if heading else len(lines)
+    entries = {literal for literals in literals_of(certificate).values() for literal in literals}
+    said = {}
+    for line in lines[start + 1:][:count]:
+        own, literal = pair_of(line)
+        if own & ~1 not in entries or literal & ~1 not in defined or own & ~1 in said:
+            raise Fault("certificate: comment")
+        said[own & ~1] = literal ^ (own & 1)
+    if len(said) < count:
+        raise Fault("certificate: comment")
+    return said
+
+
+def pair_of(line):
+    """The two numbers of a line of a mapping."""
+    found = PAIR.fullmatch(line)
+    if found is None or len(line) > 30:
+        raise Fault("certificate: comment")
+    return int(found[1]), int(found[2])
 
 
 def named(defined, letter, place, name):

@@ -8,6 +8,7 @@ TEXTS = {
     "toggle": "aag 1 0 1 2 0\n2 3\n2\n3\n",
     "uninitialised_toggle": "aag 1 0 1 2 0\n2 3 2\n2\n3\n",
     "a_and_not_a": "aag 2 1 0 1 1\n2\n4\n4 2 3\n",
+    "negates": "aag 1 1 0 1 0\n2\n3\n",
     "feedback": "aag 3 1 1 1 1\n2\n4 6 4\n4\n6 4 2\n",
     "chain": "aag 3 1 2 1 0\n2\n4 2\n6 4\n6\n",
     "cycle": "aag 3 1 0 1 2\n2\n4\n4 6 2\n6 4 2\n",

@@ -1,5 +1,5 @@
-"""The manual pages, made from what the program's help says, from docs/BEHAVIOUR.md and from docs/FORMATS.md, and from the
-help of aig-verdicts."""
+"""The manual pages, made from what the program's help says, from docs/BEHAVIOUR.md, docs/EXPLAIN.md and docs/FORMATS.md,
+and from the help of aig-verdicts."""
 
 import os
 import re
@@ -34,7 +34,7 @@ def pages(ask):
     """The texts of the manual pages by their names."""
     version = ask("--version").split(" ")[1].strip()
     return {"aig.1": aig_page(ask, version), "aig-formats.5": formats_page(version),
-            "aig-verdicts.1": verdicts_page(version)}
+            "aig-explain.1": explain_page(version), "aig-verdicts.1": verdicts_page(version)}
 
 
 def document(name):
@@ -56,6 +56,15 @@ def formats_page(version):
     return finished(head("aig-formats", 5, version, "File Formats", "files that aig reads and writes")
                     + ".SH DESCRIPTION\n" + markdown.page(intro) + markdown.page(rest)
                     + ".SH SEE ALSO\n\\fBaig\\fP(1)\n")
+
+
+def explain_page(version):
+    """aig-explain(1): all of EXPLAIN.md."""
+    text = document("EXPLAIN.md").split("\n", 1)[1]
+    markdown = Markdown({"FORMATS.md": "\\fBaig\\-formats\\fP(5)", "BEHAVIOUR.md": "\\fBaig\\fP(1)"})
+    return finished(head("aig-explain", 1, version, "User Commands", "why a command of aig failed, where, and what to do")
+                    + ".SH SYNOPSIS\n.nf\naig-explain COMMAND ..\n.fi\n.SH DESCRIPTION\n" + markdown.page(text)
+                    + ".SH SEE ALSO\n\\fBaig\\fP(1), \\fBaig\\-formats\\fP(5)\n")
 
 
 def arguments_of_verdicts():
@@ -143,11 +152,10 @@ def aig_page(ask, version):
     text += ".SH FILES\n" + entries(FILES)
     markdown = Markdown({"FORMATS.md": "\\fBaig\\-formats\\fP(5)"})
     behaviour = sections(document("BEHAVIOUR.md"))
-    for name in ("Pipes, full devices and closed outputs", "Progress and terminals", "Explanations", "Diagnostics",
-                 "What a run needs", "Limits"):
+    for name in ("Pipes, full devices and closed outputs", "Progress and terminals", "What a run needs", "Limits"):
         text += f".SH {name.upper()}\n" + markdown.page(behaviour[name])
     text += ".SH EXAMPLES\nThese commands use files of the folder\n.BR examples ,\nwhich comes with the program.\n"
     for one in each.values():
         text += f".PP\n{lines(prose(one.about + ':'))}" + "".join(code_block(it) for it in examples(one))
-    return finished(text + ".SH SEE ALSO\n\\fBaig\\-formats\\fP(5), " + ", ".join(
+    return finished(text + ".SH SEE ALSO\n\\fBaig\\-explain\\fP(1), \\fBaig\\-formats\\fP(5), " + ", ".join(
         f"\\fB{name}\\fP(1)" for name in SEE_ALSO) + "\n")

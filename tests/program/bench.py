@@ -77,6 +77,12 @@ REPLIES = (
      "\nv 00 8\nv 0  8\nv 0 4294967296\ns 0 0 2\nw 6 2\n+ 12\n+\n- \nr 4 2\nw 6 2 2 2\nt ", "bad\n" * 12),
     ("the greatest numbers, and a row of 37 characters", "two_gates", "11\n",
      f"w 4294967295 4294967295 4294967295\nw 4294967295 4294967295 42949672950\n+ {'1' * 36}z\n", "no 1\nbad\nbad\n"),
+    ("a start at each value", "feedback", "1\n1\n", "r 4 1\nu\nr 4 0\nu\nr 4 x\nu\n",
+     "ok\naag 4 2 0 2 2\n2\n4\n1\n6\n6 2 1\n8 6 4\n.\nok\naag 4 2 0 2 2\n2\n4\n0\n6\n6 2 0\n8 6 4\n.\n"
+     "ok\naag 5 3 0 2 2\n2\n4\n6\n6\n8\n8 6 2\n10 8 4\n.\n"),
+    ("right sides that close a cycle, and that do not", "two_gates", "11\nx0\n",
+     "w 6 8 2\nw 6 2 9\nw 8 8 2\nw 8 2 4\nw 6 8 2\nv 1 2\nv 1 4\no 0 3\nt\n",
+     "no 5\nno 5\nno 5\nok\nok\nx\n0\nok\n 11 0 \n x0 x \n.\n"),
     ("a frame of no inputs, and away with it", "toggle", "\n", "+ \nt\n-\nt\n",
      "ok\n0  01 1\n1  10 0\n.\nok\n0  01 1\n.\n"),
     ("an output that is an appended gate", "two_gates", "11\n01\n",

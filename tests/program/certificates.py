@@ -67,6 +67,25 @@ CIRCUITS = (
      "aag 8 2 2 2 3 1 1\n2\n4\n6 10 1\n8 4 8\n10\n0\n17\n3\n10 12 6\n12 4 2\n16 11 1\ni0 req\nl1 state\nc0 quiet\n"),
 )
 
+# A certificate whose three inputs and latch have the literals 2, 4, 6 and 8. A name of the row; the symbols of those that
+# are shared, by `= LIT`; the lines of the comment that say the same by a mapping.
+THREE_AND_ONE = "aag 6 3 1 0 2 2\n2\n4\n6\n8 2 1\n10\n12\n10 6 3\n12 8 5\n"
+MAPPINGS = (
+    ("the entries at their positions", "i0 = 2\ni1 = 4\nl0 = 6\n", "MAPPING 3\n2 2\n4 4\n8 6\n"),
+    ("another order", "i0 = 8\ni1 = 2\ni2 = 4\nl0 = 6\n", "MAPPING 4\n2 8\n4 2\n6 4\n8 6\n"),
+    ("another order of the lines", "i0 = 8\ni1 = 2\ni2 = 4\nl0 = 6\n", "MAPPING 4\n8 6\n6 4\n2 8\n4 2\n"),
+    ("one of four", "l0 = 6\n", "MAPPING 1\n8 6\n"),
+    ("the model's literal is negated", "i0 = 9\n", "MAPPING 1\n2 9\n"),
+    ("the certificate's literal is negated", "i0 = 9\nl0 = 6\n", "MAPPING 2\n3 8\n9 7\n"),
+    ("both literals are negated", "i0 = 8\nl0 = 6\n", "MAPPING 2\n3 9\n9 7\n"),
+    ("gates", "i0 = 13\ni1 = 10\n", "MAPPING 2\n2 13\n5 11\n"),
+    ("constants", "i0 = 0\ni1 = 1\ni2 = 0\n", "MAPPING 3\n2 0\n4 1\n7 1\n"),
+    ("one literal for two entries", "i0 = 8\nl0 = 8\n", "MAPPING 2\n2 8\n8 8\n"),
+    ("lines before it", "i0 = 8\n", "\nby hand\n MAPPING 7\nno MAPPING\nMAPPIN\nMAPPING 1\n2 8\n"),
+    ("lines after it", "i0 = 8\n", b"MAPPING 1\n2 8\n4 99\nMAPPING x\n\xff\n"),
+    ("no newline at the end", "i0 = 8\ni1 = 2\n", "MAPPING 2\n2 8\n4 2"),
+)
+
 # The parts of a certificate's property, and which of three latches is 1 where one fails: the first is the model's
 # property, the second a property of the certificate, and the third its constraint, negated.
 PARTS = {"property": "100", "claim": "010", "constraint": "001"}
@@ -85,7 +104,7 @@ CERTIFICATES = (
     ("a literal over M", "aag 1 1 0 1 0\n2\n4\n", "range"),
     ("wrong counts", "aag 1 1 1 0 0\n", "counts"),
     ("a number over its limit", "aag 4194304 0 0 0 0\n", "limit"),
-    ("a comment with a mapping", NO_CLAIM + "c\nMAPPING 1\n2 2\n", "comment"),
+    ("a mapping of no input", NO_CLAIM + "c\nMAPPING 1\n2 2\n", "comment"),
     ("a comment that begins with MAPPING", NO_CLAIM + "c\nMAPPINGS", "comment"),
     ("a mapping beside the name of an output", "aag 1 1 0 1 0\n2\n2\no0 = 2\nc\nMAPPING\n", "comment"),
     ("a variable over M", "aag 1 1 0 0 0\n2\ni0 = 16\n", "symbol i0"),
@@ -109,6 +128,36 @@ CERTIFICATES = (
     ("input 12", "aag 13 13 0 0 0\n" + "".join(f"{2 * at}\n" for at in range(1, 14)) + "i12 = 14\n", "symbol i12"),
     ("the second latch", "aag 3 0 2 0 0\n4 4\n6 6\nl1 = 7.\nl0 = 7\n", "symbol l1"),
     ("a name before a property", "aag 1 1 0 0 0\n2\ni0 = 16\nc\nMAPPING\n", "symbol i0"),
+)
+
+# What is rejected of the comment of a certificate with two inputs and a gate, the literals 2, 4 and 6, and a variable 4 that
+# nothing defines: a name of the row, and the comment.
+TWO_AND_A_GATE = "aag 4 2 0 0 1\n2\n4\n6 4 2\n"
+COMMENTS = (
+    ("no number", "MAPPING"), ("no number, and a blank", "MAPPING "), ("no number after a line", "by hand\nMAPPING\n2 2\n"),
+    ("two blanks", "MAPPING  1\n2 2\n"), ("a tab", "MAPPING\t1\n2 2\n"), ("a leading zero", "MAPPING 01\n2 2\n"),
+    ("a sign", "MAPPING +1\n2 2\n"), ("a minus", "MAPPING -1\n2 2\n"), ("a blank at the end", "MAPPING 1 \n2 2\n"),
+    ("a carriage return", "MAPPING 1\r\n2 2\r\n"), ("a word", "MAPPING one\n2 2\n"), ("more", "MAPPING 1 2\n2 2\n"),
+    ("2^32 and 1", "MAPPING 4294967297\n2 2\n"), ("2^64 and 1", "MAPPING 18446744073709551617\n2 2\n"),
+    ("many digits", "MAPPING " + "1" * 5000 + "\n2 2\n"), ("4294967295 lines are missing", "MAPPING 4294967295"),
+    ("4294967294 lines are missing", "MAPPING 4294967295\n2 2\n"), ("both lines are missing", "MAPPING 2\n"),
+    ("a line is missing", "MAPPING 2\n2 2\n"), ("a line is missing, without a newline", "MAPPING 2\n2 2"),
+    ("an empty line", "MAPPING 2\n2 2\n\n4 4\n"), ("one number", "MAPPING 1\n2\n"),
+    ("three numbers", "MAPPING 1\n2 2 2\n"),
+    ("no number before a blank", "MAPPING 1\n 2\n"), ("no number after a blank", "MAPPING 1\n2 \n"),
+    ("two blanks in a pair", "MAPPING 1\n2  2\n"), ("a tab in a pair", "MAPPING 1\n2\t2\n"),
+    ("a blank before a pair", "MAPPING 1\n 2 2\n"), ("a blank after a pair", "MAPPING 1\n2 2 \n"),
+    ("a carriage return after a pair", "MAPPING 1\n2 2\r\n"), ("a leading zero of its own", "MAPPING 1\n02 2\n"),
+    ("a leading zero of the model's", "MAPPING 1\n2 02\n"), ("a sign of its own", "MAPPING 1\n+2 2\n"),
+    ("a minus of the model's", "MAPPING 1\n2 -2\n"), ("a name", "MAPPING 1\ni0 2\n"), ("an equals sign", "MAPPING 1\n2 = 2\n"),
+    ("a byte that is no text", b"MAPPING 1\n2 \xff\n"), ("a zero byte", "MAPPING 1\n2 2\0\n"),
+    ("its constant", "MAPPING 1\n0 0\n"), ("its gate", "MAPPING 1\n6 2\n"), ("its gate, negated", "MAPPING 1\n7 2\n"),
+    ("its variable that nothing defines", "MAPPING 1\n8 2\n"), ("its variable over M", "MAPPING 1\n10 2\n"),
+    ("a variable of the model that nothing defines", "MAPPING 1\n2 14\n"), ("that, negated", "MAPPING 1\n2 15\n"),
+    ("a variable over the model's M", "MAPPING 1\n2 16\n"), ("its literal is 2 in 32 bits", "MAPPING 1\n4294967298 2\n"),
+    ("the model's literal is 2 in 32 bits", "MAPPING 1\n2 4294967298\n"), ("a line twice", "MAPPING 2\n2 2\n2 2\n"),
+    ("two lines of an input", "MAPPING 2\n2 2\n2 4\n"), ("two lines of an input, negated", "MAPPING 2\n2 2\n3 3\n"),
+    ("a second line that is wrong", "MAPPING 2\n2 2\n4 x\n"),
 )
 
 # How each command is asked, after the certificate and before the model, and after the model.
@@ -147,6 +196,7 @@ def certificates(program, tally, _):
     write_all()
     ring(rows)
     circuits(rows)
+    mappings(rows)
     sizes(rows)
     parts(rows)
     for words in WORDS:
@@ -165,6 +215,7 @@ def ring(rows):
     for to, text in (("aag", RING_STRENGTHENED), ("aig", RING_BINARY)):
         rows.gives(f"a ring, to {to}", f"strengthen --to {to} --certificate claims model", text, model=RING, claims=NO_TWO)
     rows.gives("the formula of a ring", "cnf --certificate claims model", RING_FORMULA)
+    rows.refuses("a ring without a proof", "refute --certificate claims model proof", "proof: no refutation", proof="")
     rows.gives("a ring is unreachable", "refute --certificate claims model proof", "unreachable\n",
                proof=proof_of(clauses_of(circuit_of(RING, NO_TWO))[2]))
     rows.refuses("a claim is missing", "refute --certificate fewer model proof", "proof: step 1", fewer=ONE_CLAIM)
@@ -204,6 +255,28 @@ def circuits(rows):
     wraps = f"{EXAMPLES}/wraps.aag"
     rows.gives("an example, and no claim", f"cnf --certificate claims {wraps}",
                formula(circuit_of(contents(wraps), NO_CLAIM)), claims=NO_CLAIM)
+
+
+def mappings(rows):
+    """A mapping says what symbols say, in both formats; without lines it says nothing; any other is rejected."""
+    write("model", NAMED_MODEL)
+    words = "--certificate claims --property 1 model"
+    for name, symbols, comment in MAPPINGS:
+        named, mapped = THREE_AND_ONE + symbols, data(THREE_AND_ONE + "c\n") + data(comment)
+        x = spelled(circuit_of(NAMED_MODEL, named, 1), "aag")
+        rows.tally.compare(f"certificates: a mapping, {name}, as the plain writer has it",
+                           spelled(circuit_of(NAMED_MODEL, mapped, 1), "aag"), x)
+        for kind, claims in (("by symbols", named), ("a mapping", mapped), ("a mapping, in binary", binary(mapped))):
+            rows.gives(f"{kind}, {name}", f"strengthen --to aag {words}", x, claims=claims)
+            rows.gives(f"{kind}, {name}, its formula", f"cnf {words}", formula(Reader(data(x)).parts(), 1))
+    # All entries are the certificate's own.
+    rows.gives("a mapping without lines", f"strengthen --to aag {words}",
+               "aag 15 5 3 3 6 1 1\n2\n4\n16\n18\n20\n6 10 1\n8 4 8\n22 16 1\n9\n24\n26\n31\n3\n"
+               "10 12 6\n12 4 2\n24 20 17\n26 22 19\n28 25 8\n30 28 27\ni0 req\nl1 state\no0 oops\nc0 quiet\n",
+               claims=THREE_AND_ONE + "c\nMAPPING 0\n")
+    for name, comment in COMMENTS:
+        rows.refuses(f"a mapping, {name}", f"strengthen --to aag {words}", "certificate: comment",
+                     claims=data(TWO_AND_A_GATE) + b"c\n" + data(comment))
 
 
 def many(kind, count, literals=0):

@@ -225,7 +225,7 @@ def properties(rows):
 
 def explained(rows):
     """The refusal names both properties, and the explanation what each is called and how to check the witness."""
-    ended = rows.run("check", "--explain", "--property", "right", "named", write("witness", HELD.format(0)))
+    ended = rows.explained.run("check", "--property", "right", "named", write("witness", HELD.format(0)))
     rows.tally.compare("check: a witness of another property is explained", ended, Ended(1, b"", (
         b"aig: witness: of b0, not b1\n"
         b"  file: witness\n"

@@ -1,4 +1,4 @@
-"""Rows of `aig cnf`: formulas with known bytes, and refusals."""
+"""Rows of `aig cnf`: formulas with known bytes, whether unit propagation refutes them, and refusals."""
 
 from library.circuits import TEXTS, write_all
 from library.runs import write
@@ -51,8 +51,50 @@ FORMULAS = (
      "-4 3 0\n-4 2 0\n4 -3 -2 0\n-5 3 0\n-5 -1 0\n5 -3 1 0\n-6 5 0\n-6 4 0\n6 -5 -4 0\n"),
 )
 
+# A bad state that is the AND of the inputs; a latch that keeps 0; and latches of all three resets, with as bad state
+# the AND of the first two, and a gate that it needs only a frame later.
+BOTH = "aag 3 2 0 0 1 1\n2\n4\n6\n6 4 2\ni1 a b\n"
+KEPT = "aag 1 0 1 0 0 1\n2 2\n2\n"
+RESETS = "aag 6 1 3 0 2 1\n2\n4 10 1\n6 4\n8 6 8\n12\n10 8 2\n12 6 4\n"
+
+# What is asked for, the circuit, what is written, and whether unit propagation alone refutes it: then the empty proof
+# is enough.
+REFUTED = (
+    ("a conjunction", "--frames 1 both", BOTH,
+     "c aig cnf --frames 1 --property 0 \n"
+     "c i 2 0 0 \nc i 3 0 1 a b\nc b 4 0\np cnf 4 5\n-1 0\n4 0\n-4 3 0\n-4 2 0\n4 -3 -2 0\n", False),
+    ("a latch that keeps 0", "--frames 1 kept", KEPT,
+     "c aig cnf --frames 1 --property 0 \nc b 1 0\np cnf 1 2\n-1 0\n1 0\n", True),
+    ("latches of all three resets", "--frames 1 resets", RESETS,
+     "c aig cnf --frames 1 --property 0 \n"
+     "c i 2 0 0 \nc l 3 2 \nc b 5 0\np cnf 5 5\n-1 0\n5 0\n-5 -1 0\n-5 1 0\n5 1 -1 0\n", True),
+    ("induction over latches of all three resets", "--certificate empty resets", RESETS,
+     "c aig cnf --certificate --property 0 \n"
+     "c i 2 0 0 \nc i 3 1 0 \nc l 4 0 \nc l 5 1 \nc l 6 2 \nc b 8 0\nc b 10 1\np cnf 10 13\n"
+     "-1 0\n8 10 0\n-8 4 0\n-8 -5 0\n-7 6 0\n-7 2 0\n7 -6 -2 0\n-8 5 0\n-8 4 0\n8 -5 -4 0\n"
+     "-10 7 0\n-10 4 0\n10 -7 -4 0\n", False),
+    ("induction over a latch that keeps 0", "--certificate empty kept", KEPT,
+     "c aig cnf --certificate --property 0 \n"
+     "c l 2 0 \nc b 2 0\nc b 2 1\np cnf 2 3\n-1 0\n2 2 0\n-2 -2 0\n", True),
+)
+
+# What is asked for, and the first line of what is written. The circuit has eleven properties.
+ELEVEN = "aag 1 1 0 1 0 11\n2\n2\n2\n3\n" + "3\n" * 9 + "o0 seen\nb1 not full\nb10 out\n"
+HEADS = (
+    ("--frames 12 --property 1 eleven", "c aig cnf --frames 12 --property 1 not full"),
+    ("--alive --frames 20 eleven", "c aig cnf --alive --frames 20 "),
+    ("--certificate empty --property 10 eleven", "c aig cnf --certificate --property 10 out"),
+)
+
 # The formulas of induction steps.
 STEPS = (
+    ("a step of a conjunction", "--step --frames 1 both", BOTH,
+     "c aig cnf --step --frames 1 --property 0 \n"
+     "c i 2 0 0 \nc i 3 0 1 a b\nc i 4 1 0 \nc i 5 1 1 a b\nc b 6 0\nc b 7 1\np cnf 7 9\n"
+     "-1 0\n-6 0\n7 0\n-6 3 0\n-6 2 0\n6 -3 -2 0\n-7 5 0\n-7 4 0\n7 -5 -4 0\n"),
+    ("a step of a latch that keeps its value", "--step --frames 1 kept", KEPT,
+     "c aig cnf --step --frames 1 --property 0 \n"
+     "c l 2 0 \nc b 2 0\nc b 2 1\np cnf 2 3\n-1 0\n-2 0\n2 0\n"),
     ("a step of a latch that negates itself", "--step --frames 1 toggles", TOGGLES,
      "c aig cnf --step --frames 1 --property 0 \n"
      "c l 2 0 \nc b 2 0\nc b -2 1\np cnf 2 3\n-1 0\n-2 0\n-2 0\n"),
@@ -117,9 +159,22 @@ def cnf(program, tally, _):
     rows = Rows("cnf", program, tally)
     write_all()
     write("wide_bad", WIDE)
+    write("eleven", ELEVEN)
     for name, words, circuit, text in FORMULAS:
         write(words.split(" ")[-1], circuit)
         rows.gives(name, f"cnf {words}", text)
+    for name, words, circuit, text, is_refuted in REFUTED:
+        write(words.split(" ")[-1], circuit)
+        rows.gives(name, f"cnf {words}", text)
+        if is_refuted:
+            within = "" if "--certificate" in words else " within 1"
+            rows.gives(f"{name}, refuted", f"refute {words} no_proof", f"unreachable{within}\n", no_proof="")
+        else:
+            rows.refuses(f"{name}, not refuted", f"refute {words} no_proof", "proof: no refutation", no_proof="")
+    rows.gives("both parts of an induction", "refute --frames 1 --step no_proof kept no_proof", "unreachable\n")
+    for words, head in HEADS:
+        written = rows.run("cnf", *words.split(" "))
+        tally.compare(f"cnf: the head of {words}", written.out.decode().split("\n")[0], head)
     for name, words, circuit, text in STEPS:
         write(words.split(" ")[-1], circuit)
         rows.gives(name, f"cnf {words}", text)

@@ -132,9 +132,6 @@ def without_devices(program, tally):
     prepare(OLD)
     tally.compare("descriptors: without /dev, files that are there", (run(*words), left()), (NOT_WRITTEN, (OLD, [])))
     prepare(OLD)
-    said = run("--explain", *words)
-    tally.check("descriptors: without /dev, explained", b"without /dev the system does not say" in said.err, said)
-    prepare(OLD)
     with open("new_rows", "wb") as file:
         ended = run(*words[:1], *KEPT[2:], *words[5:], stdout=file)
     tally.compare("descriptors: without /dev, standard output's own file", (ended._replace(out=b""), left()),

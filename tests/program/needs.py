@@ -35,10 +35,10 @@ RUNS = (
     ["refute", "--certificate", "examples/ring.cert.aag", "examples/ring.aag", "examples/ring.drat"],
     ["witness", "--certificate", "examples/counter.aag", "--model", "examples/wraps.model", "examples/wraps.aag"],
     ["info", "examples/counter.aag"],
-    ["--explain", "info", "examples/cyclic.aag"],
-    ["--explain", "sim", "examples/counter.aag", "examples/counter.aag"],
-    ["--explain", "check", "examples/wraps.aag", "examples/counter.stim"],
-    ["--explain", "info", "missing"],
+    ["info", "examples/cyclic.aag"],
+    ["sim", "examples/counter.aag", "examples/counter.aag"],
+    ["check", "examples/wraps.aag", "examples/counter.stim"],
+    ["info", "missing"],
     ["\x1b"],
 )
 

@@ -41,7 +41,7 @@ SLOW = (
 QUICK = ("toaig --to aag two_gates", "sim two_gates rows", "wave two_gates rows", "check wraps witness",
          "bench two_gates rows script", "refute --frames 1 wraps proof", "reduce wraps witness", "why --of b0 wraps rows", "info missing",
          "strengthen --to aag --certificate two_gates wraps", "cnf --certificate two_gates wraps",
-         "info --progress two_gates", "--progress info two_gates", "--progress sim --explain two_gates rows --progress")
+         "info --progress two_gates", "--progress info two_gates", "--progress sim two_gates rows --progress")
 
 
 def progress(program, tally, _):
@@ -143,8 +143,8 @@ def asked_for(program, tally):
 
 
 def not_asked_for(program, tally):
-    """Without --progress a pipe and a file get nothing, and --explain asks for none."""
-    fed = Fed(program, "piped", "sim --explain two_gates FED", *SIM)
+    """Without --progress a pipe and a file get nothing."""
+    fed = Fed(program, "piped", "sim two_gates FED", *SIM)
     tally.compare("progress: a pipe", fed.run(after(3.5)), fed.plain())
     tally.compare("progress: a pipe: its text", fed.plain().err, b"")
     fed = Fed(program, "filed", "sim two_gates FED", *SIM)

@@ -21,6 +21,12 @@ GUARDED = (FRONT + scope("inputs", "wire", ("!", "i0"), ('"', "i1")) + scope("ba
            + scope("constraints", "wire", ("$", "c0")) + BEHIND)
 CONSTRAINED = "aag 2 2 0 0 0 1 1\n2\n4\n2\n4\n"
 
+# A latch that starts at any value and then toggles, itself as the bad state, and an input that it does not read.
+UNREAD = "aag 2 1 1 0 0 1\n2\n4 5 4\n4\n"
+UNREAD_DUMP = (FRONT + scope("inputs", "wire", ("!", "i0")) + scope("latches", "reg", ('"', "l0"))
+               + scope("bad", "wire", ("#", "b0")) + BEHIND
+               + '#0\n$dumpvars\n0!\n1"\n1#\n$end\n#1\nx!\n0"\n0#\n#2\n')
+
 # What is run, the circuit, the lines of the witness after its property, its trace, the bad states and the constraints
 # of each frame, its verdict and its dump.
 REPLAYS = (
@@ -31,6 +37,7 @@ REPLAYS = (
     ("a start that the reset does not allow", RESET, "1\n\n\n", "1  0 0\n0  1 1\n", "1 /0 ", "initial 0",
      TOGGLES + TOGGLED),
     ("a start at x that the reset does not allow", RESET, "x\n\n", "x  x x\n", "x ", "initial 0", TOGGLES + UNKNOWN),
+    ("an input that no latch reads", UNREAD, "1\n0\nx\n", "1 0  0\n0 x  1\n", "1 /0 ", "not bad", UNREAD_DUMP),
     ("a constraint that does not hold", CONSTRAINED, "\n11\n1x\n11\n", " 11  \n 1x  \n 11  \n", "1 1/1 x/1 1",
      "constraint 1 0",
      GUARDED + '#0\n$dumpvars\n1!\n1"\n1#\n1$\n$end\n#1\nx"\nx$\n#2\n1"\n1$\n#3\n'),
@@ -97,6 +104,8 @@ def refusals(rows):
         for witness, text in REFUSALS:
             rows.refuses(f"{command}: {text}", f"{command} circuit witness", f"witness: {text}", circuit=CONSTRAINED,
                          witness=witness)
+        rows.refuses(f"{command}: no such property", f"{command} circuit witness", "witness: property", circuit=UNREAD,
+                     witness="1\nb1\n1\n0\n.\n")
         rows.refuses(f"{command}: a circuit wins over a witness", f"{command} cycle cycle", "circuit: cycle 2")
         rows.refuses(f"{command}: a stimulus is no witness", f"{command} circuit rows", "witness: text", rows="11\n")
         for part, runs in FAILURES:

@@ -1,8 +1,8 @@
 """Rows: runs on small files, and what each of them writes and says."""
 
-import os
 import re
 
+from library.explained import Explained
 from library.runs import Ended, contents, input_or_output, refused, write
 
 
@@ -15,6 +15,7 @@ class Rows:
 
     def __init__(self, name, program, tally):
         self.name, self.program, self.tally = name, program, tally
+        self.explained = Explained(program)
 
     def run(self, *words, **settings):
         return self.program.run(*words, **settings)
@@ -27,7 +28,7 @@ class Rows:
         ended = self.run(*words)
         self.tally.compare(f"{self.name}: {name}", ended, wanted)
         if ended.err:
-            again = self.run(*words, env={**os.environ, "AIG_EXPLAIN": "1"})
+            again = self.explained.run(*words)
             self.tally.check(f"{self.name}: {name}, explained", explains(again, ended), again)
 
     def gives(self, name, words, out, status=0, **files):

@@ -5,6 +5,7 @@ import os
 import stat
 
 from library.circuits import write_all
+from library.explained import Explained
 from library.runs import Ended, contents, input_or_output, write
 from library.terminal import Terminal
 
@@ -106,5 +107,5 @@ def runs(program, tally):
         with open("/dev/null", "wb") as null:
             words[words.index(terminal.name)] = "/dev/stdout"
             tally.compare(f"same_files: {words}: /dev/null", program.run(*words, stdout=null), Ended(0, None, b""))
-        said = program.run(*words, env={**os.environ, "AIG_EXPLAIN": "1"}).err
+        said = Explained(program).run(*words).err
         tally.check(f"same_files: {words}: explained", b"standard output or standard error goes to it" in said, said)

@@ -4,6 +4,9 @@ from library.circuits import write_all
 from library.runs import EXAMPLES
 from program.rows import Rows, data
 
+# how many bytes are read at a time
+BLOCK = 32768
+
 # What is converted, as text and as a binary file.
 CONVERSIONS = (
     ("the empty circuit", "aag 0 0 0 0 0\n", "aig 0 0 0 0 0\n"),
@@ -24,6 +27,29 @@ CONVERSIONS = (
      "aig 3 1 1 1 1 1 1 1 1\n6 4\n6\n6\n4\n1\n6\n4\n\x02\x02"
      "f0 fair\nj0 just\nc0 con\nb0 bad state\no0 out\nl0 state\ni0 in\nc\nhi\n"),
     ("resets", "aag 9 1 2 1 1\n18\n4 6 4\n8 19 1\n5\n6 4 18\n", "aig 4 1 2 1 1\n8 4\n3 1\n5\n\x04\x02"),
+    ("a ready circuit with a latch", "aag 3 1 1 1 1\n2\n4 6 4\n4\n6 4 2\n", "aig 3 1 1 1 1\n6 4\n4\n\x02\x02"),
+    ("a latch before its input", "aag 3 1 1 1 1\n4\n2 6 1\n3\n6 4 2\n", "aig 3 1 1 1 1\n6 1\n5\n\x02\x02"),
+    ("a latch without an output", "aag 3 1 1 0 1\n2\n4 6 4\n6 4 2\n", "aig 3 1 1 0 1\n6 4\n\x02\x02"),
+    ("a justice property with a name", "aag 3 1 1 1 1 0 0 1\n2\n4 6 4\n4\n2\n3\n5\n6 4 2\nj0 go\nc\nhi",
+     "aig 3 1 1 1 1 0 0 1\n6 4\n4\n2\n3\n5\n\x02\x02j0 go\nc\nhi"),
+    ("a name and a comment without LF", "aag 1 1 0 0 0\n2\ni0 ab\nc\nhi", "aig 1 1 0 0 0\ni0 ab\nc\nhi"),
+    ("names in another order", "aag 2 2 0 2 0\n2\n4\n2\n4\no1 out\ni1 in\ni0 first\n",
+     "aig 2 2 0 2 0\n2\n4\no1 out\ni1 in\ni0 first\n"),
+)
+
+# Gates out of order, where there are 31.5 variables for each gate, and 32: gates are found by a look at each variable,
+# or they are sorted. The canonical order goes by level, then by variable. Each has a text, its greatest level, and the
+# binary file, in which the gates have that order.
+ORDERS = (
+    ("aag 4 2 0 1 2\n2\n4\n8\n8 6 2\n6 2 4\n", 2, "aig 4 2 0 1 2\n8\n\x02\x02\x02\x04"),
+    ("aag 7 1 0 1 2\n14\n5\n4 10 14\n10 14 15\n", 2, "aig 3 1 0 1 2\n7\n\x01\x01\x02\x02"),
+    ("aag 4 2 0 1 2\n2\n4\n8\n8 2 4\n6 2 4\n", 1, "aig 4 2 0 1 2\n8\n\x02\x02\x04\x02"),
+    ("aag 63 2 0 1 2\n2\n4\n126\n126 2 4\n100 2 4\n", 1, "aig 4 2 0 1 2\n8\n\x02\x02\x04\x02"),
+    ("aag 63 2 0 1 2\n2\n4\n126\n126 2 4\n100 126 4\n", 2, "aig 4 2 0 1 2\n6\n\x02\x02\x02\x02"),
+    ("aag 63 2 0 1 2\n2\n4\n126\n126 100 4\n100 2 4\n", 2, "aig 4 2 0 1 2\n8\n\x02\x02\x02\x02"),
+    ("aag 64 2 0 1 2\n2\n4\n128\n128 2 4\n100 2 4\n", 1, "aig 4 2 0 1 2\n8\n\x02\x02\x04\x02"),
+    ("aag 64 2 0 1 2\n2\n4\n128\n128 2 4\n100 128 4\n", 2, "aig 4 2 0 1 2\n6\n\x02\x02\x02\x02"),
+    ("aag 64 2 0 1 2\n2\n4\n128\n128 100 4\n100 2 4\n", 2, "aig 4 2 0 1 2\n8\n\x02\x02\x02\x02"),
 )
 
 # Binary files that are written back as they stand, by their deltas.
@@ -37,6 +63,12 @@ DELTAS = (
     ("2,097,152 and 0", b"aig 1048576 1048575 0 0 1\n\x80\x80\x80\x01\x00"),
     ("8,388,606 and 0, the greatest", b"aig 4194303 4194302 0 0 1\n\xfe\xff\xff\x03\x00"),
 )
+
+# Six gates after 4,194,297 inputs, with deltas of each length, and the lines of the gates.
+MANY_DELTAS = (b"aig 4194303 4194297 0 0 6\n\x01\x00\x7f\x80\x01\xac\x02\xff\x7f\x80\x80\x01\xff\xff\x7f\x80\x80\x80"
+               b"\x01\x01\xfe\xff\xff\x03\x00")
+GATES = ("8388596 8388595 8388595\n8388598 8388471 8388343\n8388600 8388300 8371917\n8388602 8372218 6275067\n"
+         "8388604 6291452 6291451\n8388606 0 0\n")
 
 REFUSALS = (
     ("the empty file", "", "text at 0"),
@@ -105,6 +137,10 @@ REFUSALS = (
     ("a reset by another latch", "aag 2 0 2 0 0\n2 2\n4 2 2\n", "reset 2"),
     ("reset before cycle", "aag 2 0 1 0 1\n4 0 2\n2 2 2\n", "reset 2"),
     ("the least variable of two cycles", "aag 3 1 0 0 2\n2\n6 6 2\n4 7 2\n", "cycle 2"),
+    ("variable 3 defined twice", "aag 3 3 0 0 0\n2\n6\n6\n", "redefined 3"),
+    ("variable 3 undefined", "aag 3 2 0 1 0\n2\n4\n6\n", "undefined 3"),
+    ("variable 3 with a wrong reset", "aag 3 2 1 0 0\n2\n4\n6 2 4\n", "reset 3"),
+    ("a cycle of variable 3", "aag 3 2 0 0 1\n2\n4\n6 6 2\n", "cycle 3"),
 )
 
 # Files of which these beginnings alone are circuits; each other one is refused where it ends.
@@ -123,8 +159,11 @@ def toaig(program, tally, _):
         rows.gives(f"{name}, binary as it stands", "toaig --to aig source", binary, source=binary)
     rows.gives("zeros that may be left out", "toaig --to aag source", "aag 1 0 1 0 0\n2 2\n",
                source="aag 1 0 1 0 0 0 0\n2 2 0\n")
-    for name, binary in DELTAS:
+    for name, binary in (*DELTAS, ("of each length", MANY_DELTAS)):
         rows.gives(f"deltas {name}", "toaig --to aig source", binary, source=binary)
+    gates = "".join(rows.run("toaig", "--to", "aag", "source").out.decode().splitlines(keepends=True)[-6:])
+    tally.compare("toaig: gates with deltas of each length", gates, GATES)
+    orders(rows)
     for name, text, fault in REFUSALS:
         rows.refuses(name, "toaig --to aag source", f"circuit: {fault}", source=text)
         rows.refuses(f"{name}, read whole", "unroll --frames 1 --to aag source", f"circuit: {fault}", source=text)
@@ -136,9 +175,42 @@ def toaig(program, tally, _):
                 rows.gives(case, words, beginning, source=beginning)
             else:
                 rows.refuses(case, words, f"circuit: text at {length}", source=beginning)
+    long_names(rows)
+    distant_names(rows)
     rows.fails("no file", "toaig --to aig nowhere", "circuit")
     for design in ("two_gates", "counter", "fifo"):
         text, binary = (f"{EXAMPLES}/{design}.{ending}" for ending in ("aag", "aig"))
         rows.copies(f"{design}, to binary", ["toaig", "--to", "aig", text], binary)
     text, binary = (f"{EXAMPLES}/counter.{ending}" for ending in ("aag", "aig"))
     rows.copies("a ready design, to binary and back", ["toaig", "--to", "aag", binary], text)
+
+
+def orders(rows):
+    for text, level, binary in ORDERS:
+        rows.gives(f"the order of {text!r}", "toaig --to aig source", binary, source=text)
+        facts = rows.run("info", "source").out.decode().splitlines()
+        rows.tally.check(f"toaig: the greatest level of {text!r}", f"levels {level}" in facts, facts)
+
+
+def long_names(rows):
+    """Files of a block, of one byte less and more, and of two blocks: one input has a name that fills the file. What
+    comes after it has its fault at its place."""
+    head = "aag 1 1 0 0 0\n2\ni0 "
+    for size in (BLOCK - 1, BLOCK, BLOCK + 1, 2 * BLOCK):
+        text = head + "a" * (size - len(head) - 1) + "\n"
+        rows.gives(f"a name in {size} bytes", "toaig --to aag source", text, source=text)
+        for end, at in (("x", size), ("c", size + 1)):
+            for words in ("toaig --to aag source", "unroll --frames 1 --to aag source"):
+                rows.refuses(f"{end} after {size} bytes, {words}", words, f"circuit: text at {at}", source=text + end)
+
+
+def distant_names(rows):
+    """Names of entries far apart, in any order: at both ends of a page of bits, and of one position in two sections."""
+    names = ("i4194302", "o16383", "o16384", "f16383", "i0")
+    text = "aig 4194303 4194303 0 16385 0 0 0 0 16384\n" + "0\n" * (16385 + 16384)
+    text += "".join(f"{name} name\n" for name in names)
+    rows.gives("names of distant entries", "toaig --to aig source", text, source=text)
+    rows.gives("one more name", "toaig --to aig source", text + "i1 name\n", source=text + "i1 name\n")
+    for name in names:
+        rows.refuses(f"another name of {name}", "toaig --to aig source", f"circuit: text at {len(text) + 1}",
+                     source=f"{text}{name} name\n")

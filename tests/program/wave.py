@@ -190,6 +190,10 @@ def wave(program, tally, _):
     rows = Rows("wave", program, tally)
     write_all()
     rows.gives("the example of FORMATS.md", "wave described rows", DESCRIBED_DUMP, described=DESCRIBED, rows="x\n1\n")
+    rows.gives("a latch of two names, and an input that changes", "wave two_names rows",
+               FRONT + scope("inputs", "wire", ("!", "en"))
+               + scope("latches", "reg", ('"', "_count"), ('"', "0")) + BEHIND + '#0\n$dumpvars\nx!\n0"\n$end\n#1\n1!\n#2\n',
+               two_names="aag 2 1 1 0 0\n2\n4 4\ni0 en\nl0 $count 0\n", rows="x\n1\n")
     document = contents(REPOSITORY + "/docs/FORMATS.md").decode()
     indented = "".join(f"    {line}\n" for line in DESCRIBED_DUMP.splitlines())
     tally.check("wave: the dump in FORMATS.md", f"\n\n{indented}\n" in document, "another dump")

@@ -1,11 +1,11 @@
-"""Cases of the program aig_callers, which prints a line for each: a mark for each step of a proof, and how it ends."""
+"""Cases of the program aig_tests, which prints lines for each: a mark for each step of a proof, and how it ends."""
 
 from library.plain_checker import Checker
 from library.plain_steps import NoStep, steps_of
 from library.runs import shortened
 from program.proofs import text_of
 
-# with a word the program reads cases
+# with this word the program marks steps
 WORD = "steps"
 DELETED, FOLLOWS, ON_FIRST, WRONG = "d+*-"
 REFUTED, OPEN = "refuted", "no refutation"
@@ -17,13 +17,18 @@ def case(variables, clauses, proof):
     return b"%d %d %d\n%s%s" % (variables, len(formula), len(proof), formula, proof)
 
 
-def lines_of(program, cases):
-    """The lines that the program prints for these cases; where it fails, a line that says how."""
-    ended = program.run(WORD, input=b"".join(cases))
+def printed(program, word, cases, count):
+    """The lines that the program prints for these cases, so many; where it fails, as many that say how."""
+    ended = program.run(word, input=b"".join(cases))
     lines = ended.out.decode().splitlines()
-    if (ended.status, ended.err, len(lines)) != (0, b"", len(cases)):
-        return [f"{len(lines)} lines of {len(cases)} cases, {shortened(ended)}"] * len(cases)
+    if (ended.status, ended.err, len(lines)) != (0, b"", count):
+        return [f"{len(lines)} lines of {count}, {shortened(ended)}"] * count
     return lines
+
+
+def lines_of(program, cases):
+    """The lines that mark the steps of these cases."""
+    return printed(program, WORD, cases, len(cases))
 
 
 def done(checker, step):

@@ -195,6 +195,7 @@ def same_bytes(tally):
     """One worker, four workers and two processes write the same bytes, also where a bound on conflicts ends
     questions."""
     for name, words in (("frames", ("--frames", "6")), ("conflicts", ("--frames", "6", "--conflicts", "5"))):
+        words = (*words, "--no-simulator")  # as a session has none of its own
         run(EVERY, *words, "-j", "1", out=f"{name}_1")
         run(EVERY, *words, "-j", "4", out=f"{name}_4")
         tally.check(f"same bytes: {name}", same_manifests(f"{name}_1", f"{name}_4"))

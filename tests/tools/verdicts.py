@@ -1,6 +1,6 @@
-"""`aig-verdicts` on designs of the tests, whose verdicts and lengths of runs are those of tests/expected/verdicts, whatever the
-number of workers is. The witnesses are confirmed. Each line that is named has an assertion, and those of `order.v` fail for
-the number of their line, so each name is that of its property."""
+"""`aig-verdicts` on designs of the tests, whose verdicts, and the lengths and last cycles of runs, are those of
+tests/expected/verdicts, whatever the number of workers is. The witnesses are confirmed. Each line that is named has an
+assertion, and those of `order.v` fail for the number of their line, so each name is that of its property."""
 
 import os
 import re

@@ -9,10 +9,9 @@ mod sessions;
 
 use aig_base::Write;
 use aig_cli::has_general_flag;
-use aig_explain::{explain, is_asked_for};
 use aig_files::{Exit, Terminal, Terminals, output, reserve};
 use aig_program::arguments::{self, parsed};
-use aig_program::{Chosen, command_for, files_of};
+use aig_program::{Chosen, command_for};
 use clap::ArgMatches;
 use sessions::shell;
 use std::env::Env;
@@ -66,15 +65,7 @@ where
     ensures ends { Runs R.File.remaining (map (λ word. word.bytes.items) words.now) result }
 {
     let matches = reported(rt, parsed(rt, words))?;
-    let done = reported(rt, run_command(rt, terminals, &matches));
-    if let Some(files) = files_of(&matches) {
-        // A run that ends well has nothing to explain but a verdict's property.
-        let has_more = done.is_err() || files.judged.is_some();
-        if has_more && (has_general_flag(&matches, "explain") || is_asked_for(rt)) {
-            explain(rt, &files, done);
-        }
-    }
-    done
+    reported(rt, run_command(rt, terminals, &matches))
 }
 
 /// Runs the command that the arguments choose. The line that says how far it is is gone afterwards.

@@ -6,12 +6,10 @@ use Rattle.std.specs.Map.{keys_of}
 use Rattle.std.proofs.lemmas.Bool.{cases_lt}
 use Rattle.std.proofs.lemmas.List.{append_cancel_left}
 use Rattle.std.proofs.lemmas.List.Elements.{All-contains}
-use Rattle.std.proofs.lemmas.Option.{slice_get-map, slice_get_within, get_or_from_slice_get, none-some}
-use Rattle.aig_parts.specs.declared.latch.Latch.{Latch}
+use Rattle.std.proofs.lemmas.Option.{slice_get-map, slice_get_within, get_or_from_slice_get}
 use Rattle.aig_parts.specs.declared.raw.Raw.{Raw}
 use Rattle.aig_parts.specs.declared.symbols.Kind.{Kind}
-use Rattle.aig_parts.specs.declared.symbols.Kind.TheVariants.{Input, Latch as Latches, Output, Bad, Constraint, Justice}
-use Rattle.aig_parts.specs.declared.symbols.Kind.TheVariants.{Fairness}
+use Rattle.aig_parts.specs.declared.symbols.Kind.TheVariants.{Input, Latch as Latches}
 use Rattle.aig_parts.specs.Formed.{IsFormed, IsSymbolOf, section_length}
 use Rattle.aig_parts.specs.Literal.{variable}
 use Rattle.aig_parts.specs.SymbolPlaces.{Key}
@@ -19,11 +17,10 @@ use Rattle.aig_base.specs.Sections.{IsDefined}
 use Rattle.aig_base.proofs.lists.Gets.{get_from_Contains, same_element, slice_get_push}
 use Rattle.aig_certificate.specs.declared.fault.StrengthenFault.{StrengthenFault}
 use Rattle.aig_certificate.specs.declared.fault.StrengthenFault.TheVariants as faults
-use Rattle.aig_certificate.specs.Shared.{IsBefore, IsMarked, IsMeaning, IsNamed, IsSource, IsWrong, StandsFor}
-use Rattle.aig_certificate.specs.Shared as stands
+use Rattle.aig_certificate.specs.Shared as spec
+use Rattle.aig_certificate.specs.Shared.{IsBefore, IsMarked, IsMeaning, IsWrong, IsWrongMapping, Sharing}
 use Rattle.aig_certificate.specs.state.Marks.{AreMeaningsOf, AreRight, IsFirstWrong, IsNamedLiteral, RefusesReading}
-use Rattle.aig_certificate.specs.state.Marks.{literal_at}
-use Rattle.aig_certificate.specs.Answers.{HasMapping}
+use Rattle.aig_certificate.specs.state.Said.{RefusesSharing}
 
 -- an entry has one name
 pub same_name : (symbols : List (Key × List ℕ)) → AllPairs (λ x y. x ≢ y) (keys_of symbols) → (k : Key) (a b : List ℕ)
@@ -67,55 +64,22 @@ right_literal model raw formed key name word l here is spelled defined (other, m
     never l defined (sym same ∙ spelled)
 
 module _ (model certificate : Raw) where
-  -- where symbols say what entries stand for, an entry without one stands for nothing
-  unmarked : (key : Key) (l : ℕ) → IsNamed certificate → ((word : List ℕ) → IsMarked certificate key word → ⊥)
-      → StandsFor model certificate key l → ⊥
-  unmarked key l some never (stands.named k m marked) = never (decimal m) marked
-  unmarked key l some never (stands.same_input p m none at) = none some
-  unmarked key l some never (stands.same_latch p x none at) = none some
-
-  pub named_meaning : IsNamed certificate → (key : Key) (m : Option ℕ) → IsNamedLiteral certificate key m
-      → IsMeaning model certificate key m
-  named_meaning some key (Some l) marked = stands.named key l marked
-  named_meaning some key None never = λ l h. unmarked key l some never h
-
-  -- where no symbol does, an entry stands for nothing where the model has none at its position
-  unplaced : (key : Key) (l : ℕ) → (IsNamed certificate → ⊥) → StandsFor model certificate key l
-      → literal_at model key.0 key.1 ≡ None → ⊥
-  unplaced key l free (stands.named k m marked) e = free (k, decimal m, marked)
-  unplaced key l free (stands.same_input p m none at) e = none-some m (sym e ∙ at)
-  unplaced key l free (stands.same_latch p x none at) e =
-      none-some x.lit (sym e ∙ ap (option_map (λ (y : Latch). y.lit)) at)
-
-  pub placed_meaning : (IsNamed certificate → ⊥) → (kind : Kind) (p : ℕ)
-      → IsMeaning model certificate (kind, p) (literal_at model kind p)
-  placed_meaning free Input p = at_input (slice_get model.inputs p) refl
-    where
-      at_input : (m : Option ℕ) → slice_get model.inputs p ≡ m → IsMeaning model certificate (Input, p) m
-      at_input (Some l) e = stands.same_input p l free e
-      at_input None e = λ l h. unplaced (Input, p) l free h e
-  placed_meaning free Latches p = at_latch (slice_get model.latches p) refl
-    where
-      at_latch : (m : Option Latch) → slice_get model.latches p ≡ m
-          → IsMeaning model certificate (Latches, p) (option_map (λ (y : Latch). y.lit) m)
-      at_latch (Some x) e = stands.same_latch p x free e
-      at_latch None e = λ l h. unplaced (Latches, p) l free h (ap (option_map (λ (y : Latch). y.lit)) e)
-  placed_meaning free Output p = λ l h. unplaced (Output, p) l free h refl
-  placed_meaning free Bad p = λ l h. unplaced (Bad, p) l free h refl
-  placed_meaning free Constraint p = λ l h. unplaced (Constraint, p) l free h refl
-  placed_meaning free Justice p = λ l h. unplaced (Justice, p) l free h refl
-  placed_meaning free Fairness p = λ l h. unplaced (Fairness, p) l free h refl
+  -- by symbols
+  pub named_meaning : (key : Key) (m : Option ℕ) → IsNamedLiteral certificate key m
+      → IsMeaning model certificate spec.symbols key m
+  named_meaning key (Some l) marked = marked
+  named_meaning key None never = λ l h. never (decimal l) h
 
   -- one more entry of a section
-  pub meanings_more : (kind : Kind) (old new : List (Option ℕ)) (n : ℕ) (m : Option ℕ) → length old ≡ n → new ≡ old ++ m ∷ []
-      → IsMeaning model certificate (kind, n) m → AreMeaningsOf model certificate kind old
-      → AreMeaningsOf model certificate kind new
-  meanings_more kind old new n m size is here h p x at =
+  pub meanings_more : (sharing : Sharing) (kind : Kind) (old new : List (Option ℕ)) (n : ℕ) (m : Option ℕ) → length old ≡ n → new ≡ old ++ m ∷ []
+      → IsMeaning model certificate sharing (kind, n) m → AreMeaningsOf model certificate sharing kind old
+      → AreMeaningsOf model certificate sharing kind new
+  meanings_more sharing kind old new n m size is here h p x at =
       elim (slice_get_push old m x p (ap (λ (ms : List (Option ℕ)). slice_get ms p) (sym is) ∙ at)) [
         | inl before ↦ h p x before
         | inr (last, same) ↦
-            subst (λ y. IsMeaning model certificate (kind, p) y) same
-            (subst (λ q. IsMeaning model certificate (kind, q) m) (sym (last ∙ size)) here)
+            subst (λ y. IsMeaning model certificate sharing (kind, p) y) same
+            (subst (λ q. IsMeaning model certificate sharing (kind, q) m) (sym (last ∙ size)) here)
       ]
 
   pub right_more : (kind : Kind) (n : ℕ) → (IsWrong model certificate (kind, n) → ⊥) → AreRight model certificate kind n
@@ -167,7 +131,7 @@ module _ (model certificate : Raw) where
   before_latch n formed inputs latches key (inr (same, lt)) wrong =
       latches key.1 lt (subst (λ (k : Kind). IsWrong model certificate (k, key.1)) same wrong)
 
-  pub refuses_input : (HasMapping certificate → ⊥) → (fault : StrengthenFault) → IsFirstWrong model certificate Input fault
+  pub refuses_input : (IsWrongMapping model certificate → ⊥) → (fault : StrengthenFault) → IsFirstWrong model certificate Input fault
       → RefusesReading model certificate fault
   refuses_input none faults.Memory h = tt
   refuses_input none faults.Comment h = absurd h
@@ -178,7 +142,7 @@ module _ (model certificate : Raw) where
   refuses_input none faults.Limit h = absurd h
   refuses_input none (faults.Circuit f) h = absurd h
 
-  pub refuses_latch : (HasMapping certificate → ⊥) → IsFormed certificate
+  pub refuses_latch : (IsWrongMapping model certificate → ⊥) → IsFormed certificate
       → AreRight model certificate Input (length certificate.inputs) → (fault : StrengthenFault)
       → IsFirstWrong model certificate Latches fault → RefusesReading model certificate fault
   refuses_latch none formed inputs faults.Memory h = tt
@@ -189,3 +153,12 @@ module _ (model certificate : Raw) where
   refuses_latch none formed inputs faults.Property h = absurd h
   refuses_latch none formed inputs faults.Limit h = absurd h
   refuses_latch none formed inputs (faults.Circuit f) h = absurd h
+
+  pub refuses_sharing : (fault : StrengthenFault) → RefusesSharing model certificate fault
+      → RefusesReading model certificate fault
+  refuses_sharing faults.Memory h = tt
+  refuses_sharing faults.Comment h = h
+  refuses_sharing (faults.Symbol k p) h = absurd h
+  refuses_sharing faults.Property h = absurd h
+  refuses_sharing faults.Limit h = absurd h
+  refuses_sharing (faults.Circuit f) h = absurd h

@@ -3,57 +3,30 @@ ghost use Rattle.std.specs.Prelude.{◌≡◌};
 
 use aig_base::{Fault, Kind, Memory};
 use std::alloc::{AllocError, AllocFailed};
-use std::error::Error;
-use std::fmt::{self, Display};
+use thiserror::Error;
 
 /// Why a model is not strengthened by a certificate. The faults stand in the order in which they are tried. Each text
 /// begins with the part of the run that it is about.
-#[derive(Clone, Copy, PartialEq, Eq)]
+#[derive(Clone, Copy, PartialEq, Eq, Debug, Error)]
 pub enum StrengthenFault {
-    /// The certificate's comment begins with `MAPPING`, and no symbol says what an entry stands for.
+    /// The certificate's comment has a mapping whose lines are no pairs, and no symbol says what an entry stands for.
+    #[error("certificate: comment")]
     Comment,
     /// The symbol of this input or latch begins with `= `, and names no literal of the model.
+    #[error("certificate: symbol {}{position}", char::from(.kind.letter()))]
     Symbol { kind: Kind, position: u32 },
     /// The model has no bad state property at this position.
+    #[error("strengthen: property")]
     Property,
     /// The strengthened circuit is over a limit of circuits.
+    #[error("strengthen: limit")]
     Limit,
     /// The strengthened circuit has this fault. It never comes: both files are circuits.
+    #[error("certificate: {0}")]
     Circuit(Fault),
     /// No memory was found.
+    #[error("strengthen: memory")]
     Memory,
-}
-
-impl Error for StrengthenFault {}
-
-// By hand, which costs a proof less than what is derived: it prints the message.
-impl fmt::Debug for StrengthenFault {
-    fn fmt<W: fmt::Write>(&self, f: &mut fmt::Formatter<W>) -> fmt::Result {
-        Display::fmt(self, f)
-    }
-}
-
-impl Display for StrengthenFault {
-    fn fmt<W: fmt::Write>(&self, f: &mut fmt::Formatter<W>) -> fmt::Result {
-        f.write_str(match self {
-            StrengthenFault::Comment => "certificate: comment",
-            StrengthenFault::Symbol { .. } => "certificate: symbol ",
-            StrengthenFault::Property => "strengthen: property",
-            StrengthenFault::Limit => "strengthen: limit",
-            StrengthenFault::Circuit(_) => "certificate: ",
-            StrengthenFault::Memory => "strengthen: memory",
-        })?;
-        match self {
-            StrengthenFault::Symbol { kind, position } => {
-                write!(f, "{}{position}", char::from(kind.letter()))
-            }
-            StrengthenFault::Circuit(fault) => fault.fmt(f),
-            StrengthenFault::Comment
-            | StrengthenFault::Property
-            | StrengthenFault::Limit
-            | StrengthenFault::Memory => Ok(()),
-        }
-    }
 }
 
 impl From<Memory> for StrengthenFault {

@@ -2,9 +2,11 @@
 #![tactic(auto)]
 
 mod fault;
+mod mapping;
 mod mark;
 mod parts;
 mod shared;
+mod sharing;
 mod strengthen;
 mod symbols;
 mod translation;

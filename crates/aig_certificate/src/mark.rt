@@ -21,7 +21,7 @@ fn word_of(name: &[u8]) -> Option<&[u8]>
 }
 
 /// The number whose decimal digits these are. It has no leading zeros and no sign: it is spelled again.
-fn number_of(word: &[u8]) -> Option<u32>
+pub(crate) fn number_of(word: &[u8]) -> Option<u32>
     ensures some { IfSome result (λ n. word.now ≡ decimal n) }
     ensures only { (n : ℕ) → n < 2 ^ 32 → word.now ≡ decimal n → result ≡ Some n }
 {

@@ -40,8 +40,8 @@ fn bad_at(model: &Circuit, property: u32) -> Option<Lit>
 /// property at this position is 1, or a claim of the certificate is broken. Its outputs are these parts. The
 /// certificate claims that none of its bad literals (outputs where it has none) is ever 1, and that each of its
 /// constraints always is. Where a symbol of an input or latch of the certificate begins with `= `, those that are
-/// shared say `= LIT`, a literal of the model; else the first inputs and latches are the model's. Nothing of the
-/// certificate is believed: the result extends the model, whatever it is.
+/// shared say `= LIT`, a literal of the model; else those of a mapping in its comment are shared, and without one the
+/// first inputs and latches. Nothing of the certificate is believed: the result extends the model, whatever it is.
 pub fn strengthened(
     alloc: Global,
     model: &Circuit,

@@ -118,12 +118,12 @@ program_is : (shape : Shape) (shapes : List Shape)
     → program_of (shape ∷ shapes) ≡ record { top = top_of_program; subs = shape ∷ shapes }
 program_is shape shapes = below (shape ∷ []) shapes
 
--- the options of every command
+-- the option of every command
 abbrev general : List Rule
-general = flag (codes "explain") ∷ flag (codes "progress") ∷ []
+general = flag (codes "progress") ∷ []
 
 general_is_fine : Each IsFine general
-general_is_fine = ((refl, λ n i. refl), ((refl, λ n i. refl), tt))
+general_is_fine = ((refl, λ n i. refl), tt)
 
 help_is_fine : Each IsFine (help_rule ∷ [])
 help_is_fine = ((refl, λ n i. refl), tt)
@@ -168,14 +168,11 @@ has_no_globals c row is = plain_has_no_globals (out-Command c) (ap (λ (s : Shap
 
 -- what is built of a row is the row's command
 pub row_built : (row : Subcommand) (app : App)
-    → app ≡ with_rule (with_rule (with_rules (new_app row.name.now) (map rule_of_argument row.arguments.now))
-    (flag (codes "explain"))) (flag (codes "progress"))
+    → app ≡ with_rule (with_rules (new_app row.name.now) (map rule_of_argument row.arguments.now)) (flag (codes "progress"))
     → app.top ≡ shape_of_row row
 row_built row app is = ap (λ (a : App). a.top) (is
-    ∙ ap (λ a. with_rule (with_rule a (flag (codes "explain"))) (flag (codes "progress")))
+    ∙ ap (λ a. with_rule a (flag (codes "progress")))
     (rules_added (new_shape row.name.now) [] (map rule_of_argument row.arguments.now)))
-    ∙ ap (λ rules. record (new_shape row.name.now) { rules = rules })
-    (append_assoc (map rule_of_argument row.arguments.now) (flag (codes "explain") ∷ []) (flag (codes "progress") ∷ []))
 
 -- the commands of four tables, added in turn
 pub tables_added : (a b c d : List Subcommand) (app : App)

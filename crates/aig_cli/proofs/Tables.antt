@@ -107,10 +107,14 @@ tenth a b c d e f g h i j all =
     let eight = (and_parts h _ (and_parts g _ (and_parts f _ (and_parts e _ four).1).1).1).1 in
     not-true j (and_parts i _ eight).1
 
--- so none is global
-pub is_local : (a : Arg) (row : Argument) → rule_of a ≡ rule_of_argument row → a.global ≡ false
-is_local a row is =
-    let simple : (rule_of a).is_simple ≡ true = ap (λ (r : Rule). r.is_simple) is ∙ row_is_simple row in
+-- so an argument with a simple rule is not global
+pub simple_is_local : (a : Arg) (rule : Rule) → rule_of a ≡ rule → rule.is_simple ≡ true → a.global ≡ false
+simple_is_local a rule is all =
+    let simple : (rule_of a).is_simple ≡ true = ap (λ (r : Rule). r.is_simple) is ∙ all in
     tenth (is_empty a.overrides.items) (is_empty a.default_vals_ifs.items) (is_empty a.groups.items)
     (not (is_some a.val_delim)) (not (is_some a.terminator)) (not a.allow_hyphen_values) (not a.allow_negative_numbers)
     (not a.require_equals) (not a.last) a.global simple
+
+-- and none of the tables is
+pub is_local : (a : Arg) (row : Argument) → rule_of a ≡ rule_of_argument row → a.global ≡ false
+is_local a row is = simple_is_local a (rule_of_argument row) is (row_is_simple row)

@@ -59,11 +59,9 @@ bound rule = record rule { is_free = false }
 
 -- ---- commands
 
--- a command: its arguments, and the options of every command
+-- a command: its arguments, and the option of every command
 abbrev pub command : Text → List Rule → Shape
-command name rules = record (new_shape name) {
-  rules = rules ++ flag (codes "explain") ∷ flag (codes "progress") ∷ [];
-}
+command name rules = record (new_shape name) { rules = rules ++ flag (codes "progress") ∷ [] }
 
 abbrev pub circuit : Rule
 circuit = needed (place (codes "CIRCUIT"))
@@ -117,11 +115,11 @@ on_proofs = command (codes "cnf") (number (codes "frames") (codes "K") ∷ prope
     ∷ command (codes "strengthen") (format ∷ needed (named (codes "certificate")) ∷ property ∷ circuit ∷ [])
     ∷ []
 
--- the program: the options of every command may stand before the command too, and a command is needed
+-- the program: the option of every command may stand before the command too, and a command is needed
 abbrev pub program_of : List Shape → App
 program_of shapes = fold with_subcommand (record {
   top = record (new_shape (codes "aig")) {
-    rules = flag (codes "explain") ∷ flag (codes "progress") ∷ [];
+    rules = flag (codes "progress") ∷ [];
     has_version = true;
     subcommand_required = true;
   };
@@ -144,7 +142,7 @@ IsCommandLine app =
     (shapes : List Shape) × (map plain shapes ≡ on_files ++ on_runs ++ on_witnesses ++ on_proofs)
     × (app ≡ program_of shapes)
 
--- the matches are those of the words, the first of which is the program's name: the values of the options that stand
+-- the matches are those of the words, the first of which is the program's name: the values of the option that stands
 -- before the command, the command, and the values of its arguments
 abbrev pub HoldsWords : List Text → ArgMatches → Type 0
 HoldsWords words matches =

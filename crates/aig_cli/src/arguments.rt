@@ -398,15 +398,7 @@ pub static NUMBERS: [NumberOption; 3] = [
     },
 ];
 
-/// An option of every command, which may be before the command or after it: to explain a failure.
-pub static EXPLAIN: Argument = Argument {
-    name: "explain",
-    help: "Explain a failure, and name a verdict's property",
-    kind: Kind::Flag,
-    need: Need::Never,
-};
-
-/// Another one: to show how far the run is.
+/// The option of every command, which may be before the command or after it: to show how far the run is.
 pub static PROGRESS: Argument = Argument {
     name: "progress",
     help: "Show how far the run is, on standard error",

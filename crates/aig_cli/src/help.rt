@@ -29,13 +29,9 @@ Verdicts:
   strengthen  Write a circuit that is strengthened by a certificate
 
 Options:
-      --explain   Explain a failure, and name a verdict's property
       --progress  Show how far the run is, on standard error
   -h, --help      Print this help, or that of the command before it
   -V, --version   Print version
-
-Environment:
-  AIG_EXPLAIN  if it is 1, every command has the option --explain
 
 Exit status:
   0  done
@@ -43,11 +39,13 @@ Exit status:
   2  wrong arguments, or a request for help or for the version
   3  out of memory, or an input or output error
 
+To learn why a command fails, and what to do: aig-explain COMMAND ..
+
 Example: aig sim examples/counter.aag examples/counter.stim
 Example: aig check examples/wraps.aag examples/wraps.wit
 Example: aig check --alive --frames 4 examples/wraps.aag examples/wraps.wit
 Example: aig refute --frames 3 examples/wraps.aag examples/wraps.drat
-See also: man aig, man 5 aig-formats";
+See also: man aig, man aig-explain, man 5 aig-formats";
 
 pub const TOAIG: &str =
     "The aig format numbers its variables in a fixed order. If the circuit does not

@@ -5,7 +5,7 @@ ghost use Rattle.clap.specs.Words.{app_of, rule_of, with_rule};
 ghost use Rattle.aig_cli.specs.Table.{flag, on_files, on_proofs, on_runs, on_witnesses, plain};
 ghost use Rattle.aig_cli.specs.Table.{rule_of_argument, shape_of_row, with_rules};
 
-use crate::arguments::{self, Argument, EXPLAIN, PROGRESS, built};
+use crate::arguments::{self, Argument, PROGRESS, built};
 use crate::help::{self, usages};
 use clap::{Arg, Command};
 use std::alloc::{AllocError, Global};
@@ -21,7 +21,7 @@ pub struct Subcommand {
     pub arguments: &'static [Argument],
 }
 
-/// The place in a help of the options that every command has: after its own options.
+/// The place in a help of the option that every command has: after its own options.
 const LAST: usize = 90;
 
 // The commands in the order of the help. A check takes a table as one term, and stops at a larger one, so those on
@@ -248,30 +248,17 @@ fn with_argument<'a>(
     command.arg(built(alloc, row)?)
 }
 
-fn general<'a>(alloc: Global, row: &'static Argument) -> Result<Arg<'a>, AllocError>
-    ensures rule { IfOk result (λ built. rule_of built ≡ rule_of_argument row.now) }
+fn general<'a>(alloc: Global) -> Result<Arg<'a>, AllocError>
+    ensures rule { IfOk result (λ built. rule_of built ≡ flag (codes "progress")) }
 {
-    Ok(built(alloc, row)?.display_order(LAST))
+    Ok(built(alloc, &PROGRESS)?.display_order(LAST))
 }
 
-// Alone here, where a failure drops the command.
-fn with_general_argument<'a>(
-    command: Command<'a>,
-    alloc: Global,
-    row: &'static Argument,
-) -> Result<Command<'a>, AllocError>
-    ensures app { IfOk result (λ c. app_of c ≡ with_rule (app_of command.entry) (rule_of_argument row.now)) }
-{
-    command.arg(general(alloc, row)?)
-}
-
-/// The command with the options of every command.
+/// The command with the option of every command.
 pub fn with_general<'a>(command: Command<'a>, alloc: Global) -> Result<Command<'a>, AllocError>
-    ensures app { IfOk result (λ c. app_of c
-        ≡ with_rule (with_rule (app_of command.entry) (flag (codes "explain"))) (flag (codes "progress"))) }
+    ensures app { IfOk result (λ c. app_of c ≡ with_rule (app_of command.entry) (flag (codes "progress"))) }
 {
-    let command = with_general_argument(command, alloc, &EXPLAIN)?;
-    with_general_argument(command, alloc, &PROGRESS)
+    command.arg(general(alloc)?)
 }
 
 fn bare<'a>(alloc: Global, row: &'static Subcommand) -> Command<'a>

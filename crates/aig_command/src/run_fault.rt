@@ -12,41 +12,61 @@ use aig_sat::{ModelFault, ProofFault};
 use aig_signals::{NamesFault, PropertyFault};
 use aig_sim::{ReachFault, StimFault, WitnessFault};
 use aig_unroll::UnrollFault;
-use std::error::Error;
-use std::fmt::{self, Display};
+use thiserror::Error;
 
 /// The part of a run that refused, and its fault.
-#[derive(Clone, Copy, PartialEq, Eq)]
+#[derive(Clone, Copy, PartialEq, Eq, Debug, Error)]
 pub enum RunFault {
+    #[error("circuit: {0}")]
     Circuit(Fault),
+    #[error("stimulus: {0}")]
     Stimulus(StimFault),
+    #[error("witness: {0}")]
     Witness(WitnessFault),
     /// A witness of one property that is checked for another.
+    #[error("witness: of b{found}, not b{asked}")]
     OtherProperty { found: u32, asked: u32 },
+    #[error("bench: {0}")]
     Bench(BenchFault),
+    #[error("script: {0}")]
     Script(ScriptFault),
     /// A write of results failed.
+    #[error("output: input or output")]
     Output,
     /// No memory was found, outside these parts.
+    #[error("memory")]
     Memory,
+    #[error("unroll: {0}")]
     Unroll(UnrollFault),
+    #[error("cnf: {0}")]
     Cnf(CnfFault),
+    #[error("select: {0}")]
     Select(SelectFault),
+    #[error("witness: {0}")]
     Reach(ReachFault),
+    #[error("proof: {0}")]
     Proof(ProofFault),
     /// The proof of an induction step.
+    #[error("step proof: {0}")]
     StepProof(ProofFault),
+    #[error("model: {0}")]
     Model(ModelFault),
     /// The file of a certificate.
+    #[error("certificate: {0}")]
     Certificate(Fault),
     /// What a certificate says of a model.
+    #[error("{0}")]
     Strengthen(StrengthenFault),
+    #[error("names: {0}")]
     Names(NamesFault),
     /// The property that a text names.
+    #[error("property: {0}")]
     Property(PropertyFault),
     /// The value that is to be explained.
+    #[error("why: {0}")]
     Why(WhyFault),
     /// A line of a session was not read, or its answer not written.
+    #[error("shell: input or output")]
     Shell,
 }
 
@@ -88,68 +108,6 @@ impl RunFault {
             | RunFault::Names(_)
             | RunFault::Property(_)
             | RunFault::Why(_) => 1,
-        }
-    }
-}
-
-impl RunFault {
-    /// What the message begins with: all of it, or what stands before that of the part's own fault.
-    fn head(&self) -> &'static str {
-        match self {
-            RunFault::Circuit(_) => "circuit: ",
-            RunFault::Stimulus(_) => "stimulus: ",
-            RunFault::Witness(_) | RunFault::Reach(_) => "witness: ",
-            RunFault::OtherProperty { .. } => "witness: of ",
-            RunFault::Bench(_) => "bench: ",
-            RunFault::Script(_) => "script: ",
-            RunFault::Output => "output: input or output",
-            RunFault::Memory => "memory",
-            RunFault::Unroll(_) => "unroll: ",
-            RunFault::Cnf(_) => "cnf: ",
-            RunFault::Select(_) => "select: ",
-            RunFault::Proof(_) => "proof: ",
-            RunFault::StepProof(_) => "step proof: ",
-            RunFault::Model(_) => "model: ",
-            RunFault::Certificate(_) => "certificate: ",
-            RunFault::Strengthen(_) => "",
-            RunFault::Names(_) => "names: ",
-            RunFault::Property(_) => "property: ",
-            RunFault::Why(_) => "why: ",
-            RunFault::Shell => "shell: input or output",
-        }
-    }
-}
-
-impl Error for RunFault {}
-
-// By hand, which costs a proof less than what is derived: it prints the message.
-impl fmt::Debug for RunFault {
-    fn fmt<W: fmt::Write>(&self, f: &mut fmt::Formatter<W>) -> fmt::Result {
-        Display::fmt(self, f)
-    }
-}
-
-impl Display for RunFault {
-    fn fmt<W: fmt::Write>(&self, f: &mut fmt::Formatter<W>) -> fmt::Result {
-        f.write_str(self.head())?;
-        match self {
-            RunFault::Circuit(inner) | RunFault::Certificate(inner) => inner.fmt(f),
-            RunFault::Stimulus(inner) => inner.fmt(f),
-            RunFault::Witness(inner) => inner.fmt(f),
-            RunFault::OtherProperty { found, asked } => write!(f, "b{found}, not b{asked}"),
-            RunFault::Bench(inner) => inner.fmt(f),
-            RunFault::Script(inner) => inner.fmt(f),
-            RunFault::Unroll(inner) => inner.fmt(f),
-            RunFault::Cnf(inner) => inner.fmt(f),
-            RunFault::Select(inner) => inner.fmt(f),
-            RunFault::Reach(inner) => inner.fmt(f),
-            RunFault::Proof(inner) | RunFault::StepProof(inner) => inner.fmt(f),
-            RunFault::Model(inner) => inner.fmt(f),
-            RunFault::Strengthen(inner) => inner.fmt(f),
-            RunFault::Names(inner) => inner.fmt(f),
-            RunFault::Property(inner) => inner.fmt(f),
-            RunFault::Why(inner) => inner.fmt(f),
-            RunFault::Output | RunFault::Memory | RunFault::Shell => Ok(()),
         }
     }
 }

@@ -1,33 +1,16 @@
 //! Why a script is not run to its end.
 use aig_base::Io;
-use std::error::Error;
-use std::fmt::{self, Display};
+use thiserror::Error;
 
 /// Why a script is not run to its end.
-#[derive(Clone, Copy, PartialEq, Eq)]
+#[derive(Clone, Copy, PartialEq, Eq, Debug, Error)]
 pub enum ScriptFault {
     /// A read or a write failed.
+    #[error("input or output")]
     Io,
     /// No memory was found for a row; then nothing was read.
+    #[error("memory")]
     Memory,
-}
-
-impl Error for ScriptFault {}
-
-// By hand, which costs a proof less than what is derived: it prints the message.
-impl fmt::Debug for ScriptFault {
-    fn fmt<W: fmt::Write>(&self, f: &mut fmt::Formatter<W>) -> fmt::Result {
-        Display::fmt(self, f)
-    }
-}
-
-impl Display for ScriptFault {
-    fn fmt<W: fmt::Write>(&self, f: &mut fmt::Formatter<W>) -> fmt::Result {
-        f.write_str(match self {
-            ScriptFault::Io => "input or output",
-            ScriptFault::Memory => "memory",
-        })
-    }
 }
 
 impl From<Io> for ScriptFault {

@@ -1,6 +1,6 @@
 //! `refute`: what a solver's proof says of a circuit's file: that no run reaches a bad state within some frames, or
 //! none of any length does, or that no run keeps all constraints.
-ghost use Rattle.std.specs.Prelude.{◌≡◌, ◌≢◌, ◌+◌, ◌^◌, ◌<◌, ℕ, Err, IfErr, IfSome, OnOk};
+ghost use Rattle.std.specs.Prelude.{◌≡◌, ◌≢◌, ◌⊎◌, ◌+◌, ◌^◌, ◌<◌, ℕ, Err, IfErr, IfSome, OnErr, OnOk};
 ghost use Rattle.aig_bytes.specs.Bytes.{Writes};
 ghost use Rattle.aig_bytes.specs.Flow.{flow};
 ghost use Rattle.aig_sat.specs.checker.Consequence.{IsUnsatisfiable};
@@ -186,8 +186,9 @@ fn write_checked<W: Write>(
     frames: u32,
     out: &mut W,
 ) -> Result<(), RunFault>
-    ensures { CommandEnds (flow W.written W.failures out.old out.new) RunFault.Output
+    ensures ends { CommandEnds (flow W.written W.failures out.old out.new) RunFault.Output
         (Answers (answer_line goal frames) checked) result }
+    ensures none { OnErr checked (W.written out.new ≡ W.written out.old) }
 {
     match checked {
         Ok(()) => write_text(goal, frames, out),
@@ -214,6 +215,7 @@ pub fn refute<R: Read, S: Read, W: Write>(
     out: &mut W,
 ) -> Result<(), RunFault>
     ensures says { OnOk result (Says (asked_of question.entry) file.now) }
+    ensures printed { (W.written out.new ≡ W.written out.old) ⊎ Says (asked_of question.entry) file.now }
     ensures ends { CommandEnds (flow W.written W.failures out.old out.new) RunFault.Output
         (RefutesQuestion (asked_of question.entry) file.now) result }
     ensures reads { result ≢ Err RunFault.Output →

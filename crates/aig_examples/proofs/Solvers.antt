@@ -1,13 +1,15 @@
 -- The examples of the definitions of `aig_sat` and `aig_certificate`.
-use Rattle.std.proofs.Common.{zero, ◌≡◌, ◌≢◌, inl, inr, ℕ, suc, ◌<◌, [], ◌∷◌, Contains, refl}
+use Rattle.std.proofs.Common.{zero, ◌≡◌, ◌≢◌, inl, inr, ℕ, suc, ◌<◌, [], ◌∷◌, ◌++◌, Some, Contains, refl, lit<}
 use Rattle.std.proofs.Common.{arith}
 use Rattle.std.specs.Prelude.{Bool, true, false, Ok, Err, codes, nat_eq, slice_index_or}
 use Rattle.std.specs.Fmt.{digits}
 use Rattle.std.proofs.lemmas.List.Elements.{All-cons, All-nil}
 use Rattle.aig_parts.specs.Literal.{variable}
 use Rattle.aig_parts.specs.declared.raw.Raw.{Raw}
-use Rattle.aig_parts.specs.declared.symbols.Kind.TheVariants.{Latch}
+use Rattle.aig_parts.specs.declared.symbols.Kind.TheVariants.{Input, Latch}
 use Rattle.aig_parts.specs.declared.ternary.Tern.TheVariants.{Zero, One, X}
+use Rattle.aig_certificate.specs.declared.mapping.Pair.{Pair}
+use Rattle.aig_certificate.specs.Mapping.{IsMapping, from_mapping}
 use Rattle.aig_certificate.specs.Shared as shared
 use Rattle.aig_certificate.specs.Shared.{StandsFor}
 use Rattle.aig_sat.specs.checker.Clause.{is_true, meets, Satisfies}
@@ -184,6 +186,20 @@ certificate = record two_gates {
   symbols = ((Latch, 0), codes "= 4") ∷ [];
 }
 
-shared_latch : StandsFor two_gates certificate (Latch, 0) 4
+shared_latch : StandsFor two_gates certificate shared.symbols (Latch, 0) 4
 unfolding digits
-shared_latch = shared.StandsFor.named (Latch, 0) 4 (inr refl, (0, omega arith, refl))
+shared_latch = (inr refl, (0, omega arith, refl))
+
+-- by the lines `MAPPING 1` and `2 5` literal 2 of the certificate is literal 5 of the model
+abbrev mapped : Raw
+mapped = record certificate { symbols = []; comment = Some (codes "MAPPING 1" ++ 10 ∷ codes "2 5") }
+
+abbrev two_is_five : Pair
+two_is_five = record { certificate = 2; model = 5 }
+
+one_pair : IsMapping mapped (two_is_five ∷ [])
+unfolding from_mapping digits
+one_pair = record { after = []; lines_are = refl; few = lit< tt }
+
+mapped_input : StandsFor two_gates mapped (shared.pairs (two_is_five ∷ [])) (Input, 0) 5
+mapped_input = (2, refl, (two_is_five, (0, omega arith, refl), refl, refl))

@@ -30,18 +30,4 @@ impl Unwritten {
             kind => Unwritten::System(kind),
         }
     }
-
-    /// How the program ends where that is a fault of its own.
-    pub fn exit(self) -> Exit {
-        match self {
-            Unwritten::Memory => Exit::Run(RunFault::Memory),
-            _ => OUTPUT,
-        }
-    }
-}
-
-impl From<Unwritten> for Exit {
-    fn from(why: Unwritten) -> Exit {
-        why.exit()
-    }
 }

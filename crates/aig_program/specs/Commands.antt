@@ -1,6 +1,6 @@
 -- How each command of the program ends, where the bytes of its files are known.
 -- Example: `refute` by `RefutesQuestion`, with its own K and P.
-use Rattle.std.specs.Prelude.{ℕ, List, Option, Some, Result, IfSome, OnOk, option_copied}
+use Rattle.std.specs.Prelude.{ℕ, List, Option, Some, Result, IfSome, option_copied}
 use Rattle.aig_bytes.specs.Flow.{Flow}
 use Rattle.aig_sim.specs.declared.stimulus.fault.StimFault.TheVariants as stimuli
 use Rattle.aig_command.specs.Command.{OfFile}
@@ -22,7 +22,7 @@ use Rattle.aig_commands.specs.Wave.{DumpsRun, WritesWave}
 use Rattle.aig_commands.specs.Witness.{WritesWitness}
 use Rattle.aig_why.specs.Why.{WritesWhy}
 use Rattle.aig_files.specs.declared.exit.Exit.{Exit}
-use Rattle.aig_program.specs.Ends.{ChecksWitness, Completes, Ends, EndsKeeping, EndsSelectingNamed, OfText, Seen, end_of}
+use Rattle.aig_program.specs.Ends.{ChecksWitness, Ends, EndsKeeping, EndsSelectingNamed, OfText, Seen, end_of}
 use Rattle.aig_program.specs.Ends.{end_of_alive, end_of_verdict}
 use Rattle.aig_program.specs.GivenFiles.{given_left}
 use Rattle.aig_program.specs.Questions.{asked_by, claims_left}
@@ -49,7 +49,7 @@ EndsAsMeant out left (commands.Bench it) result =
 EndsAsMeant out left (commands.Unroll it) result =
     IfSome (left it.circuit) (λ file. Ends out run_faults.Output end_of (OfFile file (UnrollsKept it.frames it.to)) result)
 EndsAsMeant out left (commands.UnrollAndMap it) result =
-    OnOk result (IfSome (left it.circuit) (λ file. Completes out (OfFile file (UnrollsKept it.frames it.to))))
+    IfSome (left it.circuit) (λ file. EndsKeeping out run_faults.Output (OfFile file (UnrollsKept it.frames it.to)) result)
 EndsAsMeant out left (commands.Check it) result =
     IfSome (left it.circuit) (λ file. IfSome (left it.witness) (λ text.
     Ends out run_faults.Output end_of_verdict (OfFile file (ChecksWitness it.shown it.property text)) result))

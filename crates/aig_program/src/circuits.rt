@@ -1,15 +1,15 @@
 //! The commands on a circuit alone: conversion, unrolling, selection, and facts about it.
-ghost use Rattle.std.specs.Prelude.{Some, IfSome, OnOk};
+ghost use Rattle.std.specs.Prelude.{Some, IfSome};
 ghost use Rattle.aig_command.specs.Command.{OfFile};
 ghost use Rattle.aig_commands.specs.Info.{ListsFacts};
 ghost use Rattle.aig_commands.specs.Names.{ListsNamesAs};
 ghost use Rattle.aig_commands.specs.Select.{Selects};
 ghost use Rattle.aig_commands.specs.Toaig.{Converts};
 ghost use Rattle.aig_commands.specs.Unroll.{UnrollsKept};
-ghost use Rattle.aig_program.specs.Ends.{Completes, Ends, EndsSelectingNamed, end_of, seen};
+ghost use Rattle.aig_program.specs.Ends.{Ends, EndsKeeping, EndsSelectingNamed, end_of, seen};
 
 use crate::command::{Info, InfoNames, Select, SelectNamed, Toaig, Unroll, UnrollAndMap};
-use crate::ended::{ended, streamed};
+use crate::ended::{ended, streamed, written};
 use crate::kept::{begin_map, write_map};
 use aig_base::Write;
 use aig_command::{RunFault, flushed};
@@ -57,13 +57,13 @@ pub fn unroll_and_map<R: Files + AllocGlobal + Print + Eprint + Clock, F: Read +
 ) -> Result<(), Exit>
 where
     R::File: AsFd,
-    ensures done { OnOk result (IfSome (F.remaining it.entry.circuit) (λ file.
-        Completes (seen W.written W.failures out.old out.new)
-        (OfFile file (UnrollsKept it.entry.frames it.entry.to)))) }
+    ensures ends { IfSome (F.remaining it.entry.circuit) (λ file.
+        EndsKeeping (seen W.written W.failures out.old out.new) RunFault.Output
+        (OfFile file (UnrollsKept it.entry.frames it.entry.to)) result) }
 {
     let circuit = read_whole(terminal.alloc(), it.circuit, Part::Circuit)?;
     let file = circuit.as_slice();
-    let mut map = begin_map(terminal.runtime(), it.map, &it.file)?;
+    let mut map = written(begin_map(terminal.runtime(), it.map, &it.file))?;
     let unroll = Unroll {
         frames: it.frames,
         to: it.to,
@@ -80,12 +80,14 @@ fn write_unrolled_and_map<R: Files + AllocGlobal + Print + Eprint + Clock, W: Wr
 ) -> Result<(), Exit>
 where
     R::File: AsFd,
-    ensures { OnOk result (Completes (seen W.written W.failures out.old out.new)
-        (OfFile it.entry.circuit.now (UnrollsKept it.entry.frames it.entry.to))) }
+    ensures ends { EndsKeeping (seen W.written W.failures out.old out.new) RunFault.Output
+        (OfFile it.entry.circuit.now (UnrollsKept it.entry.frames it.entry.to)) result }
 {
     let done = unroll::unroll(terminal.alloc(), it.circuit, it.frames, it.to, out);
-    let circuit = flushed(done, out, RunFault::Output)?;
-    Ok(write_map(terminal.runtime(), &circuit, it.frames, map)?)
+    match flushed(done, out, RunFault::Output) {
+        Ok(circuit) => written(write_map(terminal.runtime(), &circuit, it.frames, map)),
+        Err(fault) => Err(Exit::Run(fault)),
+    }
 }
 
 /// Writes facts about a circuit.

@@ -56,7 +56,7 @@ module _ (raw : Raw) (circuit : IsCircuit raw) (order : List ℕ) (canonical : I
           (ap (renumbered_literal raw order) e ∙ true_literal raw circuit.sound order canonical ∙ sym e)
       of_reset (inr (inr own)) = (λ _. inl (ap (renumbered_literal raw order) own), λ _. inl own)
 
-  wrong_same : (start : List Tern) (p : ℕ) → StartsWrong raw start p ↔ StartsWrong (renumbered raw order) start p
+  pub wrong_same : (start : List Tern) (p : ℕ) → StartsWrong raw start p ↔ StartsWrong (renumbered raw order) start p
   wrong_same start p = (
     λ h. record {
       latch = renumbered_latch raw order h.latch;

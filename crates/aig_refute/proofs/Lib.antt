@@ -3,6 +3,7 @@ pub mod AnyState
 pub mod BadFormula
 pub mod ConeValues
 pub mod ConvertedDumps
+pub mod ConvertedRuns
 pub mod ConvertedTraces
 pub mod ConvertedVerdicts
 pub mod ConvertedWitnesses

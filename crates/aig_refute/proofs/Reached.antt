@@ -30,7 +30,7 @@ one_or_not X = inr (λ e. let no : ⊥ = cc in no)
 
 module _ (raw : Raw) (start : List Tern) where
   -- a start that the resets allow starts no latch wrong
-  none_wrong : IsAllowed raw start → (p : ℕ) → StartsWrong raw start p → ⊥
+  pub none_wrong : IsAllowed raw start → (p : ℕ) → StartsWrong raw start p → ⊥
   none_wrong allowed p h = h.wrong (allowed p h.latch h.value h.latch_is h.value_is)
 
   -- a start that starts no latch wrong is allowed

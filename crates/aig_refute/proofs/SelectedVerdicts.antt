@@ -5,6 +5,7 @@ use Rattle.std.proofs.lemmas.Option.{slice_get-map, slice_get-get_or}
 use Rattle.aig_parts.specs.declared.latch.Latch.{Latch}
 use Rattle.aig_parts.specs.declared.raw.Raw.{Raw}
 use Rattle.aig_parts.specs.declared.ternary.Tern.{Tern}
+use Rattle.aig_parts.specs.declared.ternary.Tern.TheVariants.{One}
 use Rattle.aig_parts.specs.SymbolPlaces.{Key}
 use Rattle.aig_base.specs.declared.select.PropertySection.{PropertySection}
 use Rattle.aig_base.specs.declared.select.PropertySection.TheVariants as sections
@@ -18,6 +19,7 @@ use Rattle.aig_sim.specs.declared.witness.verdict.Verdict.{Verdict}
 use Rattle.aig_sim.specs.declared.witness.verdict.Verdict.TheVariants as verdict
 use Rattle.aig_sim.specs.Verdict.{VerdictApplies}
 use Rattle.aig_sim.specs.WitnessText.{Witness}
+use Rattle.aig_refute.specs.Unreachable.{IsUnreachable}
 use Rattle.aig_refute.specs.Selection.{with_bad, of_property, HaveSameVerdictsOf}
 
 -- values do not depend on properties and names
@@ -115,4 +117,30 @@ same_selected raw from into named p q w there at =
         applies = applies_there two one w q p refl refl (sym bad) back v h.applies;
         first = λ u before k. h.first u before (applies_there one two w p q refl refl bad forth u k);
       },
+    )
+
+-- no run reaches the property, where none reaches it at its new position
+pub unreachable_selected : (raw : Raw) (from into : PropertySection) (named : List ℕ) (p q : ℕ)
+    → AreProperties raw from named → slice_get (selected_positions (length (properties_in from raw)) named) q ≡ Some p
+    → IsUnreachable (with_bad into (selected raw from into named)) q → IsUnreachable (with_bad from raw) p
+unreachable_selected raw from into named p q there at none start rows t (fits, allowed, lt, (b, is, (one, all))) =
+    let old = properties_in from raw in
+    let positions = selected_positions (length old) named in
+    let literals = map (λ (n : ℕ). get_or old n 0) positions in
+    let from_old = with_bad from raw in
+    let new = selected raw from into named in
+    let two = with_bad into new in
+    let below : p < length old = All-at (λ n. n < length old) positions q p (positions_there (length old) named there) at in
+    let bad : slice_get from_old.bad p ≡ slice_get two.bad q =
+    slice_get-get_or old p 0 below
+    ∙ sym (ap (λ (ls : List ℕ). slice_get ls q) (own_bad into raw literals new.symbols)
+    ∙ slice_get-map (λ (n : ℕ). get_or old n 0) positions q ∙ ap (option_map (λ (n : ℕ). get_or old n 0)) at) in
+    let forth : (u l : ℕ) (v : Tern) → Value from_old start rows u l v → Value two start rows u l v = λ u l v x.
+    value_there raw two.outputs two.bad two.justice two.fairness two.symbols start rows u l v
+    (value_back raw from_old.outputs from_old.bad from_old.justice from_old.fairness from_old.symbols start rows u l v x) in
+    none start rows t (
+      record { latches = fits.latches; inputs = fits.inputs },
+      allowed,
+      lt,
+      (b, sym bad ∙ is, (forth t b One one, λ s c le has. forth s c One (all s c le has))),
     )

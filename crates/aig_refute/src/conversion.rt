@@ -8,6 +8,7 @@ ghost use Rattle.aig_base.specs.Order.{IsCanonicalOrder};
 ghost use Rattle.aig_base.specs.Renumbered.{renumbered};
 ghost use Rattle.aig_base.specs.Value.{Fits};
 ghost use Rattle.aig_sim.specs.WitnessText.{Witness};
+ghost use Rattle.aig_refute.specs.Unreachable.{IsUnreachable, IsUnreachableWithin};
 ghost use Rattle.aig_refute.specs.Conversion.{HaveSameTraces, HaveSameDumps, HaveSameWitnesses, HaveSameVerdicts};
 
 /// A renumbered circuit has the traces and the dumps of the circuit, from any start and with any rows that fit. It has
@@ -24,4 +25,8 @@ pub fn law_of_conversion()
     ensures verdicts { (raw : Raw) (order : List ℕ) (w : Witness) →
         IsCircuit raw → IsCanonicalOrder raw order → Fits raw w.start w.rows → w.rows ≢ [] →
         HaveSameVerdicts raw (renumbered raw order) w }
+    ensures within { (raw : Raw) (order : List ℕ) (k p : ℕ) → IsCircuit raw → IsCanonicalOrder raw order →
+        IsUnreachableWithin (renumbered raw order) k p → IsUnreachableWithin raw k p }
+    ensures unreachable { (raw : Raw) (order : List ℕ) (p : ℕ) → IsCircuit raw → IsCanonicalOrder raw order →
+        IsUnreachable (renumbered raw order) p → IsUnreachable raw p }
 {}

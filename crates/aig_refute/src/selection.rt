@@ -4,6 +4,7 @@ ghost use Rattle.aig_parts.specs.declared.raw.Raw.{Raw};
 ghost use Rattle.aig_base.specs.declared.select.PropertySection.{PropertySection};
 ghost use Rattle.aig_base.specs.Selected.{properties_in, selected, selected_positions, AreProperties};
 ghost use Rattle.aig_sim.specs.WitnessText.{Witness};
+ghost use Rattle.aig_refute.specs.Unreachable.{IsUnreachable};
 ghost use Rattle.aig_refute.specs.Selection.{HaveSameVerdictsOf, with_bad};
 
 /// A run has the verdict for a property that was selected that it has for the named one: property q of the circuit that
@@ -14,4 +15,8 @@ pub fn law_of_selection()
         AreProperties raw from named →
         slice_get (selected_positions (length (properties_in from raw)) named) q ≡ Some p →
         HaveSameVerdictsOf p q (with_bad from raw) (with_bad into (selected raw from into named)) w }
+    ensures unreachable { (raw : Raw) (from into : PropertySection) (named : List ℕ) (p q : ℕ) →
+        AreProperties raw from named →
+        slice_get (selected_positions (length (properties_in from raw)) named) q ≡ Some p →
+        IsUnreachable (with_bad into (selected raw from into named)) q → IsUnreachable (with_bad from raw) p }
 {}

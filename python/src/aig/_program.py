@@ -3,9 +3,7 @@
 from __future__ import annotations
 
 import os
-import shutil
 import subprocess
-import sysconfig
 import tempfile
 from contextlib import ExitStack, contextmanager
 from pathlib import Path
@@ -16,25 +14,12 @@ try:
 except ImportError:  # no Unix
     resource = None  # type: ignore[assignment]
 
+from ._where import program as program
 from .errors import OutOfMemory, error_of
+from .explain import explanation
 
 # Of a program whose output is bounded, beside what its files and its output take.
 MOST_MEMORY = 1 << 28
-
-
-def program() -> str:
-    """The path of the program: `$AIG_PROGRAM`, else the one that pip installed with this package, else the first `aig`
-    on the path."""
-    named = os.environ.get("AIG_PROGRAM")
-    if named:
-        if not shutil.which(named):
-            raise FileNotFoundError(f"there is no program {named}, which AIG_PROGRAM names")
-        return named
-    installed = Path(sysconfig.get_path("scripts"), "aig")
-    found = str(installed) if installed.exists() else shutil.which("aig")
-    if not found:
-        raise FileNotFoundError("there is no program aig: set AIG_PROGRAM, or put aig on the path")
-    return found
 
 
 @contextmanager
@@ -70,22 +55,27 @@ def run(
     most: Optional[int] = None,
 ) -> bytes:
     """What the program prints for these files, and for those that an option names. It raises the error of any other
-    run: one with a message, with a status that is not `good`, or with more than `most` bytes. That a verdict's property
-    is named is no message."""
+    run: one with a message, with a status that is not `good`, or with more than `most` bytes."""
     with held(*named.values(), *files) as (paths, descriptors):
         by_option = [word for option, path in zip(named, paths) for word in (option, path)]
-        words = [program(), command, "--explain", *options, *by_option, *paths[len(named):]]
-        with subprocess.Popen(words, stdin=subprocess.DEVNULL, stdout=subprocess.PIPE, stderr=subprocess.PIPE,
-                              pass_fds=descriptors) as process:
+        words = [command, *options, *by_option, *paths[len(named):]]
+        with subprocess.Popen([program(), *words], stdin=subprocess.DEVNULL, stdout=subprocess.PIPE,
+                              stderr=subprocess.PIPE, pass_fds=descriptors) as process:
             try:
                 out = b"" if most is None else _start_of(process, most, sum(map(len, files)))
                 rest, err = process.communicate()
             except BaseException:
                 process.kill()
                 raise
-    if process.returncode not in good or err.startswith(b"aig: "):
-        raise error_of(process.returncode, err.decode("utf-8", "replace"))
+        if process.returncode not in good or err.startswith(b"aig: "):
+            raise failed(words, process.returncode, err)
     return out + rest
+
+
+def failed(words: Sequence[str], status: int, said: bytes) -> Exception:
+    """The error of a run with these arguments. Its files have to be there still."""
+    explained = explanation(words, status, said, has_our_streams=False) if said else ""
+    return error_of(status, said.decode("utf-8", "replace") + explained)
 
 
 def _start_of(process: subprocess.Popen[bytes], most: int, read: int) -> bytes:

@@ -7,9 +7,9 @@ import tempfile
 from pathlib import Path
 from typing import TYPE_CHECKING, Iterable, List, NoReturn, Optional, Tuple
 
-from ._program import held, program
+from ._program import failed, held, program
 from .entries import Signal
-from .errors import EditError, error_of
+from .errors import EditError
 from .rows import Row
 from .runs import Trace
 from .values import Value, letter, value_of
@@ -39,9 +39,10 @@ class Bench:
         self._errors = tempfile.TemporaryFile()
         self._variables: Optional[int] = None
         with held(file, rows) as (paths, descriptors):
+            self._words = ["bench", *options, *paths, "/dev/stdin"]
             self._process = subprocess.Popen(
-                [program(), "bench", "--explain", *options, *paths, "/dev/stdin"], stdin=subprocess.PIPE,
-                stdout=subprocess.PIPE, stderr=self._errors, pass_fds=descriptors, bufsize=1 << 16,
+                [program(), *self._words], stdin=subprocess.PIPE, stdout=subprocess.PIPE, stderr=self._errors,
+                pass_fds=descriptors, bufsize=1 << 16,
             )
             assert self._process.stdin is not None and self._process.stdout is not None
             self._lines, self._replies = self._process.stdin, self._process.stdout
@@ -50,6 +51,8 @@ class Bench:
             except BaseException:
                 self.close()
                 raise
+        # The program has read these files, and their descriptors will be those of other ones.
+        self._words[-3:-1] = ["", ""]
 
     def __enter__(self) -> Bench:
         return self
@@ -81,7 +84,7 @@ class Bench:
         if self._errors.closed:
             raise ValueError("the bench is closed")
         self._errors.seek(0)
-        raise error_of(status, self._errors.read().decode("utf-8", "replace"))
+        raise failed(self._words, status, self._errors.read())
 
     def _ask(self, line: str) -> str:
         self._send(line + "\n")

@@ -21,6 +21,7 @@ class Certified:
 
     def __init__(self, circuit: Circuit, certificate: bytes, property: Signal):
         self.circuit, self.certificate = circuit, certificate
+        self.position = circuit.position(property)
         self._options = [f"--property={circuit.position(property)}"]
         self._named = {"--certificate": certificate}
 

@@ -8,7 +8,7 @@ class AigError(Exception):
 
     part         what it rejected: circuit, stimulus, witness, model, proof, ..
     reason       why, as in `cycle 2`
-    explanation  the cause, the place and what to do, as `aig --explain` prints it
+    explanation  the cause, the place and what to do, as `aig-explain` prints it
     """
 
     def __init__(self, part: str, reason: str, explanation: str = ""):

@@ -6,7 +6,7 @@ import os
 import shutil
 import tempfile
 from pathlib import Path
-from typing import NamedTuple, Optional, Sequence, Union
+from typing import Dict, NamedTuple, Optional, Sequence, Union
 
 from .certified import Certified
 from .circuit import Circuit
@@ -14,7 +14,9 @@ from .entries import Signal
 from .formula import Formula
 from .runs import Witness
 from .verdict import Verdict
+from .verdicts.checked import Checked, Rejected, check, sum_of
 from .verdicts.decide import Bounds, Found, Programs, Task, decide
+from .verdicts.hints import by_name, claim_of
 from .verdicts.tools import Stop, Stopped, run
 
 Solver = Union[str, Sequence[str]]
@@ -82,9 +84,8 @@ def prove(
     verdict = _verdict(circuit, found_of_it)
     if verdict.line.startswith("unreachable") and circuit.info()["constraints"]:
         alive = found(-1)
-        if alive.by == "alive":
-            found_of_it.files.update(alive.files)
-            return _verdict(circuit, found_of_it, alive.verdict)
+        if alive.checked is not None and alive.checked.by == "alive":
+            return _verdict(circuit, found_of_it, alive)
     return verdict
 
 
@@ -102,13 +103,30 @@ def certify(
     if found.proof is None:
         return Verdict("undecided", notes=["the solver found no answer within its bounds"])
     files = {"certificate": certified.certificate, "proof": found.proof}
-    return Verdict(certified.refute(found.proof), by="certificate", files=files)
+    checked = _check_of(certified, files, stop or Stop())
+    return Verdict(checked.line, by=checked.by, files=files, checked=checked)
 
 
-def _verdict(circuit: Circuit, found: Found, vacuous: str = "") -> Verdict:
-    witness = Witness(circuit, found.files["witness"]) if "witness" in found.files else None
-    frames = found.frames or None
-    return Verdict(found.verdict, found.by, frames, witness, vacuous, dict(found.files), list(found.notes))
+def _check_of(certified: Certified, files: Dict[str, bytes], stop: Stop) -> Checked:
+    """The check of a certificate and its proof."""
+    claim = claim_of(certified.position, "certificate", 0, files)
+    try:
+        return check(claim, certified.circuit.file, by_name(claim, files), stop)
+    except Rejected as rejected:
+        raise rejected.error from None
+
+
+def _verdict(circuit: Circuit, found: Found, alive: Optional[Found] = None) -> Verdict:
+    """The verdict of a search, by the checks that it made. `alive` says that no run keeps the constraints."""
+    checked, vacuous, files = found.checked, "", dict(found.files)
+    if checked is None:
+        return Verdict("undecided", notes=list(found.notes))
+    if checked.circuit != sum_of(circuit.file):
+        raise RuntimeError("the check is about another circuit")
+    if alive is not None and alive.checked is not None:
+        vacuous, files = alive.checked.line, {**files, **alive.files}
+    witness = Witness(circuit, files["witness"]) if "witness" in files else None
+    return Verdict(checked.line, checked.by, checked.frames or None, witness, vacuous, files, list(found.notes), checked)
 
 
 def _found(program: str) -> str:

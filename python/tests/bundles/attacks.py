@@ -14,9 +14,8 @@ from pathlib import Path
 from aig.verdicts import command
 from aig.verdicts.bundle import MOST_OF_MANIFEST
 from aig.verdicts.folder import Folder
-from aig.verdicts.manifest import Wrong
-from aig.verdicts.recheck import check_row
-from aig.verdicts.row import Row
+from aig.verdicts.checked import Claim, Wrong
+from aig.verdicts.recheck import check_claim
 from aig.verdicts.table import plain
 from aig.verdicts.tools import Stop
 from bundles.common import (
@@ -109,8 +108,7 @@ def sizes(_, tally, __):
     text = b"\n" * (1 << 24)
     tracemalloc.start()
     try:
-        check_row(Row(0, "assert", "a", verdict="confirmed", by="run", frames=3, files={"witness": "0.wit"}), b"",
-                  lambda _: text, Stop())
+        check_claim(Claim(0, "run", 3, (("witness", "0.wit"),)), b"", lambda _: text, Stop())
         tally.check("sizes: lines", False, "accepted")
     except Wrong:
         most = tracemalloc.get_traced_memory()[1]

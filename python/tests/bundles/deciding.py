@@ -19,10 +19,11 @@ from aig.verdicts.decide import Bounds, Found, Programs, Sent, Task, decide
 from aig.verdicts.design import Assertion, Design, properties, read_aiger, symbol
 from aig.verdicts.folder import BusyFolder, Folder, replaced, script
 from aig.verdicts.manifest import rows_as_json
-from aig.verdicts.row import Row, has_constraints, name_of
+from aig.verdicts.row import has_constraints, name_of
 from aig.verdicts.session import Session
 from aig.verdicts.tools import Stop, Stopped
 from aig.verdicts.workers import Workers
+from believed import believed
 from bundles.common import FEW, called, judged, kept, manifest_of, rows_of, tool, why_rejected, write_manifest
 
 CIRCUIT = "circuit.aig"
@@ -48,7 +49,7 @@ def right(_, tally, __):
     said = {row[2]: row[3] for row in judged(path) or []}
     tally.compare("right: without a proof that none is shorter, and one open", (said.get("two"), said.get("later")),
                   ("confirmed", "undecided"))
-    tally.compare("right: words", {it["name"]: it.get("result") for it in rows_as_json(Bundle(path).rows)[1:]
+    tally.compare("right: words", {it["name"]: it.get("result") for it in rows_as_json(recheck.recheck(path).rows)[1:]
                                    if it["kind"] in ("assert", "cover")},
                   {"a_nothing": "vacuous", "back": "reached", "later": "undecided", "never": "never reached",
                    "same": "holds", "stops": "holds", "three": "holds", "two": "fails"})
@@ -195,22 +196,22 @@ def again(_, tally, __):
 
 # The command of each way, and the line that `aig` has to print.
 COMMANDS = (
-    (Row(12, "assert", "a", verdict="confirmed", by="run", frames=7, files={"witness": "w", "shorter": "s"}),
+    (believed(12, "assert", "a", verdict="confirmed", by="run", frames=7, files={"witness": "w", "shorter": "s"}),
      [("confirmed", "check --property=12 circuit.aig w"),
       ("unreachable within 6", "refute --frames=6 --property=12 circuit.aig s")]),
-    (Row(12, "assert", "a", verdict="confirmed", by="run", frames=7, files={"witness": "w"}),
+    (believed(12, "assert", "a", verdict="confirmed", by="run", frames=7, files={"witness": "w"}),
      [("confirmed", "check --property=12 circuit.aig w")]),
-    (Row(12, "cover", "a", by="induction", frames=7, files={"base": "b", "step": "s"}),
+    (believed(12, "cover", "a", by="induction", frames=7, files={"base": "b", "step": "s"}),
      [("unreachable", "refute --frames=7 --property=12 --step s circuit.aig b")]),
-    (Row(12, "assert", "a", by="certificate", files={"certificate": "c", "proof": "p"}),
+    (believed(12, "assert", "a", by="certificate", files={"certificate": "c", "proof": "p"}),
      [("unreachable", "refute --property=12 --certificate c circuit.aig p")]),
-    (Row(12, "condition", "a", by="bound", frames=7, files={"base": "b"}),
+    (believed(12, "condition", "a", by="bound", frames=7, files={"base": "b"}),
      [("unreachable within 7", "refute --frames=7 --property=12 circuit.aig b")]),
-    (Row(-1, "constraints", "", by="kept", frames=7, files={"witness": "w"}),
+    (believed(-1, "constraints", "", by="kept", frames=7, files={"witness": "w"}),
      [("alive", "check --alive --frames=7 circuit.aig w")]),
-    (Row(-1, "constraints", "", by="alive", frames=7, files={"alive": "a"}),
+    (believed(-1, "constraints", "", by="alive", frames=7, files={"alive": "a"}),
      [("no run of 7 frames", "refute --alive --frames=7 circuit.aig a")]),
-    (Row(12, "assert", "a"), []),
+    (believed(12, "assert", "a"), []),
 )
 
 
@@ -279,7 +280,7 @@ def folder_files(_, tally, __):
         file.write(b"new")
     tally.compare("folder: a link", (Path("file").read_text(), Path("link").read_text()), ("old", "new"))
     elsewhere(tally)
-    rows = [Row(at, "assert", "a", by="bound", frames=1, files={"base": f"{at}.base.drat"}) for at in range(60)]
+    rows = [believed(at, "assert", "a", by="bound", frames=1, files={"base": f"{at}.base.drat"}) for at in range(60)]
     tally.compare("folder: the script", script(rows).count(b"\ncheck "), 60)
 
 
@@ -520,6 +521,14 @@ def rechecked(_, tally, __):
     tally.check("rechecked: rows that are open", status == 5 and "; 6 of 8 checked by aig;" in err, err)
     page = Path("page.html").read_text(encoding="utf-8")
     tally.check("rechecked: the page names the program here", "aig 0.2.0" not in page and ">aig " in page)
+    manifest = manifest_of(path)
+    manifest["notes"], manifest["versions"]["yosys"] = ["foreign"], "foreign"
+    manifest["rows"][1]["notes"] = ["foreign"]
+    write_manifest(path, manifest)
+    _, out, _ = called("recheck", path, "--json", "--page", "page.html", "--junit", "rows.xml")
+    page = Path("page.html").read_text(encoding="utf-8")
+    shown = page + out + Path("rows.xml").read_text(encoding="utf-8")
+    tally.check("rechecked: nothing of the sender but names", "foreign" not in shown and "aria-label=\"source\"" not in page, shown)
 
 
 SYMBOLS = (

@@ -5,9 +5,10 @@ from __future__ import annotations
 import xml.etree.ElementTree as tree
 from dataclasses import replace
 
-from aig.verdicts.judge import DISAGREES, Judge, checked, exit_status, judge, open_notes, summary
-from aig.verdicts.row import Row
-from aig.verdicts.table import junit, plain, text
+from aig.verdicts.checked import Wrong
+from aig.verdicts.decisions import Judge, checked, exit_status, judge, summary
+from aig.verdicts.table import junit, open_notes, plain, text
+from believed import believed
 
 # How a row was decided: the verdict, by what, the frames.
 FOUND = {
@@ -28,34 +29,44 @@ GUARDED = {"run": ("holds", 0), "proof": ("vacuous", 4), "invariant": ("vacuous"
            "open": ("holds", 4), "left": ("holds", 4)}
 
 
-def rows(kind, found, condition=None, alive="alive"):
-    constraints = Row(-1, "constraints", "", verdict=alive, by="alive" * (alive != "alive"), frames=4)
-    made = [constraints, _row(0, kind, found)]
+def rows(kind, found, condition=None, alive="alive", files=()):
+    frames = 4 if alive == "alive" else int(alive.split()[3])
+    constraints = believed(-1, "constraints", "", verdict=alive, by="alive" * (alive != "alive"), frames=frames)
+    made = [constraints, _row(0, kind, found, files)]
     if condition:
         made.append(_row(1, "condition", condition))
         made[-1].of = 0
     return made
 
 
-def _row(position, kind, found):
+def _row(position, kind, found, files=()):
     verdict, by, frames = FOUND[found]
-    return Row(position, kind, "name", "file.v", 1, 2, verdict=verdict, by=by, frames=frames)
+    return believed(position, kind, "name", "file.v", 1, 2, verdict=verdict, by=by, frames=frames, files=files)
+
+
+def status(table):
+    """The exit status of a whole table."""
+    return exit_status(table, len(table))
 
 
 def judging(_, tally, __):
     """Each kind with each way to a verdict, alone, under a condition, and under assumptions that contradict."""
     for (kind, found), wanted in ALONE.items():
         table = judge(rows(kind, found))
-        tally.compare(f"judging: {kind}, {found}", (table[0].words, exit_status(table)), wanted)
+        tally.compare(f"judging: {kind}, {found}", (table[0].words, status(table)), wanted)
         table = judge(rows(kind, found, alive="no run of 4 frames"))
         vacuous = wanted if found in ("run", "open", "left") else ("vacuous", 4)
-        tally.compare(f"judging: {kind}, {found}, contradiction", (table[0].words, exit_status(table)), vacuous)
+        tally.compare(f"judging: {kind}, {found}, contradiction", (table[0].words, status(table)), vacuous)
     for found, wanted in GUARDED.items():
         table = judge(rows("assert", "proof", found))
-        tally.compare(f"judging: under {found}", (table[0].words, exit_status(table)), wanted)
+        tally.compare(f"judging: under {found}", (table[0].words, status(table)), wanted)
         tally.compare(f"judging: doubt under {found}", bool(table[0].doubt), found in ("bound", "open", "left"))
-    tally.compare("judging: a failure under an open condition", exit_status(judge(rows("assert", "run", "open"))), 5)
-    tally.compare("judging: nothing", exit_status([]), 0)
+    tally.compare("judging: a failure under an open condition", status(judge(rows("assert", "run", "open"))), 5)
+    tally.compare("judging: nothing", (exit_status([], 0), checked([], 0)), (4, "0 of 0 checked by aig"))
+    for missing, wanted in (("proof", 4), ("run", 5)):
+        table = judge([_row(0, "assert", missing)])
+        tally.compare(f"judging: a row that has no answer beside {missing}", (exit_status(table, 2), checked(table, 2)),
+                      (wanted, "1 of 2 checked by aig"))
     notes(tally)
     together(tally)
     said_of_each(tally)
@@ -68,9 +79,8 @@ def together(tally):
                           (("proof", "open", "proof"), 4), (("proof",) * 3, 0), (("proof",) * 60 + ("run",), 5),
                           (("proof",) * 60 + ("bound",), 4)):
         made = [_row(at, "assert", how) for at, how in enumerate(found)]
-        tally.compare(f"judging: together, {found[-3:]}", exit_status(judge(made)), wanted)
+        tally.compare(f"judging: together, {found[-3:]}", status(judge(made)), wanted)
     made = rows("assert", "proof", alive="no run of 9 frames")
-    made[0].frames = 9
     it, = judge(made)
     tally.compare("judging: why it is vacuous", (it.why, it.proof),
                   ("no run keeps the assumptions for 9 frames", made[0]))
@@ -91,14 +101,14 @@ def together(tally):
         tally.compare(f"judging: doubts of their own{name}", [bool(it.doubt) for it in table], [False] * 3 + [True])
     tally.compare("judging: the sentence of these", summary(judge(made)),
                   "3 assertions: 2 hold, 1 vacuous; 1 cover: 1 reached")
-    constraints = Row(-1, "constraints", "")
+    constraints = believed(-1, "constraints", "")
     waits = Judge([constraints, *made]).waits_for(made[2])
     tally.compare("judging: what a verdict waits for", waits, [made[2], constraints, made[3]])
     for found, wanted in ((("run", "proof"), "all checked by aig"), (("run", "open"), "1 of 2 checked by aig"),
                           (("open", "open"), "0 of 2 checked by aig"), (("open",) * 60, "0 of 60 checked by aig")):
         table = judge([_row(at, "assert", how) for at, how in enumerate(found)])
-        tally.compare(f"judging: what is checked, {found[:2]}", checked(table), wanted)
-    tally.compare("judging: a vacuous row is checked", checked(judge(rows("assert", "proof", "proof"))),
+        tally.compare(f"judging: what is checked, {found[:2]}", checked(table, len(table)), wanted)
+    tally.compare("judging: a vacuous row is checked", checked(judge(rows("assert", "proof", "proof")), 1),
                   "all checked by aig")
 
 
@@ -126,8 +136,9 @@ def said_of_each(tally):
         words = [it for it in (ALONE[kind, found][0], way) if it]
         tally.compare(f"judging: the table of {kind}, {found}", text(table).rstrip("\n").split("  "),
                       ["b0", "file.v:2", kind, "name", *words])
-    vacuous, doubted = (judge(rows("assert", "proof", condition)) for condition in ("proof", "open"))
-    vacuous[0].row.notes[:], doubted[0].row.files["base"] = ["a note", "another"], "0.base.drat"
+    vacuous, doubted = judge(rows("assert", "proof", "proof")), judge(rows("assert", "proof", "open",
+                                                                         files={"base": "0.base.drat"}))
+    vacuous[0].row.notes[:] = ["a note", "another"]
     for name, table, tag, said in (
             ("vacuous", vacuous, "failure", ["induction of 2", vacuous[0].why, "a note", "another"]),
             ("doubt", doubted, "system-out", ["induction of 2", doubted[0].doubt, "0.base.drat"])):
@@ -136,8 +147,6 @@ def said_of_each(tally):
     tally.check("judging: the table of a doubt", f"  induction of 2; {doubted[0].doubt}  0.base.drat" in text(doubted))
     denied(tally)
     unfound = rows("assert", "bound", "proof")
-    unfound[1].by = ""
-    unfound[1].verdict = "unreachable"
     tally.check("judging: the table of a vacuous one", f"  vacuous  {judge(unfound)[0].why}\n" in text(judge(unfound)))
     for tag, found in (("failure", "run"), ("skipped", "bound"), ("error", "open")):
         table = judge([_row(at, "assert", found) for at in range(60)])
@@ -150,7 +159,8 @@ def said_of_each(tally):
 
 def notes(tally):
     """A note of several rows comes once with their names. Rows that are good have none to read."""
-    made = [Row(-1, "constraints", ""), *(_row(k, "assert", found) for k, found in enumerate(("open",) * 5 + ("proof",)))]
+    made = [believed(-1, "constraints", "")]
+    made += [_row(k, "assert", found) for k, found in enumerate(("open",) * 5 + ("proof",))]
     for k, row in enumerate(made[1:]):
         row.name, row.notes = f"n{k}", ["late"] + ["other"] * (k > 2)
     tally.compare("judging: notes", open_notes(judge(made)), ["n0, n1, n2 and 2 more: late", "n3, n4: other"])
@@ -159,12 +169,12 @@ def notes(tally):
 def denied(tally):
     """A row that a simulator denies has no verdict, and one whose circuit it denies is in doubt."""
     it, = judge([_row(0, "assert", "run")])
-    row_denied = replace(it, result=DISAGREES, simulated="it has another value")
+    row_denied = it.denied_by("it has another value")
     circuit_denied = replace(judge([_row(0, "assert", "proof")])[0], denied="the circuit is another")
     for name, found, words, tag, said in (
             ("a row", row_denied, "disagrees", "error", ["run of 3", "it has another value"]),
             ("a circuit", circuit_denied, "holds", "system-out", ["induction of 2", "the circuit is another"])):
-        tally.compare(f"judging: {name} is denied", (found.words, exit_status([found])), (words, 4))
+        tally.compare(f"judging: {name} is denied", (found.words, status([found])), (words, 4))
         case, = tree.fromstring(junit("d", [found], {})).iter("testcase")
         tally.compare(f"judging: {name} is denied: JUnit", [(each.tag, each.text.split("\n")) for each in case],
                       [(tag, said)])
@@ -173,12 +183,12 @@ def denied(tally):
 
 def texts(tally):
     """Names that would be orders to a terminal, or parts of XML, are text."""
-    made = [Row(-1, "constraints", ""), *(_row(k, kind, found) for k, (kind, found) in enumerate(ALONE))]
+    made = [believed(-1, "constraints", ""), *(_row(k, kind, found) for k, (kind, found) in enumerate(ALONE))]
     table = judge(made)
     tally.compare("judging: the sentence", summary(table),
                   "6 assertions: 1 fail, 2 hold, 1 hold for the frames searched, 1 undecided, 1 left out; "
                   "6 covers: 1 reached, 2 never reached, 1 not reached within the bound, 1 undecided, 1 left out")
-    tally.compare("judging: checked", [checked(table), checked(table[:4])],
+    tally.compare("judging: checked", [checked(table, 12), checked(table[:4], 4)],
                   ["8 of 12 checked by aig", "all checked by aig"])
     suite = tree.fromstring(junit("d", table, {0: 1.5})).find("testsuite")
     tally.compare("judging: JUnit", [suite.get(it) for it in ("tests", "failures", "errors", "skipped")],

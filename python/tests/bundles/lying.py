@@ -4,10 +4,10 @@ from __future__ import annotations
 
 from pathlib import Path
 
+from aig.verdicts.checked import Claim, Wrong, sum_of
 from aig.verdicts.decide import Bounds, Programs, Task, decide
-from aig.verdicts.manifest import Wrong
-from aig.verdicts.recheck import check_row
-from aig.verdicts.row import Row, name_of
+from aig.verdicts.recheck import check_claim
+from aig.verdicts.row import name_of
 from aig.verdicts.tools import Stop
 from bundles.common import FEW, SMALL_SOLVER, tool
 from bundles.many import circuit, position
@@ -74,14 +74,15 @@ def found_by(text, at, frames, solver, abc=None):
 
 def why_wrong(text, found):
     """What `aig` says against what was found."""
-    row = Row(found.position, "constraints" if found.position < 0 else "assert", "name", verdict=found.verdict,
-              by=found.by, frames=found.frames)
-    files = {name_of(row.position, role): data for role, data in found.files.items()}
-    row.files = {role: name_of(row.position, role) for role in found.files}
+    files = {name_of(found.position, role): data for role, data in found.files.items()}
+    named = tuple((role, name_of(found.position, role)) for role in found.files)
+    claim = Claim(found.position, found.by, found.frames, named)
     if not found.by:
         return "" if found.verdict == "undecided" else f"nothing shows {found.verdict}"
     try:
-        check_row(row, text, files.__getitem__, Stop())
+        checked = check_claim(claim, text, files.__getitem__, Stop())
     except Wrong as error:
         return str(error)
-    return "" if [line for line, _ in row.commands()][0] == found.verdict else "another line"
+    if found.checked is None or not found.checked.is_about(claim, sum_of(text), found.files):
+        return "its check is about something else"
+    return "" if checked.line == found.verdict else "another line"

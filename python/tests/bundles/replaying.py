@@ -2,8 +2,9 @@
 
 from __future__ import annotations
 
-from aig.verdicts.replay.adapted import Adapted, NotReplayed
+from aig.verdicts.replay.adapted import Adapted
 from aig.verdicts.replay.lines import Lines, numbered
+from aig.verdicts.replay.words import NotReplayed
 
 BEGIN, VALUE = 'begin $display("aig begin 0 0 %m"); ', '$display("aig value 0 %b %m", !(!'
 KEPT = {
@@ -12,8 +13,13 @@ KEPT = {
     "of a module": ("assert property (x);", f"always @* {VALUE}(x)));"),
     "an item": ("always @* case (s) A: assert (x); endcase", f"always @* {BEGIN}case (s) A: {VALUE}(x))); endcase end"),
     "in a comment": ("// assert (x);\n/* assert */ wire w; // assert", "// assert (x);\n/* assert */ wire w; // assert"),
-    "in a text": ('initial $display("assert (x)"); assume property (y);',
-                  f'initial $display("assert (x)"); always @* {VALUE}(y)));'),
+    "in a text": ('localparam t = "assert (x)"; assume property (y);',
+                  f'localparam t = "assert (x)"; always @* {VALUE}(y)));'),
+    "what prints": ('initial begin $display("a %b", (x)); if (y) $finish; else $fatal(1); end $error("W");',
+                    'initial begin ; if (y) ; else ; end $error("W");'),
+    "a time that is printed": ('always @* $display("%t", $time, "`x");', "always @* ;"),
+    "what prints in a function": ("function f(input x); begin $write(x, $past(x)); f = x; end endfunction",
+                                  "function f(input x); begin ; f = x; end endfunction"),
     "two lines": ("always @* assert (x &&\n  y);", f"always @* {BEGIN}{VALUE}(x &&\n  y))); end"),
     "a free value": ("wire [3:0] w = $anyseq; assert property (w);", f"wire [3:0] w ; always @* {VALUE}(w)));"),
     "a named block": ("always @* begin : b assert (x); end", f"always @* {BEGIN}begin : b {VALUE}(x))); end end"),
@@ -25,6 +31,15 @@ REFUSED = {
     "a property": "property p; x; endproperty assert property (p);",
     "a clock of its own": "assert property (@(posedge c) x);",
     "a free value in an expression": "always @* assert (w == $anyseq);",
+    "a file": 'initial f = $fopen("x");',
+    "a program": 'initial $system("x");',
+    "a time": "always @* assert ($time < 3);",
+    "data from elsewhere": 'initial $readmemh("../x.hex", mem);',
+    "data with a line": 'initial $readmemh("x\\naig own", mem);',
+    "a directive": "`include \"x\"\nwire w;",
+    "a place": "wire w; `line 3 \"x\" 0\n",
+    "the testbench": "always @* assert (aig_tb.dut.x);",
+    "the testbench with a backslash": "always @* assert (\\aig_tb .dut.x);",
 }
 TWO_STEPS = "module m(input c, input [2:0] v); always @(posedge c) if ($past(v, 2) == v) assert ($rose(v[0])); endmodule"
 NUMBERED = "module m(input a,\n  input b);\n`define X(y) y \\\n  + 1\n/* a\n b */ wire w;\nendmodule"

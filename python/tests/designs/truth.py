@@ -124,6 +124,8 @@ DESIGNS = [
     Known(["past.v"], "early=2 moves=holds unguarded=2 twice=3 twice_later=holds stable=3 rise=3"),
     Known(["ranges.v"], "both_ends=2 same=holds bit_6=holds copied=2 shifted=4 first=3", top="ranges"),
     Known(["unsigned_address.v"], "all_same=holds of_2=holds stays=2 minus=2 other_word=2 shift=holds only_1=2 in_range=2"),
+    Known(["pads.v"], "low=holds up=holds product=holds inverted=holds open=2 later=3"),
+    Known(["old_names.v"], "same=holds low=2"),
     Known(["missing_bit.v"], "gone=holds below=holds not_11=4 odd=holds all=4"),
     Known(["loop_variables.v"], "few=holds odd=holds not_4=2 later=3 even=2", by="iverilog"),
     Known(["tasks.v"], "ordered=holds same=holds sums=holds at_most_2=holds no_overflow=4 equal=2 not_9=3", by="iverilog"),

@@ -28,6 +28,11 @@ def notebooks(_, tally, __):
                   ["unreachable: induction of 3Vacuous: no run of 3 frames keeps the constraints.",
                    "undecided<script>"])
     tally.check("a confirmed one has its picture", any(it.tag.endswith("svg") for it in shown[0].iter()))
+    picture = tree.fromstring(witness.svg())
+    box, = (it for it in picture.findall(".//{*}rect") if it.get("class") == "edge")
+    left, right = float(box.get("x")), float(box.get("x")) + float(box.get("width"))
+    inside = [it.text for it in picture.findall(".//{*}text[@class='n']") if left < float(it.get("x")) < right]
+    tally.compare("the frame that reaches it is marked", inside, ["3"])
     printer = Printer()
     witness._repr_pretty_(printer, False)
     tally.compare("as text", printer.said, f"{witness!r}\n{witness.text.decode()}")

@@ -1,10 +1,10 @@
 """Bundles that no tool made: each kind of row, and hostile text wherever a text may stand."""
 
 import aig
-from aig.verdicts.judge import judge
+from aig.verdicts.decisions import judge
 from aig.verdicts.page import Page
-from aig.verdicts.row import Row
 from aig.verdicts.simulated import of_facts
+from believed import believed
 
 HOSTILE = [
     "<script>window.owned=1;alert(1)</script>", "\"' onload=window.owned=1 x='", "]]>", "<!--", "-->", "&amp;&lt;",
@@ -47,12 +47,10 @@ class Bundle:
     def add(self, kind, name, by="", **files):
         """A row that was found by something."""
         at = len(self.rows)
-        row = Row(at, kind, name, "a.v", at % len(HOSTILE) + 1, at % len(HOSTILE) + 1, by=by, frames=len(HOSTILE) + 1)
-        row.verdict = {"run": "confirmed", "": "undecided", "bound": "unreachable within 3"}.get(by, "unreachable")
-        for role, data in files.items():
-            row.files[role] = f"{at}.{role}"
-            self.files[row.files[role]] = data
-        row.notes = [name]
+        line = at % len(HOSTILE) + 1
+        row = believed(at, kind, name, "a.v", line, line, by=by, frames=len(HOSTILE) + 1, notes=[name],
+                       files={role: f"{at}.{role}" for role in files})
+        self.files.update({f"{at}.{role}": data for role, data in files.items()})
         self.rows.append(row)
         return row
 

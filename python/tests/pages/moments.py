@@ -1,11 +1,11 @@
 """When a run violates its assertion: at the cycle whose edge samples the values, which is not always the last frame."""
 
 from aig.verdicts.cycles import cycles_of
-from aig.verdicts.judge import judge
+from aig.verdicts.decisions import judge
 from aig.verdicts.page import Page
-from aig.verdicts.row import Row
 from aig.verdicts.runs import comes_back
 from aig.verdicts.table import junit, text
+from believed import believed
 
 # The names of an input and of three latches, what the property reads (its own literals, and those of a gate), and the
 # moment of a run of five frames. Latch 1 is 4, 2 is 6, 3 is 8; gate 10 is 4 & 6, gate 12 is 10 & 8.
@@ -32,7 +32,8 @@ def circuit(an_input, latches, bad):
 
 
 def run_of(frames, kind="assert"):
-    return Row(0, kind, "name", "a.v", 1, 1, verdict="confirmed", by="run", frames=frames, files={"witness": "0.wit"})
+    return believed(0, kind, "name", "a.v", 1, 1, verdict="confirmed", by="run", frames=frames,
+                    files={"witness": "0.wit"})
 
 
 def moments(_, tally, __):
@@ -50,8 +51,8 @@ def moments(_, tally, __):
 
 
 def tables(tally):
-    rows = [run_of(5), Row(0, "assert", "other", verdict="unreachable", by="induction", frames=2)]
-    rows[1].files = {"base": "0.base.drat", "step": "0.step.drat"}
+    rows = [run_of(5), believed(0, "assert", "other", verdict="unreachable", by="induction", frames=2,
+                                files={"base": "0.base.drat", "step": "0.step.drat"})]
     for bad, wanted in ((10, "run of 5, at cycle 3"), (8, "run of 5, at cycle 4"), (12, "run of 5  ")):
         table = judge(rows, cycles_of(circuit("a", ("value_6", "when_6", "n"), bad)).at)
         said = text(table).splitlines()

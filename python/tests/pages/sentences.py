@@ -6,9 +6,9 @@ import re
 from dataclasses import replace
 
 from aig.verdicts.cycles import cycles_of
-from aig.verdicts.judge import DISAGREES, judge
+from aig.verdicts.decisions import judge
 from aig.verdicts.page import Page
-from aig.verdicts.row import Row
+from believed import believed
 
 LATCHES = 30
 # A certificate of two claims over one latch, without a gate.
@@ -42,11 +42,9 @@ class Bundle:
     def add(self, kind, by="", frames=0, notes=(), of=None, **files):
         at = len(self.rows)
         verdict = {"run": "confirmed", "": "undecided", "bound": f"unreachable within {frames}"}.get(by, "unreachable")
-        row = Row(at, kind, f"n{at}", "b.v" if at % 2 else "a.v", 2 * at + 1, 2 * at + 2, of, verdict, by, frames,
-                  notes=list(notes))
-        for role, data in files.items():
-            row.files[role] = f"{at}.{role}"
-            self.files[row.files[role]] = data
+        row = believed(at, kind, f"n{at}", "b.v" if at % 2 else "a.v", 2 * at + 1, 2 * at + 2, of, verdict, by, frames,
+                       {role: f"{at}.{role}" for role in files}, notes)
+        self.files.update({f"{at}.{role}": data for role, data in files.items()})
         self.rows.append(row)
         return row
 
@@ -81,7 +79,7 @@ def each_kind(constraints=1):
     for _ in range(5):
         made.add("assert", "induction", 1, base=proof, step=step)
     made.add("assert", "run", 1, witness=run_of(19, 1))
-    kept = Row(-1, "constraints", "", verdict="alive", by="kept", frames=3, files={"witness": "alive.wit"})
+    kept = believed(-1, "constraints", "", verdict="alive", by="kept", frames=3, files={"witness": "alive.wit"})
     made.files["alive.wit"] = b"1\nb0\n" + b"0" * LATCHES + b"\n0\n0\n0\n.\n"
     made.rows.insert(0, kept)
     return made
@@ -231,7 +229,7 @@ def denied(tally):
     """What a simulator denies is no verdict, and a circuit that it denies is in doubt."""
     made = each_kind()
     table = judge(made.rows, cycles_of(made.files["circuit.aig"]).at)
-    table[0] = replace(table[0], result=DISAGREES, simulated="at 30 the simulator has another value")
+    table[0] = table[0].denied_by("at 30 the simulator has another value")
     table[3] = replace(table[3], denied="the circuit is not as in a simulator")
     page = Page(made.manifest, made.rows, table, made.files.__getitem__, {}).html()
     sections = sections_of(page)
@@ -248,7 +246,7 @@ def others(tally):
     denied(tally)
     made = each_kind()
     made.manifest["versions"]["aig"] = "aig 9 (built by somebody, not proved)"
-    made.add("assert").verdict = "left out"
+    made.add("assert").is_left_out = True
     page = made.page()
     tally.check("sentences: a program without proofs", "Checked by a program that is not proved." in shown(page)
                 and "Checked by a verified program." not in shown(page))
@@ -264,7 +262,7 @@ def others(tally):
             made.add(kind, ways[at % len(ways)], 1, base=b"", step=b"")
         page = made.page()
         tally.compare(f"sentences: {count} rows", (page.count("<section id="), page.count("<tr><td>")), (count, count))
-    many = [Row(at, "assert", f"n{at}", "a.v", 1, 2, verdict="confirmed", by="run", frames=1,
+    many = [believed(at, "assert", f"n{at}", "a.v", 1, 2, verdict="confirmed", by="run", frames=1,
                 files={"witness": f"{at}.wit"}) for at in range(4)]
     made = Bundle()
     made.rows, made.files = many, {**made.files, **{f"{at}.wit": run_of(at, 1) for at in range(4)}}

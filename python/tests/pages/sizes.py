@@ -4,10 +4,10 @@ import re
 
 import aig
 from aig.verdicts import sections
-from aig.verdicts.judge import judge
+from aig.verdicts.decisions import judge
 from aig.verdicts.page import Page
-from aig.verdicts.row import Row
 from aig.verdicts.svg import Lane, waveform
+from believed import believed
 from pages.tags import read
 
 NO_ROOM = "The page has no more room for pictures"
@@ -20,7 +20,7 @@ def page_of(circuit, rows, files):
 
 
 def of_run(position, frames):
-    return Row(position, "assert", f"n{position}", "a.v", 1, 10**5, verdict="confirmed", by="run", frames=frames,
+    return believed(position, "assert", f"n{position}", "a.v", 1, 10**5, verdict="confirmed", by="run", frames=frames,
                files={"witness": f"{position}.wit"})
 
 
@@ -53,7 +53,7 @@ def sizes(_, tally, __):
     wide = waveform([Lane("wide", ["01" * 10_000, "10" * 10_000] * 20)], 40, 39)
     tally.check("sizes: a vector", len(wide) < 100_000, len(wide))
     many = 1000
-    rows = [Row(at, "assert", f"n{at}", "a.v", 1, 10**5, verdict="unreachable within 1", by="bound", frames=1,
+    rows = [believed(at, "assert", f"n{at}", "a.v", 1, 10**5, verdict="unreachable within 1", by="bound", frames=1,
                 files={"base": f"{at}.base.drat"}) for at in range(many)]
     files = {f"{at}.base.drat": b"0\n" for at in range(many)}
     text = "\n".join(["aag 1 1 0 0 0 %d" % many, "2", *["2"] * many, ""]).encode()

@@ -7,7 +7,7 @@ import resource
 import time
 import xml.etree.ElementTree as tree
 
-from aig.verdicts.judge import DISAGREES
+from aig.verdicts.decisions import DISAGREES
 from aig.verdicts.page import GROUPS
 from aig.verdicts.style import STYLE
 from aig.verdicts.svg import STYLE as WAVE, Lane, hexadecimal, visible, waveform

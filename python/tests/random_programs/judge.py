@@ -118,7 +118,7 @@ def judged(program: Program, folder: Path) -> Judgement:
         if icarus.outcome is not Outcome.AGREES:
             return icarus
         (folder / FILE).write_text(with_assertions(program, icarus.reason))
-        words = ["run", FILE, "--top", TOP, "--out", "out", "--jobs", "1", "--abc", "", "--no-conditions"]
+        words = ["run", FILE, "--top", TOP, "--out", "out", "--jobs", "1", "--abc", "", "--no-conditions", "--no-simulator"]
         words = [sys.executable, "-m", "aig.verdicts", *words, "--frames", str(program.cycles + 2)]
         done = _called(words, folder, PROCESSOR_SECONDS)
     except TooLong as error:

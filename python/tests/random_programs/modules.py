@@ -2,6 +2,7 @@
 
 from __future__ import annotations
 
+import re
 from dataclasses import dataclass, field, replace
 from random import Random
 from typing import Dict, List, Optional, Sequence, Tuple
@@ -13,6 +14,9 @@ from .tree import Kind, Tree, body, expression, item, joined, statement, text
 
 # The file of a memory, and the words that it has, each of four bits.
 WORDS, WORDS_OF_FILE = "words.hex", (0, 1, 3, 4, 6)
+# At a wider port Icarus Verilog 11 extends the result of a signed function with zeros, and `s[5:0]`, if that is all of a
+# signed variable, with its sign. Verilator and Yosys do neither, as the standard has it.
+_WRONG_AT_PORT = re.compile(r"f\d+\(.*\)|\\?[\w.]+\S* ?\[[^\[\]]*\]")
 
 
 @dataclass(eq=False)
@@ -322,6 +326,10 @@ class Modules:
             value = self.expressions.value(inside.scope(), random.choice([0, 0, 1, 2]), most)
             if str(value.tree).startswith("$signed(") and random.random() < 0.95:  # Yosys ends with an error
                 value = self.expressions.value(inside.scope(), 0, most)
+            if value.width < port.width and random.random() < 0.95:  # of an operator this is rejected
+                value = self.expressions.value(inside.scope(), 0, most)
+            if value.width < port.width and _WRONG_AT_PORT.fullmatch(str(value.tree)):
+                value = self.expressions.literal(most)
             ports.append((port.name, value.tree))
         made = []
         for port in module.outputs:

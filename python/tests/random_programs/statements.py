@@ -2,6 +2,7 @@
 
 from __future__ import annotations
 
+import re
 from dataclasses import replace
 from typing import List, Sequence, Tuple
 
@@ -11,6 +12,7 @@ from .tree import Tree, body, expression, item, joined, statement, text
 
 # How often a part with a variable index that is written goes downward: it is rejected if it may end below bit 0.
 DOWNWARD = 0.01
+_AT_INDEX = re.compile(r"\[[^\]]*[A-Za-z]")
 
 
 class Statements:
@@ -48,7 +50,10 @@ class Statements:
 
     def assigned(self, scope: Scope, written: Tree, width: int, blocks: bool) -> Tree:
         most = max(width, self.random.choice([4, 8, 10, 12, 32, 32, 40]))
-        value = self.expressions.value(scope, self.random.choice([0, 1, 1, 2, 2, 3]), most)
+        # at a variable index it is seldom a narrow one with a sign, or a shift of a sum: they are rejected
+        is_alone = _AT_INDEX.search(str(written)) and self.random.random() < 0.93
+        form = self.expressions.concatenation if is_alone else self.expressions.value
+        value = form(scope, most=most, depth=self.random.choice([0, 1, 1, 2, 2, 3]))
         if scope.result and str(written) == scope.result and self.random.random() < 0.5:
             return statement(written, " = ", written, self.random.choice([" + ", " ^ ", " - "]), value.tree, ";")
         return statement(written, " = " if blocks else " <= ", value.tree, ";")

@@ -19,6 +19,6 @@ returns g c =
       ends =
           parsed c.in_ok-matches.matches
           (value_of c.parsed.result c.in_ok-matches.matches _ c.in_ok-matches.ensures c.parsed.ensures.words)
-          (subst (RunsAsMeant g.R.File.Read.remaining c.in_ok-matches.matches) (sym c.reported-done.ensures)
+          (subst (RunsAsMeant g.R.File.Read.remaining c.in_ok-matches.matches) (sym c.reported-2.ensures)
           c.run_command.ensures.ends);
     }

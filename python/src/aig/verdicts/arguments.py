@@ -164,6 +164,8 @@ def _recheck(recheck: argparse.ArgumentParser) -> None:
     recheck.add_argument("--simulate", action="store_true",
                          help="play the runs, and random ones, in Icarus Verilog, which reads the sources itself")
     recheck.add_argument("--simulator", default="iverilog", metavar="PROGRAM", help="Icarus Verilog (iverilog)")
+    recheck.add_argument("--seed", type=_whole(1, 2**31 - 1), metavar="N",
+                         help="play the random runs of this seed again (default: others each time)")
     recheck.add_argument("--megabytes", type=_whole(1, 2**31 - 1), default=1024, metavar="N",
                          help="the largest file that is read (1024)")
     recheck.add_argument("--page", type=Path, metavar="FILE", help="write the page of what was checked")

@@ -2,7 +2,6 @@
 
 from __future__ import annotations
 
-import hashlib
 import io
 import os
 import stat
@@ -11,8 +10,9 @@ from contextlib import ExitStack
 from pathlib import Path
 from typing import Any, Dict, List, Optional, Union
 
-from .manifest import MANIFEST, PLAIN, Wrong, check_results, expect, files_of, parsed, row_of
-from .row import CIRCUIT, Row
+from .checked import CIRCUIT, Wrong, expect, sum_of
+from .manifest import MANIFEST, PLAIN, files_of, parsed, row_of
+from .row import Row
 
 MOST_BYTES = 1 << 30
 # Of all files of a .zip together, once they are unpacked.
@@ -27,10 +27,6 @@ _ENCRYPTED = 1
 _PACKED = (zipfile.ZIP_STORED, zipfile.ZIP_DEFLATED)
 
 __all__ = ["Bundle", "PlainFolder", "Row", "Wrong", "sum_of"]
-
-
-def sum_of(data: bytes) -> str:
-    return hashlib.sha256(data).hexdigest()
 
 
 class PlainFolder:
@@ -116,14 +112,13 @@ class _Zip:
 
 
 class Bundle:
-    """A folder or a .zip with its manifest and its rows. Nothing is checked yet but their form."""
+    """A folder or a .zip with its manifest and its rows. Only their form is checked yet, and no row has a verdict."""
 
     def __init__(self, path: Path, most_bytes: int = MOST_BYTES):
         self._files: Union[PlainFolder, _Zip] = _Zip(path) if path.is_file() else PlainFolder(path)
         self._most = most_bytes
         self.manifest: Dict[str, Any] = parsed(self._read(MANIFEST, min(most_bytes, MOST_OF_MANIFEST)))
         self.rows: List[Row] = [row_of(value) for value in self.manifest["rows"]]
-        check_results(self.manifest, self.rows)
         names = files_of(self.manifest, self.rows)
         expect(len(set(names)) == len(names), "a file belongs to two rows")
         expect(set(names) == set(self.sums), "the sums are not those of the files of the rows, each once")

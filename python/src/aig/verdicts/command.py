@@ -6,6 +6,7 @@ import argparse
 import contextlib
 import fnmatch
 import io
+import secrets
 import signal
 import sys
 from dataclasses import replace
@@ -15,35 +16,39 @@ from typing import Any, Callable, Collection, Dict, List, Optional, Sequence, Se
 from .._program import program
 from ..errors import AigError
 from .arguments import CIRCUITS, parser, with_verb
-from .bundle import Bundle, Wrong
+from .audited import audited, options_of
+from .bundle import Bundle
+from .checked import CIRCUIT, Wrong
 from .cycles import cycles_of
 from .decide import Bounds, Programs
+from .decisions import (
+    INTERRUPTED, NOT_COMPARED, REJECTED, SAME_CIRCUIT, UNREADABLE, Judged, asked, compared, exit_status, judge,
+    line_of_recheck, line_of_run,
+)
 from .demo import written
 from .design import Design, read_aiger
 from .folder import PAGE, pack, write_whole
-from .judge import DISAGREES, Judged, checked, exit_status, judge, open_notes, summary
 from .made import made
 from .manifest import as_json, rows_as_json
 from .page import Page
 from .progress import Progress
 from .recheck import is_kept, is_older, recheck, same_design, same_sources
 from .replay.command import replay
-from .replay.run import simulated
-from .row import CIRCUIT, Row
+from .replay.run import Bounds as PlayBounds, simulated
+from .row import Row
 from .runs import comes_back
 from .sections import Pictures
 from .session import STOPPED, Session
 from .simulated import Simulated, of_facts
 from .solvers import writes_hints
-from .table import junit, plain, text
+from .table import junit, open_notes, plain, text
 from .tools import Clock, Stop, Stopped, ToolFailed, missing, version
 from .workers import Dask
 
-REJECTED, WRONG_ARGUMENTS, UNREADABLE, INTERRUPTED = 1, 2, 3, 130
+# The seeds of random runs are 1 to this.
+MOST_SEEDS = 2**31 - 1
 # So many notes on rows are printed.
 MOST_NOTES = 12
-# What `recheck` says of the sources.
-SAME_CIRCUIT, NOT_COMPARED = "Yosys makes the same circuit of the sources", "Not compared with the sources"
 _SIGNALS = (signal.SIGINT, signal.SIGTERM)
 
 
@@ -178,7 +183,8 @@ def _simulate(words: argparse.Namespace, session: Session, seconds: float) -> No
         rows = [row for row in session.rows if session.only is None or row.position in session.only]
         try:
             bundle = Bundle(session.folder.path)
-            session.simulated = simulated(bundle, rows, words.simulator, seconds, words.jobs, session.stop)
+            bounds = PlayBounds(seconds, words.jobs)
+            session.simulated = simulated(bundle, rows, words.simulator, bounds, session.stop)
         except ToolFailed as error:
             session.simulated = Simulated(circuit=f"Not compared with a simulator: {error}")
         session.write(True)
@@ -210,8 +216,9 @@ def _results(words: argparse.Namespace, session: Session, is_complete: bool, sai
         if not is_complete:
             _said("stopped; the same command goes on")
         page = plain(str(session.folder.path / PAGE))
-        print(f"{plain(summary(table))}{_not_simulated(session)}: {page}", file=sys.stderr)
-    return exit_status(table) if is_complete else INTERRUPTED
+        said_last = line_of_run(table, bool(session.design.sources), session.simulated)
+        print(f"{plain(said_last)}: {page}", file=sys.stderr)
+    return exit_status(table, session.asked) if is_complete else INTERRUPTED
 
 
 def demo(_: argparse.Namespace, stop: Stop) -> int:
@@ -219,10 +226,6 @@ def demo(_: argparse.Namespace, stop: Stop) -> int:
     path = written(Path())
     _said(f"{path} is the design; this is `aig-verdicts run {path}`")
     return run(parser().parse_args(["run", str(path)]), stop)
-
-
-def _not_simulated(session: Session) -> str:
-    return "; not compared with a simulator" if session.design.sources and not session.simulated.by else ""
 
 
 def again(words: argparse.Namespace, stop: Stop) -> int:
@@ -237,41 +240,36 @@ def again(words: argparse.Namespace, stop: Stop) -> int:
         same_sources(bundle, words.sources, words.include)
     if words.yosys:
         same_design(bundle, stop)
-    said = Simulated()
-    if words.simulate:
-        said = simulated(bundle, bundle.rows, words.simulator, 0.0, words.jobs, stop)
-    table = _table(bundle.rows, bundle.circuit(), said)
-    if words.page:  # the checks are those of the `aig` here, whatever the bundle says
-        versions = {**bundle.manifest["versions"], "aig": version(program(), stop)}
-        shown = said if said.by else Simulated(circuit=SAME_CIRCUIT if words.yosys else NOT_COMPARED)
-        manifest = {**bundle.manifest, "versions": versions, "simulated": shown.facts()}
-        _page(words.page, manifest, bundle.rows, bundle.summed, {}, False)
+    said = _simulated_again(words, bundle, stop)
+    on_page = said if said.by else Simulated(circuit=SAME_CIRCUIT if words.yosys else NOT_COMPARED)
+    shown = audited(bundle, version(program(), stop), on_page, bool(words.sources))
+    table = _table(shown.rows, bundle.circuit(), said)
+    if words.page:
+        _page(words.page, shown.manifest, shown.rows, shown.read, {}, False)
     if words.junit:
         write_whole(words.junit, junit(bundle.manifest["name"], table, {}).encode("utf-8", "replace"))
     if words.json:
-        sys.stdout.write(as_json({**bundle.manifest, "rows": rows_as_json(bundle.rows)}).decode())
+        sys.stdout.write(as_json({**shown.manifest, "rows": rows_as_json(shown.rows)}).decode())
     sys.stdout.flush()
+    if bundle.manifest["sources"] and (words.sources or words.yosys or words.simulate):
+        _said(options_of(bundle))
     if is_older(bundle) and not is_kept(bundle.rows[0], bundle.circuit(), stop):
         _said("that some run keeps the assumptions is a solver's word, as the bundle is of an older version")
     if not words.quiet:
         _say_of_assumptions(bundle.rows[0], bundle.circuit(), bundle.summed)
     if not said.agrees:
         _said(said.circuit)
-    own = "; the sources are your files" if words.sources else ""
-    print(f"{plain(summary(table))}; {checked(table)}{_compared(words.yosys, bundle, said)}{own}", file=sys.stderr)
-    return exit_status(table)
+    of_sources, count = compared(bool(bundle.manifest["sources"]), words.yosys, said), asked(bundle.manifest)
+    print(plain(line_of_recheck(table, count, of_sources, bool(words.sources))), file=sys.stderr)
+    return exit_status(table, count)
 
 
-def _compared(has_yosys: bool, bundle: Bundle, said: Simulated) -> str:
-    """What the last line of `recheck` says of the sources."""
-    if not bundle.manifest["sources"]:
-        return ""
-    yosys = f", and {SAME_CIRCUIT}" if has_yosys else ""
-    if not said.by:
-        return yosys or f"; {NOT_COMPARED[0].lower()}{NOT_COMPARED[1:]}"
-    if not said.agrees or DISAGREES in (it.word for it in said.rows.values()):
-        return f"{yosys}; ALARM: {said.by} disagrees, so the circuit may not be that of the sources"
-    return f"{yosys}; {said.circuit}, which is no proof"
+def _simulated_again(words: argparse.Namespace, bundle: Bundle, stop: Stop) -> Simulated:
+    """What a simulator says of the sources in a bundle. Who made it does not know which random runs are played."""
+    if not words.simulate:
+        return Simulated()
+    seed = words.seed or secrets.randbelow(MOST_SEEDS) + 1
+    return simulated(bundle, bundle.rows, words.simulator, PlayBounds(0.0, words.jobs, seed), stop)
 
 
 def _ended(call: Callable[[argparse.Namespace, Stop], int], words: argparse.Namespace, stop: Stop) -> int:

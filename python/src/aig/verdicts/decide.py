@@ -13,6 +13,8 @@ from pathlib import Path
 from typing import Dict, Iterator, List, Optional
 
 from ..errors import AigError
+from .checked import Checked, Claim, Wrong
+from .hints import claim_of
 from .row import UNDECIDED
 from .tools import Clock, Stop, Stopped, ToolFailed
 
@@ -103,6 +105,7 @@ class Found:
 
     verdict  the line that `aig` printed, or `undecided`, or `alive`
     by       what it was found by: a key of WAYS
+    checked  its check, which stays in the process that made it: what comes from another one is checked again
     frames   of the run, the induction or the bound
     files    what shows it, by role
     notes    what went wrong on the way: a crash, a bound that ended a question
@@ -117,6 +120,21 @@ class Found:
     notes: List[str] = field(default_factory=list)
     seconds: float = 0.0
     stopped: bool = False
+    checked: Optional[Checked] = None
+
+    def __getstate__(self) -> Dict[str, object]:
+        return {**vars(self), "checked": None}
+
+    @property
+    def claim(self) -> Claim:
+        return claim_of(self.position, self.by, self.frames, self.files)
+
+    def check_about(self, circuit: str) -> Optional[Checked]:
+        """Its check, if that is about what was found and the circuit of this sum, by content."""
+        if self.checked is None or self.checked.is_about(self.claim, circuit, self.files):
+            return self.checked
+        self.notes.append("worker: its check is about something else")
+        return None
 
 
 def decide(task: Task, stop: Optional[Stop] = None) -> Found:
@@ -146,7 +164,7 @@ def noted(found: Found) -> Iterator[None]:
         yield
     except Stopped:
         found.stopped = True
-    except (AigError, ToolFailed, OSError, zlib.error, MemoryError) as error:
+    except (AigError, ToolFailed, Wrong, OSError, zlib.error, MemoryError) as error:
         note = f"{type(error).__name__}: {(str(error).splitlines() or [''])[0]}"
         if note not in found.notes:
             found.notes.append(note)

@@ -196,8 +196,8 @@ class _Made:
     def __init__(self, folder: Path, read: Sources, top: Optional[str], defines: Sequence[str], conditions: bool, wires: bool,
                  program: str, seconds: float, stop: Stop, free: Sequence[str]):
         runs = yosys.Yosys(folder, program, seconds, stop)
-        first = yosys.reading([f"sources/{name}" for name in read.read], top, defines)
-        blocks = [AS_BLOCKS] * runs.read(first)
+        first, has_blocks = runs.read_any([f"sources/{name}" for name in read.read], top, defines)
+        blocks = [AS_BLOCKS] * has_blocks
         findings.look_at_sources(runs)
         said = runs.prepare(free)
         resets = yosys.resetting()
@@ -213,10 +213,11 @@ class _Made:
         self.top = yosys.top_of(modules)
         one_clock = yosys.one_clock(flat)
         self.timing = timing(flat, one_clock)
+        directed = runs.direct(flat)
         second = yosys.making(one_clock, conditions, wires)
         runs.make(second, flat[yosys.top_of(modules)])
         self.notes = said + findings.notes(runs, modules, flat, one_clock)
-        self.script = "\n".join([*blocks, *first, yosys.PREPARED, *resets, yosys.SETTLED, *flatten, *second,
+        self.script = "\n".join([*blocks, *first, yosys.PREPARED, *resets, yosys.SETTLED, *flatten, *directed, *second,
                                  yosys.NAMED, ""])
         order = runs.cells_in("order")
         self._rows(found, order, yosys.checks(modules, self.top))

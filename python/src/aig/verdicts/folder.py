@@ -144,9 +144,11 @@ def script(rows: Iterable[Row]) -> bytes:
     """The checks of `recheck` for a shell, without Python: `sh recheck.sh`."""
     lines: List[str] = []
     for row in rows:
-        if row.by == "run":
-            lines.append(f"of {row.files['witness']} {row.label} {row.frames + 4}")
-        lines += [f"check {shlex.quote(line)} {' '.join(map(shlex.quote, words))}" for line, words in row.commands()]
+        claim = row.checked.claim if row.checked is not None else row.claim
+        if claim is not None and claim.by == "run":
+            lines.append(f"of {claim.files['witness']} {claim.label} {claim.frames + 4}")
+        commands = claim.commands() if claim is not None else []
+        lines += [f"check {shlex.quote(line)} {' '.join(map(shlex.quote, words))}" for line, words in commands]
     return (_SCRIPT + "\n".join([*lines, "exit $wrong"]) + "\n").encode()
 
 

@@ -1,14 +1,12 @@
-"""Proofs with hints (LRAT): how a proof shows that it has them, and hints for the proofs of a row that is known."""
+"""Proofs with hints (LRAT): how a proof shows that it has them, and the name that its file has then."""
 
 from __future__ import annotations
 
 import re
-from typing import TYPE_CHECKING, Dict, Mapping
+from typing import Callable, Mapping
 
-from .row import Row, parts_of
-
-if TYPE_CHECKING:
-    from .questions import Questions
+from .checked import Claim
+from .row import name_of
 
 # The bytes of a proof that show its form.
 LOOK = 32768
@@ -24,14 +22,12 @@ def has_hints(proof: bytes) -> bool:
     return False
 
 
-def hinted(row: Row, files: Mapping[str, bytes], ask: Questions) -> Dict[str, bytes]:
-    """The proofs of a row that have no hints yet and can get them, with hints, by their roles. `files` has the files of
-    the row by their names."""
-    for _, words in row.commands():
-        if words[0] == "refute":
-            options, named, last = parts_of(words)
-            others = {option: files[name] for option, name in named.items() if option != "--step"}
-            proofs = {role: files[name] for role, name in row.files.items() if name in (last, named.get("--step"))}
-            found = ask.hinted(*options, proofs=proofs, named=others)
-            return {role: proof for role, proof in found[1].items() if proof != proofs[role]} if found else {}
-    return {}
+def claim_of(position: int, by: str, frames: int, files: Mapping[str, bytes]) -> Claim:
+    """The claim that these files, which are there by their roles, show a verdict."""
+    named = tuple((role, name_of(position, role, has_hints(data))) for role, data in files.items())
+    return Claim(position, by, frames, named)
+
+
+def by_name(claim: Claim, files: Mapping[str, bytes]) -> Callable[[str], bytes]:
+    """The bytes of the files of a claim by their names, where they are known by their roles."""
+    return {name: files[role] for role, name in claim.named}.__getitem__

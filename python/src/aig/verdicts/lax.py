@@ -51,13 +51,14 @@ OPERANDS: Dict[str, Tuple[int, ...]] = {
     **dict.fromkeys(("BIT_NOT", "NEG", "POS", "SHIFT_LEFT", "SHIFT_SLEFT", "SHIFT_RIGHT", "SHIFT_SRIGHT", "POW"), (0,)),
 }
 _UNSIGNED = re.compile("TO_UNSIGNED|CONCAT|REPLICATE|REDUCE_.*|LOGIC_.*|LT|LE|EQ|NE|EQX|NEX|GE|GT")
-_DECLARATIONS = ("WIRE", "MEMORY", "PARAMETER", "LOCALPARAM")
+_PARAMETERS = ("PARAMETER", "LOCALPARAM")
+_DECLARATIONS = ("WIRE", "MEMORY", *_PARAMETERS)
 
 
 def _sign_of_declaration(node: Node) -> Optional[bool]:
     """Whether a declaration is signed: nobody knows that of a named type, or of a parameter without a range."""
     kinds = [part.kind for part in node.parts]
-    is_open = "WIRETYPE" in kinds or node.kind.endswith("PARAM") and "RANGE" not in kinds
+    is_open = "WIRETYPE" in kinds or node.kind in _PARAMETERS and "RANGE" not in kinds
     return True if node.is_signed else None if is_open else False
 
 

@@ -4,11 +4,15 @@ from __future__ import annotations
 
 import json
 import re
-from typing import Any, Callable, Dict, List, Tuple
+from dataclasses import dataclass, field
+from typing import Any, Callable, Dict, List, Optional, Tuple
 
 from . import simulated, timing
-from .judge import results
-from .row import ALIVE, CIRCUIT, CONSTRAINTS, KINDS, LEFT_OUT, MOST_FRAMES, UNDECIDED, WAYS, Row, name_of
+from .checked import ALIVE, CIRCUIT, CONSTRAINTS, WAYS, Claim, Command, Wrong, expect
+from .decisions import judge
+from .row import KINDS, LEFT_OUT, MOST_FRAMES, UNDECIDED, Row, name_of
+
+__all__ = ["Wrong", "expect"]
 
 MANIFEST = "MANIFEST.json"
 SCRIPT_OF_YOSYS = "yosys.ys"
@@ -19,15 +23,6 @@ OLDER = "aig-verdicts 1"
 PLAIN = re.compile(r"[A-Za-z0-9_+-][A-Za-z0-9._+-]*(/[A-Za-z0-9_+-][A-Za-z0-9._+-]*)?")
 MOST_LINES = 1 << 31
 MOST_DIGITS = 15
-
-
-class Wrong(Exception):
-    """The bundle is not what it says."""
-
-
-def expect(condition: bool, what: str) -> None:
-    if not condition:
-        raise Wrong(what)
 
 
 # -- writing
@@ -42,13 +37,26 @@ def rows_as_json(rows: List[Row]) -> List[Dict[str, Any]]:
     words = results(rows)
     made = []
     for row in rows:
-        kept = {key: value for key, value in vars(row).items() if value not in ("", None, [], {})}
+        kept = {key: value for key, value in _parts_of(row).items() if value not in ("", None, [], {})}
         kept = {key: value for key, value in kept.items() if value != 0 or key in ("position", "of")}
         kept["commands"] = [{"prints": line, "words": ["aig", *command]} for line, command in row.commands()]
         if row.position in words:
             kept["result"] = words[row.position]
         made.append(kept)
     return made
+
+
+def results(rows: List[Row]) -> Dict[int, str]:
+    """The words of each assertion and cover, by position."""
+    return {it.row.position: it.words for it in judge(rows)}
+
+
+def _parts_of(row: Row) -> Dict[str, Any]:
+    """What is written of a row. That there are no constraints is what it claims, as nothing has to show it."""
+    parts = {name: getattr(row, name) for name in _TYPES}
+    if row.checked is None and row.claim is not None and row.claim.by == "":
+        parts.update(verdict=ALIVE, frames=row.claim.frames)
+    return parts
 
 
 # -- reading
@@ -133,11 +141,45 @@ _TYPES = {
 }
 
 
+@dataclass
+class Said:
+    """A row as MANIFEST.json has it. Nothing of it is believed."""
+
+    position: int = -2
+    kind: str = ""
+    name: str = ""
+    file: str = ""
+    first: int = 0
+    last: int = 0
+    of: Optional[int] = None
+    verdict: str = UNDECIDED
+    by: str = ""
+    frames: int = 0
+    files: Dict[str, str] = field(default_factory=dict)
+    notes: List[str] = field(default_factory=list)
+
+    @property
+    def label(self) -> str:
+        return self.kind if self.position == CONSTRAINTS else f"b{self.position}"
+
+    def claim(self) -> Claim:
+        return Claim(self.position, self.by, self.frames, tuple(self.files.items()))
+
+    def commands(self) -> List[Command]:
+        return self.claim().commands()
+
+    def row(self) -> Row:
+        """The row, which has no verdict before its claim is checked."""
+        claim = self.claim() if self.by or self.verdict == ALIVE else None
+        return Row(self.position, self.kind, self.name, self.file, self.first, self.last, self.of,
+                   self.verdict == LEFT_OUT, claim, self.notes)
+
+
 def row_of(value: Any) -> Row:
     """The row, if each part of it has its type and each file its one possible name."""
     expect(type(value) is dict, "a row is no object")
     expect(set(value) <= set(_TYPES) | {"commands", "result"}, "a row has an unknown part")
-    row = Row(position=-2, kind="", name="")
+    row = Said()
     for key, kind in _TYPES.items():
         if key in value:
             expect(type(value[key]) is kind, f"{key} of a row is no {kind.__name__}")
@@ -148,10 +190,10 @@ def row_of(value: Any) -> Row:
     _numbers(row)
     _files(row)
     _verdict(row)
-    return row
+    return row.row()
 
 
-def _numbers(row: Row) -> None:
+def _numbers(row: Said) -> None:
     expect(0 <= row.first <= row.last <= MOST_LINES, f"place of {row.label}")
     expect(row.file != "" or row.last == 0, f"place of {row.label}")
     least = 0 if row.by in ("", "certificate") else 1
@@ -160,7 +202,7 @@ def _numbers(row: Row) -> None:
     expect((row.of is not None) == (row.kind == "condition"), f"{row.label} is of no row")
 
 
-def _files(row: Row) -> None:
+def _files(row: Said) -> None:
     shown = WAYS[row.by]
     expect(set(shown.needed) <= set(row.files) <= {*shown.needed, *shown.possible}, f"files of {row.label}")
     for role, name in row.files.items():
@@ -169,7 +211,7 @@ def _files(row: Row) -> None:
     expect("shorter" not in row.files or row.frames > 1, f"files of {row.label}")
 
 
-def _verdict(row: Row) -> None:
+def _verdict(row: Said) -> None:
     lines = [line for line, _ in row.commands()]
     if row.kind == "constraints":
         expect(row.by in ("", "alive", "kept") and not row.name, f"kind of {row.label}")
@@ -180,7 +222,7 @@ def _verdict(row: Row) -> None:
 
 
 def check_results(manifest: Dict[str, Any], rows: List[Row]) -> None:
-    """That the words of the table in the manifest are those of its rows."""
+    """That the words of the table in the manifest are those of its rows, which are checked."""
     words = results(rows)
     for value, row in zip(manifest["rows"], rows):
         expect(value.get("result") == words.get(row.position), f"result of {row.label}")
@@ -188,6 +230,6 @@ def check_results(manifest: Dict[str, Any], rows: List[Row]) -> None:
 
 def files_of(manifest: Dict[str, Any], rows: List[Row]) -> List[str]:
     """The files that a bundle has to have, in a fixed order."""
-    named = [name for row in rows for name in row.files.values()]
+    named = [name for row in rows if row.claim is not None for name in row.claim.files.values()]
     sources = [f"sources/{name}" for name in manifest["sources"]]
     return [CIRCUIT, *named, *sources, *[SCRIPT_OF_YOSYS] * bool(sources)]

@@ -5,13 +5,12 @@ from __future__ import annotations
 
 from typing import Callable, Collection, Dict, Iterator, List, NamedTuple, Optional, Sequence, Set, Tuple
 
-from .lax import OPERANDS, addresses, ranges
+from . import evaluated, loops, named_types, written
+from .contexts import grows
+from .lax import addresses, ranges
 from .scope import CALLS, EDGES, UNSIZED, Scope, declared, targets
 from .tree import Node, modules, nodes
 
-_WILD_ITEMS = ("CONDZ", "CONDX")
-_GROWING = ("ADD", "SUB", "MUL", "POW", "NEG", "BIT_NOT", "BIT_XNOR", "SHIFT_LEFT", "SHIFT_SLEFT")
-_OF_SIGN = ("SHIFT_RIGHT", "SHIFT_SRIGHT", "DIV", "MOD", "POW")
 _FILES = ("$readmemh", "$readmemb")
 
 
@@ -27,98 +26,6 @@ def late_before_blocking(scope: Scope) -> Iterator[str]:
                     late.add(write.name)
                 elif write.name in late:
                     yield write.place
-
-
-def changed_counters(scope: Scope) -> Iterator[str]:
-    """Loops whose body changes the variable that they count with."""
-    for loop in scope.module.all():
-        if loop.kind == "FOR":
-            counter, body = loop.parts[0].parts[0].name, loop.parts[3]
-            if counter not in declared(body) and any(write.name == counter for write in scope.writes(body)):
-                yield loop.line
-
-
-def _index_above(part: Node) -> Optional[Node]:
-    """The index of a part `[i -: n]`, which the tree has as one from i + 0 to i + 1 - n."""
-    lowest = part.parts[-1]
-    if lowest.kind == "SUB" and lowest.parts[0].kind == "ADD" and lowest.parts[0].parts[0].kind == "SELFSZ":
-        return lowest.parts[0].parts[0]
-    return None
-
-
-def parts_below(scope: Scope) -> Iterator[str]:
-    """Writes of a part whose lowest bit may be below 0, at an index without sign: `q[i -: 2] <= a` for i = 0."""
-    for to, part, is_word in scope.part_writes(scope.module):
-        index = _index_above(part)
-        if index and not scope.is_constant(part) and (is_word or not scope.signs.of(index.parts[0])):
-            size, least = scope.value(part.parts[-1].parts[1]), scope.bounds(index)[0]
-            if size is None or least is None or least < size - 1:
-                yield to.line
-
-
-def parts_of_words(scope: Scope) -> Iterator[str]:
-    """Writes of parts of a memory's words, at a signed index, or at one that may be below the word's lowest bit."""
-    for to, part, is_word in scope.part_writes(scope.module):
-        if is_word and not scope.is_constant(part):
-            least, lowest = scope.bounds(part.parts[-1])[0], scope.lowest_bit(scope.declarations[to.name])
-            if least is None or lowest is None or least < lowest:
-                yield to.line
-
-
-def _width_of_part(scope: Scope, part: Node) -> Optional[int]:
-    """The width of a part: `[i]`, `[5:2]`, `[i +: n]` or `[i -: n]`."""
-    if len(part.parts) == 1 or scope.is_constant(part):
-        return scope.width(part)
-    if _index_above(part):
-        return scope.value(part.parts[-1].parts[1])
-    above = part.parts[0]  # i + n - 1
-    return scope.value(above.parts[0].parts[1]) if above.kind == "SUB" and above.parts[0].kind == "ADD" else None
-
-
-def _has_sign(scope: Scope, value: Node, width: int) -> bool:
-    """Whether the low bits of a signed value depend on the sign of what is in it."""
-    if value.kind in _OF_SIGN or value.kind not in OPERANDS:
-        return value.kind in _OF_SIGN or scope.own_width(value) < width
-    return any(_has_sign(scope, value.parts[k], width) for k in OPERANDS[value.kind])
-
-
-def narrow_parts(scope: Scope) -> Iterator[str]:
-    """Values that are narrower than the part that they are written to. Yosys makes signed ones wider with zeros at a
-    variable index, and in a memory's word. There it also computes expressions in their own width."""
-    for node in scope.module.all():
-        if node.kind in ("ASSIGN_EQ", "ASSIGN_LE") and node.parts[0].kind == "IDENTIFIER":
-            value = node.parts[1]
-            is_signed = scope.signs.of(value) is not False
-            for to, part, is_word in scope.part_writes(node):
-                width = _width_of_part(scope, part) or 0
-                if is_word:
-                    is_lost = scope.own_width(value) < width and (is_signed or value.kind in OPERANDS)
-                else:
-                    is_lost = is_signed and not scope.is_constant(part) and _has_sign(scope, value, width)
-                if is_lost:
-                    yield to.line
-
-
-def latched_parts(scope: Scope) -> Iterator[str]:
-    """Parts of latches that have a lowest bit but 0, or count their bits upwards, or are written in part below it."""
-    for block in scope.module.all():
-        if block.kind == "ALWAYS" and not any(it.kind in EDGES for it in block.parts):
-            whole = {to.name for top in block.parts for part in top.parts for it in [part, *part.parts]
-                     if it.kind in ("ASSIGN_EQ", "ASSIGN_LE") for to in targets(it.parts[0]) if not to.parts}
-            for to, part, is_word in scope.part_writes(block):
-                declaration = scope.declarations[to.name]
-                is_odd = scope.lowest_bit(declaration) != 0 or scope.is_ascending(declaration)
-                least = scope.bounds(part.parts[-1])[0]
-                is_below = len(part.parts) > 1 and (least is None or least < 0)
-                if not is_word and to.name not in whole and not scope.is_constant(part) and (is_odd or is_below):
-                    yield to.line
-
-
-def ascending_words(scope: Scope) -> Iterator[str]:
-    """Writes of parts of words of a memory such as `reg [0:7] m [0:3]`."""
-    for to, _, is_word in scope.part_writes(scope.module):
-        if is_word and scope.is_ascending(scope.declarations[to.name]):
-            yield to.line
 
 
 def filled_before(scope: Scope) -> Iterator[str]:
@@ -185,33 +92,6 @@ def narrow_items(scope: Scope) -> Iterator[str]:
             yield from (it.line for it in items if scope.is_narrow(it, width))
 
 
-def _is_wild(item: Node) -> bool:
-    return item.kind in _WILD_ITEMS and any(set(it.bits) & set("?xz") for it in item.parts)
-
-
-def constant_wildcards(scope: Scope) -> Iterator[str]:
-    """Calls with constants of functions that have a `casez` or `casex`: Yosys compares each ? as if it were a value."""
-    wild = {name for name, function in scope.subroutines.items() if any(_is_wild(it) for it in function.all())}
-    for call in scope.module.all() if wild else ():
-        if call.kind == "FCALL" and scope.reached(call) & wild and all(scope.is_constant(it) for it in call.parts):
-            yield call.line
-
-
-def packed_types(scope: Scope) -> Iterator[str]:
-    """Packed arrays of a named type, as `byte_t [1:0] a`."""
-    for node in scope.module.all():
-        if node.kind == "WIRE" and {"WIRETYPE", "RANGE"} <= {it.kind for it in node.parts}:
-            yield node.line
-
-
-def negative_enums(scope: Scope) -> Iterator[str]:
-    """Enums with a negative value and no type of their own: they are signed, and those of Yosys are not."""
-    for item in scope.module.all():
-        value = scope.value(item.parts[0]) if item.kind == "ENUM_ITEM" else None
-        if value is not None and value < 0 and not item.is_signed:
-            yield item.line
-
-
 def given_parameters(each: Sequence[Scope]) -> Iterator[Tuple[Scope, Node, Node]]:
     """The values that instances give to parameters, each with the scope of the instance and the declaration."""
     declared = {scope.module.name: [it for it in scope.module.parts if it.kind == "PARAMETER"] for scope in each}
@@ -231,11 +111,6 @@ def narrow_parameters(each: Sequence[Scope]) -> Iterator[str]:
             yield value.line
 
 
-def _grows(node: Node) -> bool:
-    """Whether the high bits of an expression depend on the width that it is computed in."""
-    return node.kind in _GROWING or node.kind in OPERANDS and any(_grows(node.parts[k]) for k in OPERANDS[node.kind])
-
-
 def _connections(each: Sequence[Scope]) -> Iterator[Tuple[Scope, Node, Optional[int]]]:
     """What instances connect to ports, each with the scope of the instance and the width of the port."""
     widths = {scope.module.name: [(it.name, scope.width_of_declaration(it)) for it in scope.module.parts
@@ -252,7 +127,8 @@ def narrow_connections(each: Sequence[Scope]) -> Iterator[str]:
     """Expressions at an input port that is wider than they are. Yosys computes them in their own width: the carry of
     `a + b` is lost."""
     for scope, value, width in _connections(each):
-        if width is not None and _grows(value) and scope.own_width(value) < width and not scope.fits(value):
+        is_narrow = width is not None and scope.own_width(value) < width
+        if is_narrow and grows(value, scope.signs.of(value)) and not scope.fits(value):
             yield value.line
 
 
@@ -261,7 +137,7 @@ def untyped_parameters(each: Sequence[Scope]) -> Iterator[str]:
     Yosys."""
     for scope in each:
         own = (it for it in scope.module.all() if it.kind in ("PARAMETER", "LOCALPARAM") and it.is_signed and it.parts)
-        yield from (it.line for it in own if not ranges(it) and scope.signs.of(it.parts[0]) is False)
+        yield from (it.line for it in own if not ranges(it) and scope.sign_of_constant(it.parts[0]) is False)
     for scope, value, parameter in given_parameters(each):
         if parameter.is_signed and not ranges(parameter) and scope.signs.of(value) is not True:
             yield value.line
@@ -348,31 +224,64 @@ _REJECTED = (
     Rule(late_before_blocking,
          "a block writes a variable with <= and then with =. The value of <= counts in the end, and Yosys takes the "
          "last one: use one of the two for each variable"),
-    Rule(changed_counters,
+    Rule(loops.changed_counters,
          "the body of a loop changes the variable of the loop, and Yosys leaves that out: count with another variable"),
-    Rule(parts_below,
+    Rule(loops.odd_counters,
+         "the width or the sign of a loop's variable matters here, and Yosys takes those of its first value and step: "
+         "declare it as `integer`, or give it a value and a step of its width"),
+    Rule(written.below,
          "a part `[i -: n]` may begin below bit 0, and Yosys then writes none of it: use an index that is signed, or "
          "never below n - 1"),
-    Rule(parts_of_words,
+    Rule(written.of_words,
          "the index of a part of a memory's word is signed, or may be below the word, and Yosys then writes other "
          "bits: read the word, change it, and write it whole"),
-    Rule(ascending_words,
+    Rule(written.of_ascending_words,
          "a part of a memory's word is written that counts its bits upwards, as `[0:7]`, and Yosys writes other bits:"
          " declare the words as `[7:0]`"),
-    Rule(narrow_parts,
-         "a value is narrower than the part that it is written to, and Yosys does not extend it as the standard does: "
-         "write a value of the width of the part, as with a `wire`"),
-    Rule(latched_parts,
+    Rule(written.narrow,
+         "a value is narrower than the part that it is written to, or a shift or a division in it needs a width, and "
+         "Yosys computes it in another one than the standard: give the value a `wire` of its width"),
+    Rule(written.of_latches,
          "a latch is written in part, and Yosys then writes other bits: declare it as `[n:0]`, and write it below an "
          "index without sign"),
+    Rule(written.in_braces,
+         "braces are written with a part at a variable index, and Yosys writes something else: write that part alone"),
+    Rule(written.also_in_braces,
+         "braces are written with <= that have a variable of which the block also writes a part at a variable index, and "
+         "Yosys stops there: write that variable alone"),
+    Rule(evaluated.endless,
+         "a function calls itself, and gets no constant: Yosys would unfold it without end"),
     Rule(filled_before,
          "a file is read into a memory after its words got values, and Yosys keeps these: read the file first"),
-    Rule(constant_wildcards,
+    Rule(evaluated.wildcards,
          "a function with a `casez` or `casex` gets constants, and Yosys compares its wildcards as if they were "
          "values: write it with `if`"),
-    Rule(packed_types,
+    Rule(evaluated.signed_parts,
+         "a function that gets constants takes a bit or a part of a signed variable, and Yosys takes it for a signed "
+         "value: write it in braces, as `{v[0]}`"),
+    Rule(evaluated.ascending_parts,
+         "a function that gets constants reads or writes a part of a variable that counts its bits upwards, as `reg "
+         "[0:7] v`, and Yosys takes other bits: declare it as `reg [7:0] v`"),
+    Rule(evaluated.uneven_cases,
+         "a function that gets constants has a `case` whose selector and items have several widths, and Yosys compares "
+         "each item alone: give them one width and sign"),
+    Rule(evaluated.narrow_calls,
+         "a function that gets constants gives another one an expression that is narrower than its input, and Yosys "
+         "leaves out the width of the input: give the expression a variable of its width"),
+    Rule(evaluated.read_first,
+         "a variable or the result of a function that gets constants is read before it is written: it keeps its value "
+         "from one call to the next, and Yosys makes it x: write it first"),
+    Rule(named_types.packed,
          "a packed array of a named type, and Yosys takes single bits of it: write the range after the name"),
-    Rule(negative_enums,
+    Rule(named_types.arrays_of_structs,
+         "an array of a struct or a union, and Yosys takes its elements for bits: declare it as an array of vectors"),
+    Rule(named_types.odd_members,
+         "a part of a member of a struct that does not end with bit 0, or counts its bits upwards, and Yosys takes other "
+         "bits: declare the member as `[n:0]`"),
+    Rule(named_types.signed_enums,
+         "an `enum` without a type is signed, and Yosys takes it for one without sign, where that matters: write `enum "
+         "logic [n:0]`"),
+    Rule(named_types.negative_enums,
          "an `enum` without a type has a negative value, and Yosys reads it as one without sign: write `enum logic "
          "signed [n:0]`"),
     Rule(negative_addresses,
@@ -426,6 +335,11 @@ class SourceTree:
 def own_warnings(lines: Sequence[str]) -> Set[str]:
     """The places where the source itself warns, by `$warning`."""
     return {node.line for node in nodes(lines) if node.kind == "TECALL" and node.name == "$warning"}
+
+
+def first_misread(lines: Sequence[str]) -> Optional[Tuple[List[str], str]]:
+    """What Yosys may have stopped at, in any module of a tree."""
+    return next(SourceTree(lines, {it.name for it in modules(nodes(lines))}).misread(), None)
 
 
 def used_modules(design: str) -> Set[str]:

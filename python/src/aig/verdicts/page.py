@@ -6,11 +6,11 @@ from typing import Any, Callable, Dict, List, Optional, Sequence
 
 import aig
 
-from .judge import DISAGREES, MARK, Judged, summary
+from .decisions import DISAGREES, MEANINGS, Judged, summary
 from .row import Row
 from .runs import comes_back
 from .simulated import of_facts
-from .sections import KIND, Pictures, Sections, Sources, anchor, counted, place, size, verdict
+from .sections import Pictures, Sections, Sources, anchor, counted, place, size, verdict
 from .style import STYLE
 from .svg import STYLE as WAVE, escape
 
@@ -86,7 +86,8 @@ class Page:
         counts: Dict[str, int] = {}
         for it in self.table:
             counts[it.result] = counts.get(it.result, 0) + 1
-        chips = (f'<li class="{KIND[key]}"><a href="#{key}"><b>{MARK[key]} {counts[key]}</b>{title.lower()}</a></li>'
+        chips = (f'<li class="{MEANINGS[key].look}"><a href="#{key}"><b>{MEANINGS[key].mark} {counts[key]}</b>'
+                 f'{title.lower()}</a></li>'
                  for key, title, _ in GROUPS if key in counts)
         return f'<ul class="sum">{"".join(chips)}</ul>'
 

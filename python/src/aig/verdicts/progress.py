@@ -6,7 +6,7 @@ import os
 import sys
 from typing import Callable, List, Optional, Sequence, Set
 
-from .judge import Judge, Judged
+from .decisions import Judge, Judged
 from .row import Row
 from .table import cells, plain
 from .tools import Clock

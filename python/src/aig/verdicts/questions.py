@@ -9,8 +9,9 @@ from typing import Dict, List, Mapping, NamedTuple, Optional, Sequence, Tuple
 
 from ..errors import AigError
 from . import solvers
+from .checked import Checked, Claim, Rejected, check, parts_of
 from .decide import Bounds, Programs
-from .hints import has_hints
+from .hints import by_name, claim_of, has_hints
 from .tools import Clock, Ran, Stop, ToolFailed, ask, run
 
 # All questions of a property together get so many times the seconds of one.
@@ -28,11 +29,11 @@ class Answer(NamedTuple):
     proof: Optional[bytes] = None
 
 
-class Refuted(NamedTuple):
-    """The line that `aig refute` printed, and the proofs that it took, by their roles."""
+class Confirmed(NamedTuple):
+    """A claim that `aig` confirmed, and its files by their roles."""
 
-    line: str
-    proofs: Dict[str, bytes]
+    checked: Checked
+    files: Dict[str, bytes]
 
 
 class Questions:
@@ -55,34 +56,43 @@ class Questions:
             good: Sequence[int] = (0,)) -> bytes:
         return ask(self.stop, command, *options, files=files, named=named, good=good)
 
-    def refute(self, *options: str, proofs: Dict[str, bytes], named: Mapping[str, bytes] = {}) -> Refuted:
-        """The line about proofs, which are there by their roles. They get hints if there is a program for that."""
-        found = self.hinted(*options, proofs=proofs, named=named)
-        return found if found is not None else self.plain(*options, proofs=proofs, named=named)
+    def confirm(self, claim: Claim, files: Dict[str, bytes]) -> Confirmed:
+        """What `aig` confirms of a claim, whose files are there by their roles. Its proofs get hints if there is a
+        program for that. An error says what `aig` rejects."""
+        found = self.hinted(claim, files)
+        return found if found is not None else self.plain(claim, files)
 
-    def plain(self, *options: str, proofs: Dict[str, bytes], named: Mapping[str, bytes] = {}) -> Refuted:
+    def plain(self, claim: Claim, files: Dict[str, bytes]) -> Confirmed:
         """The same with the proofs as they are."""
-        return Refuted(self._line(options, proofs, named), proofs)
+        try:
+            return Confirmed(check(claim, self.circuit, by_name(claim, files), self.stop), files)
+        except Rejected as rejected:
+            raise rejected.error from None
 
-    def hinted(self, *options: str, proofs: Dict[str, bytes], named: Mapping[str, bytes] = {}) -> Optional[Refuted]:
+    def hinted(self, claim: Claim, files: Dict[str, bytes]) -> Optional[Confirmed]:
         """The same with hints, if some of the proofs get them and `aig` takes them."""
         program = self._programs.drat2lrat
         if program is None:
             return None
-        made = {role: self._with_hints(program, role, proof, options, named) for role, proof in proofs.items()}
-        if made == proofs:
+        made = {**files, **self._proofs_with_hints(program, claim, files)}
+        if made == files:
             return None
         try:
-            return Refuted(self._line(options, made, named), made)
+            return self.plain(claim_of(claim.position, claim.by, claim.frames, made), made)
         except AigError as error:
             self.note(f"{Path(program).name} wrote hints that are wrong: {error.part}: {error.reason}")
             return None
 
-    def _line(self, options: Sequence[str], proofs: Mapping[str, bytes], named: Mapping[str, bytes]) -> str:
-        last = next(proof for role, proof in proofs.items() if role != "step")
-        if "step" in proofs:
-            named = {**named, "--step": proofs["step"]}
-        return self.aig("refute", *options, files=[self.circuit, last], named=named).decode().strip()
+    def _proofs_with_hints(self, program: str, claim: Claim, files: Mapping[str, bytes]) -> Dict[str, bytes]:
+        """The proofs of a claim with hints, by their roles."""
+        made, roles = {}, {name: role for role, name in claim.named}
+        for options, named, last in (parts_of(words) for _, words in claim.commands() if words[0] == "refute"):
+            others = {option: files[roles[name]] for option, name in named.items() if option != "--step"}
+            for name in (last, named.get("--step")):
+                if name is not None:
+                    role = roles[name]
+                    made[role] = self._with_hints(program, role, files[role], options, others)
+        return made
 
     def _with_hints(self, program: str, role: str, proof: bytes, options: Sequence[str],
                     named: Mapping[str, bytes]) -> bytes:

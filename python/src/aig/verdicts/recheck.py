@@ -7,16 +7,17 @@ import os
 import tempfile
 from concurrent.futures import ThreadPoolExecutor
 from pathlib import Path
-from typing import Callable, List, Sequence
+from typing import Callable, List, Optional, Sequence
 
 from .._program import program
 from ..entries import listed, readable
 from ..errors import AigError
-from .bundle import MOST_BYTES, Bundle, Wrong
+from .bundle import MOST_BYTES, Bundle
+from .checked import CIRCUIT, CONSTRAINTS, Checked, Claim, Wrong, check, expect, sum_of
 from .design import Design, properties, symbol
 from .made import made
-from .manifest import OLDER, SCRIPT_OF_YOSYS, expect
-from .row import ALIVE, CIRCUIT, CONSTRAINTS, Row, has_constraints, parts_of
+from .manifest import OLDER, SCRIPT_OF_YOSYS, check_results
+from .row import Row, has_constraints
 from .sources import Sources, places
 from .tools import Stop, ToolFailed, ask, version
 from .versions import yosys_of
@@ -26,31 +27,19 @@ Read = Callable[[str], bytes]
 _COMPARED = {"i": "inputs", "o": "outputs", "b": "properties", "c": "constraints", "l": "registers"}
 
 
-def check_row(row: Row, circuit: bytes, read: Read, stop: Stop) -> None:
-    """Has `aig` answer each command of the row, and compares."""
-    if row.by == "run":
-        text = read(row.files["witness"])
-        expect(text.split(b"\n", 2)[1:2] == [b"b%d" % row.position],
-               f"the witness of {row.label} is for another property")
-        expect(text.count(b"\n") - 4 == row.frames, f"the witness of {row.label} has another number of frames")
-    for line, words in row.commands():
-        said = _said(row, words, circuit, read, stop)
-        expect(said == line, f"{row.label}: aig {words[0]} prints {said!r}, and not {line!r}")
+def check_row(row: Row, circuit: bytes, read: Read, stop: Stop) -> Optional[Checked]:
+    """The check of what a row claims; none if it claims nothing that needs files. A Wrong says what is wrong."""
+    if row.claim is None or row.claim.by == "":
+        return None
+    return check_claim(row.claim, circuit, read, stop)
 
 
-def _said(row: Row, words: List[str], circuit: bytes, read: Read, stop: Stop) -> str:
-    """What `aig` prints for a command whose files are in the bundle."""
-    command, *_, name, _ = words
-    expect(name == CIRCUIT, f"{row.label} is about another circuit")
-    options, files, last = parts_of(words)
-    named = {option: read(file) for option, file in files.items()}
+def check_claim(claim: Claim, circuit: bytes, read: Read, stop: Stop) -> Checked:
+    """The check of a claim. A Wrong says what is wrong, also where `aig` ends without an answer."""
     try:
-        said = ask(stop, command, *options, files=[circuit, read(last)], named=named, good=(0, 1))
-    except AigError as error:
-        raise Wrong(f"{row.label}: aig {command}: {error.part}: {error.reason}") from None
+        return check(claim, circuit, read, stop)
     except RuntimeError as error:
-        raise Wrong(f"{row.label}: {error}") from None
-    return said.decode("ascii", "replace").strip()
+        raise Wrong(f"{claim.label}: {error}") from None
 
 
 def _properties(circuit: bytes, stop: Stop) -> List[str]:
@@ -80,14 +69,15 @@ def is_older(bundle: Bundle) -> bool:
 
 def is_kept(row: Row, circuit: bytes, stop: Stop) -> bool:
     """Whether a row that says that some run keeps the assumptions has one, or there are none."""
-    return row.verdict != ALIVE or row.by != "" or not has_constraints(ask(stop, "info", files=[circuit]))
+    is_shown = row.claim is None or row.claim.by != ""
+    return is_shown or not has_constraints(ask(stop, "info", files=[circuit]))
 
 
 def _of_another_version(row: Row, bundle: Bundle, stop: Stop) -> str:
     """Why a row may be wrong now that was right once: a proof is one about a formula, and each version of `aig` may make
     another formula."""
     old, new = (said.split(" (")[0] for said in (bundle.manifest["versions"].get("aig", "aig"), version(program(), stop)))
-    if set(row.files) <= {"witness"} or old == new:
+    if row.claim is None or set(row.claim.files) <= {"witness"} or old == new:
         return ""
     return f"; the bundle says that {old} made it, and the formulas of {new} may be others: `aig-verdicts run` it again"
 
@@ -100,7 +90,7 @@ def recheck(path: Path, sums: bool = True, say: Callable[[Row], None] = lambda _
     check_names(bundle.rows, _properties(circuit, stop), bool(bundle.manifest["options"]))
     if not is_older(bundle):
         expect(is_kept(bundle.rows[0], circuit, stop), "no run shows that the assumptions can be kept")
-    read = bundle.summed if sums else bundle.read
+    read, known = bundle.summed if sums else bundle.read, sum_of(circuit)
     for name in bundle.sums:
         if name.startswith("sources/") or name == SCRIPT_OF_YOSYS:
             read(name)
@@ -109,7 +99,7 @@ def recheck(path: Path, sums: bool = True, say: Callable[[Row], None] = lambda _
         try:
             for row, check in zip(bundle.rows, checks):
                 try:
-                    check.result()
+                    _take(row, check.result(), known)
                 except Wrong as error:
                     raise Wrong(f"{error}{_of_another_version(row, bundle, stop)}") from None
                 if row.by:
@@ -117,7 +107,17 @@ def recheck(path: Path, sums: bool = True, say: Callable[[Row], None] = lambda _
         finally:
             for check in checks:
                 check.cancel()
+    check_results(bundle.manifest, bundle.rows)
     return bundle
+
+
+def _take(row: Row, checked: Optional[Checked], circuit: str) -> None:
+    """Gives a row the verdict that it claims, if it claims one."""
+    claims = row.claim is not None and row.claim.by != ""
+    expect(claims == (checked is not None), f"{row.label} was not checked")
+    if checked is not None:
+        expect(checked.claim == row.claim, f"{row.label} has another claim")
+        row.take(checked, circuit)
 
 
 def same_sources(bundle: Bundle, files: Sequence[Path], include: Sequence[Path]) -> None:
@@ -125,6 +125,7 @@ def same_sources(bundle: Bundle, files: Sequence[Path], include: Sequence[Path])
     mine, names = Sources(files, include).texts, bundle.manifest["sources"]
     expect(set(names) <= set(mine), f"{places(sorted(set(names) - set(mine)))}: none of your files")
     expect(set(mine) <= set(names), f"{places(sorted(set(mine) - set(names)))}: not in the bundle")
+    expect(list(mine) == names, "the bundle has your files in another order, in which their macros may differ")
     other = [name for name in names if mine[name] != bundle.summed(f"sources/{name}")]
     expect(not other, f"{places(other)}: the bundle has another text than your file")
 

@@ -5,6 +5,7 @@ from __future__ import annotations
 import re
 from typing import Callable, Dict, Iterator, List, NamedTuple, Optional, Sequence, Set, Tuple
 
+from .contexts import grows
 from .lax import OPERANDS, Signs, addresses, ranges
 from .tree import Node
 
@@ -27,6 +28,11 @@ def targets(node: Node) -> Iterator[Node]:
 def declared(node: Node) -> Set[str]:
     """The names that are declared below a node."""
     return {it.name for it in node.all() if it.kind in ("WIRE", "MEMORY")}
+
+
+def names(node: Node) -> Set[str]:
+    """The names in an expression."""
+    return {it.name for it in node.all() if it.kind == "IDENTIFIER"}
 
 
 class Write(NamedTuple):
@@ -54,6 +60,7 @@ class Scope:
             if value is not None:
                 self.parameters[name] = value
         self.counters = {it.parts[0].parts[0].name for it in module.all() if it.kind in ("FOR", "GENFOR")}
+        self.constants = self._constants()
 
     # -- statements
 
@@ -78,29 +85,57 @@ class Scope:
                     own = declared(self.subroutines[name]) | {name}
                     outer = (to for to in self._own_writes(name) if to.name not in own)
                     yield from (to._replace(place=it.line) for to in outer)
-                yield from self._outputs(it)
+                yield from (Write(to.name, False, it.line) for _, given in self.outputs_given(it) for to in targets(given))
 
     def _own_writes(self, name: str) -> Iterator[Write]:
         for it in self.subroutines[name].all():
             if it.kind in ("ASSIGN_EQ", "ASSIGN_LE"):
                 yield from (Write(to.name, it.kind == "ASSIGN_LE", it.line) for to in targets(it.parts[0]))
 
-    def _outputs(self, call: Node) -> Iterator[Write]:
+    def outputs_given(self, call: Node) -> Iterator[Tuple[Node, Node]]:
+        """The outputs of the task or function that is called, and what gets each of them."""
         called = self.subroutines.get(call.name)
         arguments = [it for it in called.parts if it.is_input or it.is_output] if called else []
-        for argument, given in zip(arguments, call.parts):
-            if argument.is_output:
-                yield from (Write(to.name, False, call.line) for to in targets(given))
+        yield from ((argument, given) for argument, given in zip(arguments, call.parts) if argument.is_output)
+
+    def parts_in(self, given: Node) -> Iterator[Tuple[Node, Node, bool]]:
+        """The names on the left of an assignment that are written in part, the range of the part, and whether it is one
+        of a word of a memory."""
+        for to in targets(given):
+            declaration, found = self.declarations.get(to.name), ranges(to)
+            words = len(addresses(declaration)) if declaration else len(found)
+            if len(found) > words:
+                yield to, found[-1], words > 0
 
     def part_writes(self, below: Node) -> Iterator[Tuple[Node, Node, bool]]:
-        """The names that are written in part, the range of the part, and whether it is one of a word of a memory."""
+        """What is written in part by assignments and by outputs of tasks and functions."""
         for node in below.all():
             if node.kind in ("ASSIGN_EQ", "ASSIGN_LE"):
-                for to in targets(node.parts[0]):
-                    declaration, found = self.declarations.get(to.name), ranges(to)
-                    words = len(addresses(declaration)) if declaration else len(found)
-                    if len(found) > words:
-                        yield to, found[-1], words > 0
+                yield from self.parts_in(node.parts[0])
+            elif node.kind in CALLS:
+                for _, given in self.outputs_given(node):
+                    yield from self.parts_in(given)
+
+    def inputs_given(self, call: Node) -> Iterator[Tuple[Optional[int], Node]]:
+        """What a function or task gets, each with the width of the input."""
+        called = self.subroutines.get(call.name)
+        if called is None:
+            yield from ((None, given) for given in call.parts)
+            return
+        inputs = [it for it in called.parts if it.is_input or it.is_output]
+        yield from ((self.width_of_declaration(it), given) for it, given in zip(inputs, call.parts) if it.is_input)
+
+    def _constants(self) -> Set[str]:
+        """The names that Yosys may have constants for: parameters, variables of loops, and inputs of tasks and functions
+        that get such."""
+        found, size = {*self._declared_parameters, *self.counters}, -1
+        calls = [it for it in self.module.all() if it.kind in CALLS and it.name in self.subroutines]
+        while len(found) > size:
+            size = len(found)
+            for call in calls:
+                inputs = [it for it in self.subroutines[call.name].parts if it.is_input or it.is_output]
+                found |= {it.name for it, given in zip(inputs, call.parts) if names(given) <= found}
+        return found
 
     def blocks(self) -> Iterator[Node]:
         return (it for it in self.module.all() if it.kind in ("ALWAYS", "INITIAL"))
@@ -114,8 +149,7 @@ class Scope:
 
     def is_constant(self, node: Node) -> bool:
         """Whether Yosys has a constant in place of an expression, when loops are unrolled."""
-        names = {it.name for it in node.all() if it.kind == "IDENTIFIER"}
-        return names <= {*self.parameters, *self.counters}
+        return names(node) <= {*self.parameters, *self.counters}
 
     def bounds(self, node: Node) -> Bounds:
         """The least and the greatest value of an expression, as far as that is known."""
@@ -182,6 +216,9 @@ class Scope:
             return sum(self.own_width(part) for part in node.parts)
         if node.kind == "IDENTIFIER":
             return self._width_of_name(node) or UNSIZED
+        if node.kind == "FCALL" and node.name in self.subroutines:
+            results = [it for it in self.subroutines[node.name].parts if it.kind == "WIRE" and it.name == node.name]
+            return results and self.width_of_declaration(results[0]) or UNSIZED
         return 1 if _ONE_BIT.fullmatch(node.kind) else UNSIZED
 
     def _width_of_name(self, node: Node) -> Optional[int]:
@@ -195,9 +232,16 @@ class Scope:
             return None
         return self.width(ranges(parameter)[0]) if ranges(parameter) else self.own_width(parameter.parts[0])
 
+    def sign_of_constant(self, node: Node) -> Optional[bool]:
+        """Whether a constant expression is signed. A parameter without a range has the sign of its own value."""
+        parameter = self._declared_parameters.get(node.name) if node.kind == "IDENTIFIER" and not node.parts else None
+        if parameter is None or parameter.is_signed or ranges(parameter):
+            return self.signs.of(node)
+        return self.sign_of_constant(parameter.parts[0])
+
     def is_narrow(self, node: Node, width: int) -> bool:
         """Whether an expression is a constant that Yosys computes in its own width, and that needs a larger one."""
-        is_constant = all(it.name in self._declared_parameters for it in node.all() if it.kind == "IDENTIFIER")
+        is_constant = names(node) <= {*self._declared_parameters} or names(node) <= self.constants and grows(node, self.signs.of(node))
         return node.kind in OPERANDS and is_constant and self.own_width(node) < width and not self.fits(node)
 
     def fits(self, node: Node) -> bool:

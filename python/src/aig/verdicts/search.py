@@ -1,6 +1,6 @@
 """How a verdict is found: one frame, then what ABC knows at once, then runs and inductions of growing length, then ABC
-with its whole limit. A formula has only what the property and the constraints read. Each answer is one that `aig`
-printed about the circuit, and its proofs are those of the search."""
+with its whole limit. A formula has only what the property and the constraints read. Each answer is a claim that `aig`
+confirmed about the circuit, and its proofs are those of the search."""
 
 from __future__ import annotations
 
@@ -9,9 +9,11 @@ from pathlib import Path
 from typing import Dict, List, NamedTuple, Optional, Union
 
 from . import abc
+from .checked import ALIVE, Wrong
 from .decide import Found, Task
-from .questions import NO_TIME, Answer, Questions, why
-from .row import ALIVE, CONFIRMED, MOST_FRAMES, has_constraints
+from .hints import claim_of
+from .questions import NO_TIME, Answer, Confirmed, Questions, why
+from .row import MOST_FRAMES, has_constraints
 from .tools import Stop, Stopped, ToolFailed, soon
 
 # The seconds of ABC's first try.
@@ -69,9 +71,15 @@ class Search:
     def bounded(self, frames: int) -> List[str]:
         return [f"--frames={frames}", self.of_property]
 
-    def answer(self, verdict: str, by: str, frames: int, **files: bytes) -> bool:
-        self.found.verdict, self.found.by, self.found.frames, self.found.files = verdict, by, frames, files
+    def answer(self, confirmed: Confirmed) -> bool:
+        found, checked = self.found, confirmed.checked
+        found.verdict, found.by, found.frames = checked.line, checked.by, checked.frames
+        found.files, found.checked = confirmed.files, checked
         return True
+
+    def confirm(self, by: str, frames: int, **files: bytes) -> bool:
+        """An answer that `aig` confirms: these files show it."""
+        return self.answer(self.ask.confirm(claim_of(self.task.position, by, frames, files), files))
 
     def search(self) -> None:
         if self.task.position < 0:
@@ -91,17 +99,15 @@ class Search:
         """Whether some run keeps all constraints for so many frames."""
         frames = self.task.bounds.frames
         if not has_constraints(self.ask.aig("info", files=[self.ask.circuit])):
-            self.answer(ALIVE, "", frames)
+            self.found.verdict, self.found.frames = ALIVE, frames
             return
         options = ["--alive", f"--frames={frames}"]
         said = self.ask.solve("constraints", *options)
         if said.proof is not None:
-            line, proofs = self.ask.refute(*options, proofs={"alive": said.proof})
-            self.answer(line, "alive", frames, **proofs)
+            self.confirm("alive", frames, alive=said.proof)
         elif said.model is not None:
             witness = self.ask.aig("witness", *options, files=[self.ask.circuit], named={"--model": said.model})
-            line = self.ask.aig("check", *options, files=[self.ask.circuit, witness], good=(0, 1)).decode().strip()
-            self.answer(line, "kept", frames, witness=witness)
+            self.confirm("kept", frames, witness=witness)
 
     def by_frames(self, numbers: List[int]) -> bool:
         """Runs and inductions of these numbers of frames, until the solver has no answer."""
@@ -138,9 +144,11 @@ class Search:
         return self.confirmed(reduced, **self.no_run_of(_length(reduced) - 1))
 
     def confirmed(self, witness: bytes, **shorter: bytes) -> bool:
-        said = self.ask.aig("check", self.of_property, files=[self.ask.circuit, witness], good=(0, 1))
-        verdict = said.decode().strip()
-        return verdict == CONFIRMED and self.answer(verdict, "run", _length(witness), witness=witness, **shorter)
+        """Whether this is a run to the property, and none is shorter if there is a proof of that."""
+        try:
+            return self.confirm("run", _length(witness), witness=witness, **shorter)
+        except Wrong:
+            return False
 
     def witness(self, frames: int, model: bytes) -> bytes:
         return self.ask.aig("witness", *self.bounded(frames), files=[self.ask.circuit], named={"--model": model})
@@ -160,9 +168,7 @@ class Search:
 
     def no_run_of(self, frames: int) -> Dict[str, bytes]:
         """The proof that no run of so many frames is there, if the search had it."""
-        if not frames or self.known != frames:
-            return {}
-        return self.ask.refute(*self.bounded(frames), proofs={"shorter": self.base}).proofs
+        return {"shorter": self.base} if frames and self.known == frames else {}
 
     def induction(self, frames: int, step: bytes) -> bool:
         base: Optional[bytes] = self.base
@@ -170,15 +176,13 @@ class Search:
             base = self.ask.solve(f"run of {frames}", *self.bounded(frames)).proof
         if base is None:
             return False
-        verdict, proofs = self.ask.refute(*self.bounded(frames), proofs={"base": base, "step": step})
-        return self.answer(verdict, "induction", frames, **proofs)
+        return self.confirm("induction", frames, base=base, step=step)
 
     def bound(self) -> bool:
         """That no run of so many frames is there."""
         if not self.known:
             return False
-        verdict, proofs = self.ask.refute(*self.bounded(self.known), proofs={"base": self.base})
-        return self.answer(verdict, "bound", self.known, **proofs)
+        return self.confirm("bound", self.known, base=self.base)
 
     def keep(self) -> None:
         """What is known where the search ended early: the run, or the bound. The check of a bound ends soon."""
@@ -188,8 +192,8 @@ class Search:
             with soon(LAST_SECONDS) as stop:
                 self.ask.stop = stop
                 try:
-                    verdict, proofs = self.ask.plain(*self.bounded(self.known), proofs={"base": self.base})
-                    self.answer(verdict, "bound", self.known, **proofs)
+                    files = {"base": self.base}
+                    self.answer(self.ask.plain(claim_of(self.task.position, "bound", self.known, files), files))
                 except Stopped:
                     self.ask.note(f"bound of {self.known}: {NO_TIME}")
 
@@ -246,8 +250,7 @@ class Search:
         named = {"--certificate": made}
         said = self.ask.checking("certificate", self.of_property, named=named)
         if said.proof is not None:
-            verdict, proofs = self.ask.refute(self.of_property, proofs={"proof": said.proof}, named=named)
-            return self.answer(verdict, "certificate", 0, certificate=made, **proofs)
+            return self.confirm("certificate", 0, certificate=made, proof=said.proof)
         if said.model is not None:
             self.ask.note(f"ABC's invariant made {WRONG_CERTIFICATE}")
         return False

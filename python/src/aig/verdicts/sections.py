@@ -8,15 +8,11 @@ from typing import Callable, Dict, Hashable, List, NamedTuple, Optional, Sequenc
 import aig
 
 from .explained import Line
-from .judge import DISAGREES, MARK, Judged
+from .decisions import DISAGREES, MEANINGS, Judged
 from .row import Row
 from .runs import Story, Told, story
 from .svg import escape, parts, shortened
 
-KIND = {
-    "fails": "bad", "never": "bad", DISAGREES: "warn", "vacuous": "warn", "undecided": "warn", "bounded": "warn", "holds": "good",
-    "reached": "good",
-}
 # Pictures have so many bytes of a page, and none is made of a run with more letters. The lines of `why` below those that
 # are seen at once are so many, and have so many causes.
 MOST_PICTURES, MOST_LETTERS = 1_500_000, 50_000_000
@@ -39,14 +35,9 @@ def counted(count: object, name: str) -> str:
     return f"{count} {name}" if count == 1 else f"{count} {name}{'es' if name.endswith('ch') else 's'}"
 
 
-def kind(it: Judged) -> str:
-    """How a row looks: one that is in doubt is not good."""
-    return "warn" if it.doubt or it.denied else KIND[it.result]
-
-
 def verdict(it: Judged, more: str = "") -> str:
     said = f"{it.words} {more}" if more else it.words
-    return f'<span class="v {kind(it)}"><i aria-hidden="true">{MARK[it.result]}</i>{escape(said)}</span>'
+    return f'<span class="v {it.look}"><i aria-hidden="true">{MEANINGS[it.result].mark}</i>{escape(said)}</span>'
 
 
 def anchor(row: Row) -> str:
@@ -150,7 +141,7 @@ class Sections:
         again = _commands(row) + (_commands(it.proof) if it.proof else "")
         if again:
             found.append(f"<details><summary>Check it again</summary>{again}</details>")
-        return f'<section id="{anchor(row)}" class="{kind(it)}">{"".join(found)}</section>'
+        return f'<section id="{anchor(row)}" class="{it.look}">{"".join(found)}</section>'
 
     # -- a run
 

@@ -8,24 +8,26 @@ import os
 import sys
 import tempfile
 from concurrent.futures import FIRST_COMPLETED, Executor, Future, ThreadPoolExecutor, wait
-from dataclasses import asdict
+from contextlib import nullcontext
+from dataclasses import asdict, replace
 from pathlib import Path
-from typing import Any, Callable, Collection, Dict, List, Optional
+from typing import Any, Callable, Collection, Dict, List, Optional, Tuple, Union
 
 from .._program import program
-from .bundle import MOST_BYTES, Bundle, Wrong, sum_of
+from .bundle import MOST_BYTES, Bundle
+from .checked import ALIVE, CIRCUIT, CONSTRAINTS, Checked, Claim, Wrong, sum_of
 from .decide import Bounds, Found, Programs, Sent, Task
 from .design import Design
 from .folder import TIMES, Folder
-from .hints import has_hints, hinted
+from .hints import by_name
 from .manifest import FORMAT, SCRIPT_OF_YOSYS, rows_as_json
 from .questions import NO_ANSWER, NO_TIME, Questions
-from .recheck import check_row
+from .recheck import check_claim
 from .simulated import Simulated
-from .row import CIRCUIT, CONSTRAINTS, ENDINGS, LEFT_OUT, UNDECIDED, Row, name_of
+from .row import ENDINGS, Row
 from .search import LAST_SECONDS, NUMBER
-from .tools import GRACE, Clock, Stop, Stopped, version
-from .workers import Workers
+from .tools import GRACE, Clock, Stop, Stopped, soon, version
+from .workers import Workers, check_all
 
 # The manifest is written while rows come in, as long as that takes less than this part of the time.
 WRITING = 0.05
@@ -53,16 +55,23 @@ class Session:
         self.stop = stop or Stop()
         self.rows = [Row(CONSTRAINTS, "constraints", "")]
         self.rows += [Row(it.position, it.kind, it.name, it.file, it.first, it.last, it.of,
-                          UNDECIDED if only is None or it.position in only else LEFT_OUT) for it in design.assertions]
+                          only is not None and it.position not in only) for it in design.assertions]
         self.seconds: Dict[int, float] = {}
         self.rejected: List[str] = []
         self.versions = self._versions()
         self.folder = Folder(path, max(MOST_BYTES, bounds.proof_megabytes << 20 or sys.maxsize))
         self.simulated = Simulated()
+        self._sum = sum_of(design.circuit)
         self._goes_further = True  # than an earlier run
         self._was_stopped = False  # some search
         self._written = Clock()
         self._cost = 0.0
+
+    @property
+    def asked(self) -> int:
+        """How many assertions and covers the run was asked for."""
+        chosen = [it for it in self.design.assertions if self.only is None or it.position in self.only]
+        return sum(it.kind in ("assert", "cover") for it in chosen)
 
     def close(self) -> None:
         self.folder.close()
@@ -99,7 +108,7 @@ class Session:
             old = Bundle(self.folder.path)
         except Wrong:
             return {}
-        if old.sums[CIRCUIT] != sum_of(self.design.circuit):
+        if old.sums[CIRCUIT] != self._sum:
             return {}
         self._goes_further = not self._searched_so_far(old.manifest)
         self.seconds = self._earlier_seconds()
@@ -127,39 +136,44 @@ class Session:
 
     def _take_over(self, earlier: Dict[int, Row], jobs: int) -> None:
         kept = [(row, earlier[row.position]) for row in self.rows if row.position in earlier]
-        kept = [(row, old) for row, old in kept if old.by and (old.kind, old.name) == (row.kind, row.name)]
+        kept = [(row, old) for row, old in kept if (old.kind, old.name) == (row.kind, row.name)]
+        claims = [(row, old.claim, old.notes) for row, old in kept if old.claim is not None and old.claim.by]
         with ThreadPoolExecutor(jobs or os.cpu_count() or 1) as pool:
-            for (row, old), wrong in zip(kept, pool.map(self._wrong, [old for _, old in kept])):
-                if wrong:
-                    self.rejected.append(wrong)
+            for (row, _, notes), said in zip(claims, pool.map(self._again, claims)):
+                if isinstance(said, str):
+                    self.rejected.append(said)
                     continue
-                row.verdict, row.by, row.frames, row.notes = old.verdict, old.by, old.frames, old.notes
-                row.files = {role: old.files[role] for role in ENDINGS if role in old.files}
+                row.take(said, self._sum)
+                row.notes = notes
         self.stop.look()
 
-    def _wrong(self, row: Row) -> str:
-        """What is wrong with a row of an earlier run. The files of one that is right get their sums, and its proofs get
-        hints where they are asked for."""
+    def _again(self, earlier: Tuple[Row, Claim, List[str]]) -> Union[Checked, str]:
+        """The check of what an earlier run claims, or what is wrong with it. The files of a claim that is right get
+        their sums, and its proofs get hints where they are asked for."""
+        _, claim, notes = earlier
         try:
-            files = {name: self.folder.read(name) for name in row.files.values()}
-            check_row(row, self.design.circuit, files.__getitem__, self.stop)
-            self._add_hints(row, files)
+            files = {role: self.folder.read(claim.files[role]) for role in ENDINGS if role in claim.files}
+            claim = replace(claim, named=tuple((role, claim.files[role]) for role in files))
+            checked = check_claim(claim, self.design.circuit, by_name(claim, files), self.stop)
+            checked = self._with_hints(checked, files, notes)
         except (Wrong, OSError, MemoryError) as error:
             return str(error)
         except Stopped:
             return "stopped"
-        self.folder.sums.update({name: sum_of(data) for name, data in files.items()})
-        return ""
+        self.folder.sums.update({checked.claim.files[role]: sum for role, sum in checked.sums.items()})
+        return checked
 
-    def _add_hints(self, row: Row, files: Dict[str, bytes]) -> None:
-        """Adds hints to the proofs of a row, if a program for that was named."""
+    def _with_hints(self, checked: Checked, files: Dict[str, bytes], notes: List[str]) -> Checked:
+        """The check of the same with hints in its proofs, if a program for that was named."""
         with tempfile.TemporaryDirectory(prefix="aig-verdicts-") as folder:
-            ask = Questions(self.design.circuit, self.bounds, self.programs, Path(folder), self.stop, row.notes)
-            for role, proof in hinted(row, files, ask).items():
-                del files[row.files[role]]
-                row.files[role] = name_of(row.position, role, True)
-                files[row.files[role]] = proof
-                self.folder.put(row.files[role], proof)
+            ask = Questions(self.design.circuit, self.bounds, self.programs, Path(folder), self.stop, notes)
+            hinted = ask.hinted(checked.claim, files)
+        if hinted is None:
+            return checked
+        for role, name in hinted.checked.claim.named:
+            if name != checked.claim.files[role]:
+                self.folder.put(name, hinted.files[role])
+        return hinted.checked
 
     def manifest(self) -> Dict[str, Any]:
         return {
@@ -188,22 +202,26 @@ class Session:
         if found.stopped:
             self._was_stopped = True
             found.notes += [STOPPED] * (found.by != "run")
-        if row.by in ("bound", "kept") and found.by in ("", row.by) and found.frames <= row.frames:
+        checked = found.check_about(self._sum)
+        by, frames = (checked.by, checked.frames) if checked is not None else ("", 0)
+        if row.by in ("bound", "kept") and by in ("", row.by) and frames <= row.frames:
             row.notes = found.notes  # an earlier search knows more
             return
         self._forget(row)
-        files = {role: name_of(row.position, role, has_hints(data)) for role, data in found.files.items()}
-        for role, data in found.files.items():
-            self.folder.put(files[role], data)
-        row.verdict, row.by, row.frames, row.notes = found.verdict, found.by, found.frames, found.notes
-        row.files = files
+        if checked is not None:
+            for role, name in checked.claim.named:
+                self.folder.put(name, found.files[role])
+            row.take(checked, self._sum)
+        elif row.position == CONSTRAINTS and found.verdict == ALIVE:
+            row.claim = Claim(row.position, "", found.frames)
+        row.notes = found.notes
         self.write()
 
     def _forget(self, row: Row) -> None:
         """Lets go of what an earlier search found, before its files change."""
-        if row.files:
-            names = list(row.files.values())
-            row.verdict, row.by, row.frames, row.notes, row.files = UNDECIDED, "", 0, [], {}
+        names = list(row.files.values())
+        row.forget()
+        if names:
             for name in names:
                 self.folder.sums.pop(name)
             self.write(True)
@@ -254,9 +272,12 @@ class Session:
                 ready = wait([future for future in left if not future.cancel()], timeout=last_seconds).done
             else:
                 ready = wait(left, timeout=LOOK, return_when=FIRST_COMPLETED).done
-            for future in ready:
+            found = [_result(future, left[future]) for future in ready]
+            with soon(LAST_SECONDS) if self.stop.stopped else nullcontext(self.stop) as stop:
+                check_all(found, self.design.circuit, stop)
+            for future, it in zip(ready, found):
                 row = left.pop(future)
-                self.take(_result(future, row))
+                self.take(it)
                 progress(count - len(left), count, row)
             if not ready:
                 progress(count - len(left), count, None)

@@ -6,9 +6,11 @@ from __future__ import annotations
 from dataclasses import replace
 from typing import Any, Dict, List, NamedTuple, Sequence
 
-from .judge import DISAGREES, Judged
+from .decisions import DISAGREES, Judged
 
 AGREES = "agrees"
+# What is before the name of the simulator if values are the same.
+AS_IN = ": as in "
 
 
 class Said(NamedTuple):
@@ -36,6 +38,11 @@ class Simulated(NamedTuple):
     agrees: bool = True
     rows: Dict[int, Said] = {}
 
+    @property
+    def is_compared(self) -> bool:
+        """Whether it says of some values of the circuit that they are the same."""
+        return AS_IN + self.by in self.circuit
+
     def facts(self) -> Dict[str, Any]:
         """What MANIFEST.json has of it."""
         if not self.circuit:
@@ -50,7 +57,7 @@ class Simulated(NamedTuple):
     def _beside(self, it: Judged) -> Judged:
         said = self.rows.get(it.row.position)
         if said is not None and said.word == DISAGREES:
-            return replace(it, result=DISAGREES, simulated=said.text)
+            return it.denied_by(said.text)
         is_denied = not self.agrees and (said is None or said.word != AGREES)
         return replace(it, simulated=said.text if said else "",
                        denied=f"the circuit is not as in {self.by}" if is_denied else "")

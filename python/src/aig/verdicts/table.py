@@ -5,15 +5,13 @@ from __future__ import annotations
 import re
 from typing import Dict, List, Sequence, Tuple
 
-from .judge import DISAGREES, Judged
-from .row import LEFT_OUT
+from .decisions import DISAGREES, Judged
 from .svg import escape, visible
 
-# What a CI server takes a result for.
-JUNIT = {"fails": "failure", "never": "failure", "vacuous": "failure", "bounded": "skipped", LEFT_OUT: "skipped",
-         "undecided": "error", DISAGREES: "error"}
 # The widest column; a longer name moves the rest of its own line alone.
 MOST_WIDE = 120
+# A note is printed with the names of so many of its rows.
+MOST_NAMED = 3
 _NO_XML = re.compile("[^\t\n\x20-\ud7ff\ue000-\ufffd\U00010000-\U0010ffff]")
 
 
@@ -41,6 +39,16 @@ def text(table: Sequence[Judged]) -> str:
     return "".join(f"{line}\n" for line in lines)
 
 
+def open_notes(table: Sequence[Judged]) -> List[str]:
+    """The notes of rows that are not good, each once, with the names of its rows."""
+    names: Dict[str, List[str]] = {}
+    for it in table:
+        for note in it.row.notes if it.status else ():
+            names.setdefault(note, []).append(it.row.name)
+    return [f"{', '.join(of[:MOST_NAMED])}{f' and {len(of) - MOST_NAMED} more' * (len(of) > MOST_NAMED)}: {note}"
+            for note, of in names.items()]
+
+
 def junit(name: str, table: Sequence[Judged], seconds: Dict[int, float]) -> str:
     """A failing, vacuous or never reached one is a failure; one that is known for some frames alone or was left out is
     skipped; one that is undecided is an error."""
@@ -55,7 +63,7 @@ def junit(name: str, table: Sequence[Judged], seconds: Dict[int, float]) -> str:
 
 def _case(name: str, it: Judged, seconds: float) -> Tuple[str, str]:
     """What a CI server takes the row for, and its element."""
-    row, tag = it.row, JUNIT.get(it.result, "")
+    row, tag = it.row, it.junit
     attributes = f'classname="{_xml(name)}.{row.kind}" name="{_xml(row.name)}" time="{seconds:.1f}"'
     if row.file:
         attributes += f' file="{_xml(row.file)}" line="{row.last}"'

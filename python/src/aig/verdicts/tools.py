@@ -15,8 +15,7 @@ from dataclasses import dataclass
 from pathlib import Path
 from typing import Iterator, List, Mapping, Optional, Sequence, Set
 
-from .._program import held, program
-from ..errors import error_of
+from .._program import failed, held, program
 
 # Seconds that a program gets after its own limit, before it is killed.
 GRACE = 2.0
@@ -167,11 +166,17 @@ def _start_of(path: Path, most: int) -> bytes:
 def ask(stop: Stop, command: str, *options: str, files: Sequence[bytes], named: Mapping[str, bytes] = {},
         good: Sequence[int] = (0,)) -> bytes:
     """What `aig` prints for these files, and for those that an option names. It raises the error of any other run."""
+    return answer(stop, command, *options, files=files, named=named, good=good).out
+
+
+def answer(stop: Stop, command: str, *options: str, files: Sequence[bytes], named: Mapping[str, bytes] = {},
+           good: Sequence[int] = (0,)) -> Ran:
+    """The same, with the status."""
     stop.look()
     with held(*named.values(), *files) as (paths, descriptors):
         by_option = [word for option, path in zip(named, paths) for word in (option, path)]
-        words = [program(), command, "--explain", *options, *by_option, *paths[len(named):]]
-        process = subprocess.Popen(words, stdin=subprocess.DEVNULL, stdout=subprocess.PIPE, stderr=subprocess.PIPE,
+        words = [command, *options, *by_option, *paths[len(named):]]
+        process = subprocess.Popen([program(), *words], stdin=subprocess.DEVNULL, stdout=subprocess.PIPE, stderr=subprocess.PIPE,
                                    pass_fds=descriptors, start_new_session=True)
         stop.begin(process)
         try:
@@ -180,10 +185,10 @@ def ask(stop: Stop, command: str, *options: str, files: Sequence[bytes], named: 
             _kill(process)
             process.wait()
             stop.end(process)
-    stop.look()
-    if process.returncode not in good or err.startswith(b"aig: "):
-        raise error_of(process.returncode, err.decode("utf-8", "replace"))
-    return out
+        stop.look()
+        if process.returncode not in good or err.startswith(b"aig: "):
+            raise failed(words, process.returncode, err)
+    return Ran(process.returncode, out, err)
 
 
 def version(name: str, stop: Stop) -> str:

@@ -67,3 +67,13 @@ def _in_loops(pattern: Pattern[str], warnings: Sequence[str]) -> List[str]:
 
 def has_loop(warnings: Sequence[str]) -> bool:
     return any(_LOOP in warning for warning in warnings)
+
+
+def driven_inouts(module: Dict[str, Any]) -> Set[str]:
+    """The `inout` ports of a flat module that it drives: for a circuit they are outputs. If a driver is off, they have any
+    value. Yosys would write them as inputs that are gates."""
+    driven = {bit for cell in module["cells"].values() for port, bits in cell["connections"].items()
+              if cell["port_directions"].get(port) == "output" for bit in bits}
+    driven |= {bit for port in module["ports"].values() if port["direction"] == "input" for bit in port["bits"]}
+    return {name for name, port in module["ports"].items()
+            if port["direction"] == "inout" and any(bit in driven or isinstance(bit, str) for bit in port["bits"])}

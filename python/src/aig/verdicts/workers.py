@@ -8,10 +8,13 @@ from dataclasses import replace
 from importlib import import_module
 from pathlib import Path
 from types import TracebackType
-from typing import Any, Callable, Optional, Type
+from typing import Any, Callable, Optional, Sequence, Type
 
+from .checked import Wrong
 from .decide import Found, Sent, Task, decide, decide_about
-from .tools import Stop, ToolFailed
+from .hints import by_name
+from .recheck import check_claim
+from .tools import Stop, Stopped, ToolFailed
 
 # A circuit whose compressed file is larger is not a part of each task.
 LARGE = 1 << 16
@@ -49,6 +52,18 @@ class Workers:
                  __: Optional[TracebackType]) -> None:
         if self._own:
             self._executor.shutdown(wait=True)
+
+
+def check_all(found: Sequence[Found], circuit: bytes, stop: Stop) -> None:
+    """Checks what other processes found, side by side: their word is no check. A note says what is wrong."""
+    def check(it: Found) -> None:
+        try:
+            it.checked = check_claim(it.claim, circuit, by_name(it.claim, it.files), stop)
+        except (Wrong, Stopped) as error:
+            it.notes.append(f"worker: {str(error) or 'stopped'}")
+
+    with ThreadPoolExecutor(os.cpu_count() or 1) as pool:
+        [*pool.map(check, [it for it in found if it.by and it.checked is None])]
 
 
 class Dask:

@@ -12,7 +12,7 @@ import re
 from pathlib import Path
 from typing import Any, Dict, Iterator, List, Optional, Sequence, Set, Tuple
 
-from . import left_out, processes, rtlil
+from . import block_locals, left_out, processes, rtlil
 from .labels import REPEATED, Label, as_blocks, give_names, labels
 from .lax import ends_of_simulation, wired_outputs
 from .lowered import lower
@@ -22,7 +22,7 @@ from .places import with_place
 from .sources import places
 from .tools import Stop, ToolFailed, run
 from .warnings import differing
-from .wiring import has_loop, loops
+from .wiring import driven_inouts, has_loop, loops
 
 # Cells with values that Verilog leaves open. No value of a circuit is x, so nothing is equal to an x that is written in
 # `===`.
@@ -95,24 +95,27 @@ def _map(name: str, text: str) -> List[str]:
     return ["read_verilog -icells -nooverwrite <<END_OF_MAP", *text.strip().split("\n"), "END_OF_MAP", f"design -stash {name}"]
 
 
-def reading(sources: Sequence[str], top: Optional[str], defines: Sequence[str]) -> List[str]:
+def reading(sources: Sequence[str], top: Optional[str], defines: Sequence[str], language: str = "-sv ") -> List[str]:
     """The commands that read the sources."""
     return [
-        " ".join(["tee -q -o tree read_verilog -sv -formal -dump_ast1 -no_dump_ptr", *(f"-D{it}" for it in defines), *sources]),
+        " ".join([f"tee -q -o tree read_verilog {language}-formal -dump_ast1 -no_dump_ptr", *(f"-D{it}" for it in defines), *sources]),
         f"hierarchy -check {f'-top {top}' if top else '-auto-top'}",
         "write_rtlil read.il", "design -reset",
     ]
 
 
+_SYNTAX = "Yosys: syntax error"
 # What Yosys says of `$finish` and `$stop` in a clocked block.
 _ENDS = "outside initial block is unsupported"
 
 # What is done with the files between these commands.
 PREPARED = ("# here aig-verdicts works on read.il: it makes each cell $check an assertion with registers (lowered.py), leaves out boxes,\n"
-            "# unread memories and loop variables (left_out.py), writes some processes anew (processes.py: prepared), and gives\n"
-            "# assertions the names of blocks that were made of labels (labels.py)")
+            "# unread memories and loop variables (left_out.py), makes variables of blocks x that are no latches (block_locals.py),\n"
+            "# writes some processes anew (processes.py: prepared), and gives assertions the names of blocks that were made of labels\n"
+            "# (labels.py)")
 NAMED = ("# here aig-verdicts makes circuit.aig of made.aig: the names and the order of inputs, latches, outputs and properties are\n"
          "# others, and inputs that nothing reads are gone (names.py)")
+DIRECTED = "# here aig-verdicts works on flat.il: it makes each inout port that the design drives an output (wiring.py)"
 SETTLED = "# here aig-verdicts works on reset.il: it keeps the order of asynchronous values, and clocks assertions (processes.py: settled)"
 
 
@@ -148,7 +151,7 @@ def making(one_clock: bool, conditions: bool, wires: bool) -> List[str]:
         # an assumption at a clock's edge is one on the values that the edge samples
         *(["chformal -assume -early"] if one_clock else []),
         "setundef -undriven -anyseq",
-        *(["expose w:* w:$* %d w:*$func$* %d o:* %d i:* %d"] if wires else []),
+        *(["expose w:* w:$* %d w:*$func$* %d a:nosync %d o:* %d i:* %d"] if wires else []),
         "opt_expr -fine -keepdc", "opt_clean",
         "async2sync" if one_clock else "clk2fflogic",
         "memory_map -formal", "dffunmap", "json -o clocked.json",
@@ -176,8 +179,8 @@ class Yosys:
             raise ToolFailed(f"yosys did not end in {self._seconds:g} s")
         self.warnings += _warnings((ran.err + ran.out).decode("utf-8", "replace").splitlines())
         if ran.status != 0:
-            is_read = (self.folder / "tree").is_file()
-            raise ToolFailed(with_place(failure(ran), self.text("tree").splitlines() if is_read else []))
+            lines = self.text("tree").splitlines() if (self.folder / "tree").is_file() else []
+            raise ToolFailed(with_place(failure(ran), lines, (self.folder / "read.il").is_file()))
 
     def read(self, commands: Sequence[str]) -> bool:
         """Reads the sources. Whether labels of assertions had to become blocks in the copies that Yosys reads."""
@@ -199,6 +202,22 @@ class Yosys:
             for path in (self.folder / "sources").iterdir():
                 text = path.read_bytes().decode("latin-1")
                 path.write_bytes(as_blocks(path.name, text, known).encode("latin-1"))
+
+    def read_any(self, sources: Sequence[str], top: Optional[str], defines: Sequence[str]) -> Tuple[List[str], bool]:
+        """Reads the sources as SystemVerilog. Where that is an error of syntax, files that end with `.v` are read as Verilog,
+        in which `bit` and `do` are names. Returns the commands, and what `read` returns."""
+        commands = reading(sources, top, defines)
+        try:
+            return commands, self.read(commands)
+        except ToolFailed as error:
+            if _SYNTAX not in str(error) or not all(name.endswith(".v") for name in sources):
+                raise
+            self.warnings, first = [], error
+        commands = reading(sources, top, defines, "")
+        try:
+            return commands, self.read(commands)
+        except ToolFailed:
+            raise first from None
 
     def make(self, commands: Sequence[str], flat: Dict[str, Any]) -> None:
         """Runs the commands that end with the AIGER file. A loop of gates is none of it, and `write_aiger` crashes there."""
@@ -222,8 +241,10 @@ class Yosys:
         """Between `hierarchy` and `proc`: what Yosys would read in another way is written anew. Returns notes."""
         design = rtlil.read(self.text("read.il"))
         lower(design)
+        locals_of_blocks = block_locals.found(self.text("tree").splitlines())
         for module in design.modules:
             give_names(module)
+            block_locals.hide(module, locals_of_blocks)
         wired = [it for module in design.modules for it in wired_outputs(module)]
         if wired:
             raise ToolFailed(f"{places(wired)}: an output of an instance drives a `wand` or `wor`: give it a wire of its own")
@@ -242,6 +263,19 @@ class Yosys:
         self.write("reset.il", design)
         return [f"{it} has an asynchronous set and reset: where one ends while the other is on, the circuit takes the value of the "
                 "other one, as hardware does, and a simulation keeps the old one" for it in found]
+
+    def direct(self, flat: Dict[str, Any]) -> List[str]:
+        """Makes `inout` ports that the design drives outputs. Returns what a script says of it."""
+        found = {f"\\{name}" for module in flat.values() for name in driven_inouts(module)}
+        if not found:
+            return []
+        design = rtlil.read(self.text("flat.il"))
+        for module in design.modules:
+            for wire in module.of("wire"):
+                if wire.name in found:
+                    wire.lines[0] = wire.lines[0].replace(" inout ", " output ", 1)
+        self.write("flat.il", design)
+        return [DIRECTED]
 
     def write(self, name: str, design: rtlil.Text) -> None:
         (self.folder / name).write_text(design.text(), encoding="latin-1")

@@ -8,7 +8,7 @@ use Rattle.aig_cli.proofs.subcommands.built_subcommand.Goals as goal
 pub returns : goal.returns
 returns c = record {
   shape = IfOk-weaker c.with_general.result _ _ (λ command app. row_built c.args.row.now (app_of command) (app
-      ∙ ap (λ above. with_rule (with_rule above (flag (codes "explain"))) (flag (codes "progress")))
+      ∙ ap (λ above. with_rule above (flag (codes "progress")))
       (c.in_ok-with_arguments.ensures.app
       ∙ ap (λ above. with_rules above (map rule_of_argument c.args.row.now.arguments.now)) c.bare.ensures.app)))
       c.with_general.ensures.app;

@@ -8,14 +8,11 @@ from __future__ import annotations
 import re
 from typing import List, NamedTuple, Optional, Tuple
 
-from .lines import Lines
+from .words import MUTE, NotReplayed, Words
 
 CHECKS = ("assert", "assume", "cover", "restrict")
 # Where a run begins, `$past` has the value of this macro.
 BEFORE = "AIG_BEFORE"
-_TOKEN = re.compile(r'//[^\n]*|/\*.*?\*/|`line[^\n]*|"(?:\\.|[^"\\\n])*"|\\\S+|`?[A-Za-z_$][\w$]*'
-                    r"|(?:\d[\d_]*\s*)?'[sS]?[bodhBODH]\s*[\w?]+|\d[\w.]*|[^\s]", re.DOTALL)
-_SKIPPED = ("//", "/*", "`line")
 _PAST = {"$past": "{0}", "$stable": "(({1}) === {0})", "$changed": "(({1}) !== {0})", "$rose": "(!{0} && ({1}))",
          "$fell": "({0} && !({1}))"}
 # What comes before a name in its declaration: the kind, the sign, the range and other names.
@@ -23,12 +20,7 @@ _KIND = r"\b(?:input|output|inout|reg|wire|logic|integer)\b"
 _DECLARED = (r"\b(input|output|inout|reg|wire|logic|integer)\b(?:\s+(?:reg|wire|logic)\b)?\s*(signed\b)?\s*"
              rf"((?:\[[^\]]*\])*)\s*(?:(?:(?!{_KIND})[^;()])*?,\s*)?")
 _OF_ONE_BIT = re.compile(r"&&|\|\||[=!]==?|[<>]=?(?![<>])|^\s*!")
-_OPEN = {"(": ")", "[": "]", "{": "}"}
 _PROCEDURES = ("always", "always_ff", "always_comb", "always_latch", "initial", "final")
-
-
-class NotReplayed(Exception):
-    """Why a simulator cannot play a run."""
 
 
 class Check(NamedTuple):
@@ -49,13 +41,7 @@ class Check(NamedTuple):
         return f"{self.file}:{self.last}"
 
 
-class _Token(NamedTuple):
-    text: str
-    start: int
-    end: int
-
-
-class Adapted:
+class Adapted(Words):
     """A preprocessed source as a simulator reads it.
 
     text    the source. Check K prints `aig value K VALUE SCOPE`, and a block with the checks J to K first prints
@@ -65,10 +51,7 @@ class Adapted:
     """
 
     def __init__(self, source: str):
-        self._source = source
-        self._lines = Lines(source)
-        self._tokens = [_Token(it[0], it.start(), it.end()) for it in _TOKEN.finditer(source)
-                        if not it[0].startswith(_SKIPPED)]
+        super().__init__(source)
         self._edits: List[Tuple[int, int, str]] = []
         self._clock: Optional[str] = None
         self._head = 0  # where the procedure begins
@@ -90,28 +73,6 @@ class Adapted:
     def _edit(self, start: int, end: int, new: str) -> None:
         self._edits.append((start, end, new))
 
-    def _text(self, i: int) -> str:
-        return self._tokens[i].text if i < len(self._tokens) else ""
-
-    def _not_replayed(self, i: int, why: str) -> NotReplayed:
-        file, line = self._lines.place(self._tokens[min(i, len(self._tokens) - 1)].start)
-        return NotReplayed(f"{file}:{line}: {why}")
-
-    def _after_group(self, i: int) -> int:
-        """The token after the group that opens at token i."""
-        ends: List[str] = []
-        begin = i
-        while i < len(self._tokens):
-            text = self._text(i)
-            if text in _OPEN:
-                ends.append(_OPEN[text])
-            elif ends and text == ends[-1]:
-                ends.pop()
-            i += 1
-            if not ends:
-                return i
-        raise self._not_replayed(begin, "a parenthesis is not closed")
-
     # -- modules and statements
 
     def _walk(self) -> None:
@@ -126,11 +87,11 @@ class Adapted:
                 raise self._not_replayed(i, f"`{text}`")
             elif text == "function":
                 while i < len(self._tokens) and self._text(i) != "endfunction":
-                    i += 1
+                    i = self._word(i, True)
             elif text == "task":
                 i = self._task(i)
             else:
-                i = self._word(i)
+                i = self._word(i, False)
 
     def _task(self, i: int) -> int:
         """The token after a task. The checks in it are statements."""
@@ -227,9 +188,14 @@ class Adapted:
 
     # -- words
 
-    def _word(self, i: int) -> int:
-        """The token after a word, or after a function with its arguments."""
+    def _word(self, i: int, is_statement: bool = True) -> int:
+        """The token after a word, or after a function with its arguments. Outside of statements, `$error` is about
+        parameters."""
         text = self._text(i)
+        if is_statement and MUTE.fullmatch(text):
+            end = self._after_call(i)
+            self._edit(self._tokens[i].start, self._tokens[end - 1].end, "")
+            return end
         if text in _PAST and self._text(i + 1) == "(":
             return self._past(i)
         if text == "$initstate":

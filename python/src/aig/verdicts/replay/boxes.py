@@ -8,11 +8,13 @@ from typing import Collection, Match
 _QUIET = re.compile(r'`line[^\n]*|//[^\n]*|/\*.*?\*/|"(?:\\.|[^"\\\n])*"', re.DOTALL)
 _MODULE = re.compile(r"\bmodule\s+(\w+)\b([^;]*;)(.*?)\bendmodule\b", re.DOTALL)
 _INNER = re.compile(r"\b(function|task)\b.*?\bend\1\b", re.DOTALL)
+_BOX = re.compile(r"\(\*[^()]*\bblackbox\b[^()]*\*\)\s*(?:`line[^\n]*\s*)*module\s+(\w+)")
 _PORT = re.compile(r"\b(?:input|output|inout|parameter|localparam)\b[^;]*;")
 
 
 def without_bodies(text: str, modules: Collection[str]) -> str:
-    """The text without the bodies of these modules. No line moves."""
+    """The text without the bodies of these modules, and of those that have an attribute for it. No line moves."""
+    modules = {*modules, *_BOX.findall(text)}
     quiet = _QUIET.sub(lambda it: it[0] if it[0].startswith("`") else re.sub(r"[^\n]", " ", it[0]), text)
 
     def emptied(match: Match[str]) -> str:

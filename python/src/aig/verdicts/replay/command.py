@@ -10,7 +10,7 @@ from typing import List
 from ..recheck import recheck
 from ..table import plain
 from ..tools import Stop, ToolFailed
-from .adapted import NotReplayed
+from .words import NotReplayed
 from .outcome import Outcome, Word
 from .replay import Replay
 from .simulator import Simulator

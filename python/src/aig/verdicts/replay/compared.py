@@ -15,6 +15,10 @@ from .testbench import Player
 TOP = "aig_tb.dut"
 
 
+# What differs in each frame, as it is on one side alone.
+ALWAYS = -1
+
+
 class Difference(NamedTuple):
     """A value that is not the same on both sides. `name` is that of a signal, or of the row of an assertion."""
 
@@ -28,7 +32,8 @@ class Difference(NamedTuple):
     def said(self) -> str:
         place = f"{self.file}:{self.line}" if self.file else ""
         name = f"{self.name} ({place})" if place and not self.name.endswith(place) else self.name
-        return f"{name} in frame {self.frame}: {self.simulated}, and {self.circuit} in the circuit"
+        when = f" in frame {self.frame}" if self.frame != ALWAYS else ""
+        return f"{name}{when}: {self.simulated}, and {self.circuit} in the circuit"
 
 
 class Property(NamedTuple):
@@ -41,18 +46,18 @@ class Property(NamedTuple):
     @property
     def wrong(self) -> str:
         """The values of its expression of which one is there if the property of the circuit is 1."""
-        return {"cover": "1", "assert": "0"}.get(self.rows[0].kind, "01xz")
+        return {"cover": "1", "assert": "0", "assume": "0"}.get(self.rows[0].kind, "01xz")
 
     @property
     def name(self) -> str:
         row = self.rows[0]
-        return f"the `if` of {row.name}" if row.kind == "condition" else row.name
+        return {"condition": "the `if` of ", "assume": "the assumption "}.get(row.kind, "") + row.name
 
     @property
     def words(self) -> Tuple[str, str]:
         """What a property does that is 0 or 1."""
-        return {"cover": ("does not happen", "happens"), "assert": ("does not fail", "fails")}.get(
-            self.rows[0].kind, ("0", "1"))
+        return {"cover": ("does not happen", "happens"), "assert": ("does not fail", "fails"),
+                "assume": ("is kept", "is broken")}.get(self.rows[0].kind, ("0", "1"))
 
 
 def properties(rows: Sequence[Row], checks: Sequence[Check]) -> List[Property]:
@@ -71,6 +76,22 @@ def properties(rows: Sequence[Row], checks: Sequence[Check]) -> List[Property]:
     return list(found.values())
 
 
+def assumptions(names: Sequence[str], checks: Sequence[Check]) -> List[Property]:
+    """The assumptions of a circuit, with their checks in the sources."""
+    found: Dict[Tuple[str, str], Property] = {}
+    for position, name in enumerate(names):
+        label = re.sub(r"(#\d+|(\[\d+\])+)$", "", name)
+        place = re.search(r"(?:^|:)([^:]+:\d+)$", label)
+        scope = label[:place.start()] if place else label.rpartition(".")[0]
+        label = place[1] if place else label.rpartition(".")[2]
+        numbers = {at for at, it in enumerate(checks)
+                   if it.kind in ("assume", "restrict") and label == (it.label or it.place)}
+        old = found.get((scope, label))
+        row = Row(position=position, kind="assume", name=name)
+        found[scope, label] = Property([*(old.rows if old else []), row], numbers, f"{TOP}.{scope}" if scope else TOP)
+    return list(found.values())
+
+
 def _is_check_of(check: Check, row: Row, label: str) -> bool:
     kind = "assert" if row.kind == "condition" else row.kind
     if check.kind != kind or check.file != row.file or not row.first <= check.last <= row.last:
@@ -83,7 +104,11 @@ class Comparison:
     """A simulation beside the run that it plays.
 
     values    how many values were compared
-    asserted  how many assertions and covers were compared
+    unknown_values  how many were x in the simulation
+    signals   the signals of which a value was compared
+    asserted  the assertions and covers of which a value was compared
+    seen      the names of these, and of the assumptions
+    unknown   the signals that were x in the simulation, and got no value of the run
     """
 
     log: Log
@@ -91,7 +116,10 @@ class Comparison:
     player: Player
     checks: Sequence[Check]
     values: int = 0
+    unknown_values: int = 0
+    signals: Set[str] = field(default_factory=set)
     asserted: Set[str] = field(default_factory=set)
+    seen: Set[str] = field(default_factory=set)
     unknown: Set[int] = field(default_factory=set)
 
     def of_signals(self) -> List[Difference]:
@@ -104,20 +132,47 @@ class Comparison:
                     continue
                 wanted = signal.bits(frame)
                 same, has_x = _same(simulated, wanted)
-                self.values += 1
+                if same and (has_x or (number, at) in self.log.given):
+                    self.unknown_values += 1
+                else:
+                    self.values += 1
+                    self.signals.add(signal.path)
                 if not same:
                     found.setdefault(signal.path, Difference(number, signal.path, simulated, wanted))
                 elif has_x:
                     self.unknown.add(at)
         return list(found.values())
 
-    def of_own_values(self, registers: Sequence[Signal]) -> Iterator[Difference]:
-        """The registers whose value of the sources is not that of the circuit at the start."""
+    def of_own_values(self, starts: Dict[str, str]) -> Iterator[Difference]:
+        """The registers and words that the sources give another value at the start than the circuit, or that one of them
+        leaves open."""
         own = dict(zip((it.path for it in self.player.shown), self.log.own))
-        for signal in registers:
-            wanted = signal.bits(self.frames[0])
-            if not _same(own.get(signal.path, wanted), wanted)[0]:
-                yield Difference(0, signal.path, own[signal.path], wanted)
+        for path, wanted in starts.items():
+            simulated = own.get(path, wanted).rjust(len(wanted), "0")
+            if any(one != other for one, other in zip(simulated, wanted) if other != "?"):
+                yield Difference(0, path, simulated, wanted)
+
+    def of_names(self, known: Sequence[Property]) -> Iterator[Difference]:
+        """The assertions, covers and assumptions that one side alone has."""
+        for it in known:
+            if not it.numbers:
+                yield Difference(ALWAYS, it.name, "is not in the sources", "is there", it.rows[0].file, it.rows[0].last)
+        for key in sorted(self._without_row(known) & self._with_value):
+            check = self.checks[key[0]]
+            yield Difference(ALWAYS, f"{check.kind} in {key[1].partition('.')[2]}", "is in the sources", "is not there",
+                             check.file, check.last)
+
+    def places_without_row(self, known: Sequence[Property]) -> Set[str]:
+        """Where the sources have assertions or assumptions that the circuit does not have, though their blocks run. Perhaps
+        an `if` around them is never true: they have no value."""
+        return {self.checks[number].place for number, _ in self._without_row(known) - self._with_value}
+
+    def _without_row(self, known: Sequence[Property]) -> Set[Key]:
+        return set(self.log.ran) - {key for it in known for key in self._keys(it, self.log.ran)}
+
+    @property
+    def _with_value(self) -> Set[Key]:
+        return {key for said in self.log.said for key, values in said.items() if values}
 
     def of_properties(self, known: Sequence[Property]) -> Iterator[Difference]:
         """The first difference of each assertion and cover."""
@@ -125,11 +180,14 @@ class Comparison:
             if self.is_unsteady(it):
                 continue
             for number in range(len(self.log.said)):
-                simulated, wanted = self.happens(it, number), self._is_bad(it, number)
-                if simulated is None:
+                of_circuit = number - self._is_early(it)
+                simulated = self.happens(it, number)
+                if simulated is None or of_circuit < 0:
                     continue
+                wanted = self._is_bad(it, of_circuit)
                 self.values += 1
-                self.asserted.update(row.label for row in it.rows if row.kind != "condition")
+                self.asserted.update(row.label for row in it.rows if row.kind in ("assert", "cover"))
+                self.seen.update(row.name for row in it.rows if row.kind != "condition")
                 if simulated != wanted:
                     row = it.rows[0]
                     yield Difference(number, it.name, it.words[simulated], it.words[wanted], row.file, row.last)
@@ -174,8 +232,15 @@ class Comparison:
                     return check, number
         return None
 
+    def _is_early(self, it: Property) -> bool:
+        """Whether the circuit says of a cycle what the simulation says at its end: an assumption at the clock is about the
+        values that the edge samples."""
+        is_at_clock = {self.checks[number].block for number in it.numbers} == {"clock"}
+        return it.rows[0].kind == "assume" and self.player.timing.is_cycle and is_at_clock
+
     def _is_bad(self, it: Property, number: int) -> bool:
-        return any(self.frames[number][COLUMNS.index("b")][row.position] == "1" for row in it.rows)
+        column, bad = ("c", "0") if it.rows[0].kind == "assume" else ("b", "1")
+        return any(self.frames[number][COLUMNS.index(column)][row.position] == bad for row in it.rows)
 
     @staticmethod
     def _keys(it: Property, among: Iterable[Key]) -> Set[Key]:

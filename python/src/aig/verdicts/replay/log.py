@@ -4,7 +4,8 @@ from __future__ import annotations
 
 from typing import Dict, List, Sequence, Set, Tuple
 
-from .adapted import Check, NotReplayed
+from .adapted import Check
+from .words import NotReplayed
 
 # A check of the sources, by its number, and the scope where it prints.
 Key = Tuple[int, str]
@@ -23,7 +24,7 @@ class Log:
     said      the values of the checks in each frame; a check without a value was not asserted
     ran       the first frame in which a check has a value, or its block ran
     unsteady  the checks at a clock that have a value also when the clock is still, as those of an asynchronous reset
-    chosen    the signals that got the value of the run where they were x, by their position
+    given     where signals got the value of the run, as they were x: the frame, and the position of the signal
     """
 
     def __init__(self, text: str, checks: Sequence[Check], is_cycle: bool):
@@ -33,7 +34,7 @@ class Log:
         self.said: List[Values] = []
         self.ran: Dict[Key, int] = {}
         self.unsteady: Set[Key] = set()
-        self.chosen: Set[int] = set()
+        self.given: Set[Tuple[int, int]] = set()
         self._now: Values = {}
         self._at_edge: Values = {}
         self._is_data = is_cycle
@@ -96,7 +97,7 @@ class Log:
         self._shown = self.own
 
     def _x(self, words: Sequence[str]) -> None:
-        self.chosen.add(int(words[1]))
+        self.given.add((int(words[0]), int(words[1])))
 
     def _values(self, words: Sequence[str]) -> None:
         self._shown += words[1:]

@@ -3,7 +3,7 @@
 from __future__ import annotations
 
 from enum import Enum
-from typing import NamedTuple, Sequence
+from typing import AbstractSet, NamedTuple, Sequence
 
 from .compared import Difference
 
@@ -31,7 +31,11 @@ class Word(Enum):
 
 
 class Outcome(NamedTuple):
-    """What became of a run, and how much was compared."""
+    """What became of a run, how much was compared, and how many values were x in the simulation.
+
+    seen         the names of the assertions, covers and assumptions of which a value was compared
+    without_row  places of assertions in the sources that the circuit perhaps does not have
+    """
 
     word: Word
     why: str = ""
@@ -39,6 +43,9 @@ class Outcome(NamedTuple):
     signals: int = 0
     asserted: int = 0
     values: int = 0
+    unknown: int = 0
+    seen: AbstractSet[str] = frozenset()
+    without_row: AbstractSet[str] = frozenset()
 
     def said(self, simulator: str) -> str:
         """The run of a row, in words."""
@@ -48,7 +55,13 @@ class Outcome(NamedTuple):
     def said_of_random(self, simulator: str) -> str:
         if self.word is not Word.AGREES:
             return self.said(simulator)
-        return f"as in {simulator}: {self.signals} signals, {self.asserted} assertions, {self.values} values"
+        return (f"as in {simulator}: {self.signals} signals, {self.asserted} assertions, {self.values} values"
+                f"{unknown_there(self.unknown)}")
+
+
+def unknown_there(count: int) -> str:
+    """How many values of a simulation say nothing."""
+    return f"; {count:,} {'is' if count == 1 else 'are'} x there" if count else ""
 
 
 def named(differences: Sequence[Difference]) -> str:

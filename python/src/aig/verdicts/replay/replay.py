@@ -8,7 +8,7 @@ import shlex
 from dataclasses import replace
 from itertools import product
 from pathlib import Path
-from typing import List, Optional, Sequence
+from typing import Iterator, List, Optional, Sequence, Set
 
 from ...circuit import Circuit
 from ..bundle import Bundle
@@ -19,18 +19,20 @@ from ..sources import look_at_words
 from ..table import plain
 from ..timing import Timing, of_facts
 from ..tools import Stop
-from .adapted import BEFORE, Adapted, NotReplayed
+from .adapted import BEFORE, Adapted
+from .allowed import look_at_files, read_by_themselves
 from .boxes import without_bodies
-from .compared import Comparison, Difference, Property, properties
+from .compared import ALWAYS, Comparison, Difference, Property, assumptions, properties
 from .log import Log
 from .older import timing_of_older
 from .outcome import Outcome, Word
 from .places import Places
 from .sides import Sides, Source
-from .signals import Frame, named
+from .signals import COLUMNS, Frame, named
 from .simulator import Rejected, Simulator
-from .stimulus import Dice, Hold, of_witness
-from .testbench import Playing
+from .stimulus import Dice, Hold, of_witness, with_other_start
+from .testbench import Player, Playing, given_in
+from .words import NotReplayed
 
 # What `$past` is before the first frame of a witness: x, then other values, as any is right.
 PASTS = ("'bx", "0", "-1")
@@ -43,50 +45,76 @@ RANDOM_PASTS = ("0", "-1")
 ORDERS = (("first", "rest"), ("all",), ("rest", "first"))
 # How often signals that are x get the value of the run, or a testbench is mended.
 MOST_CHOICES = 8
-_PLAIN = re.compile(r"[A-Za-z_][\w$]*")
 
 
 class Replay:
-    """A bundle, and the simulator that plays its runs. In random runs, some inputs may be held."""
+    """A bundle, and the simulator that plays its runs. In random runs, some inputs may be held. A seed chooses them."""
 
-    def __init__(self, bundle: Bundle, simulator: Simulator, stop: Stop, holds: Sequence[Hold] = ()):
-        self._bundle, self._simulator, self._stop, self._holds = bundle, simulator, stop, holds
+    def __init__(self, bundle: Bundle, simulator: Simulator, stop: Stop, holds: Sequence[Hold] = (), seed: int = 0):
+        self._bundle, self._simulator, self._stop, self._holds, self._seed = bundle, simulator, stop, holds, seed
+        self._driven: List[Difference] = []
         top, defines = bundle.manifest["name"], bundle.manifest["options"]["defines"]
         look_at_words(top, defines)
         sources = {name: bundle.summed(f"sources/{name}").decode("latin-1") for name in bundle.manifest["sources"]}
         script = bundle.summed(SCRIPT_OF_YOSYS).decode("latin-1")
         self._circuit = Circuit(bundle.circuit())
         self._timing = self._timing_of(script, "\n".join(sources.values()))
-        names = _read(script, list(sources))
+        look_at_files(sources)
+        names = read_by_themselves(sources)
         simulator.data = {name: text.encode("latin-1") for name, text in sources.items() if name not in names}
         defines = ["FORMAL", "YOSYS", *defines]
         text = simulator.preprocessed(sources, names, defines)
         text = without_bodies(text, bundle.manifest["options"].get("free", []))
         adapted = Adapted(text)
         self._checks, self._places = adapted.checks, Places(text, top)
-        self._source = Source(top, adapted.text, defines)
+        inputs, both = (adapted.ports_of(top, [it]) for it in ("input", "inout"))
+        self._source = Source(top, adapted.text, defines, inputs, both, adapted.escaped)
         self._properties = properties(bundle.rows, self._checks)
+        constraints = [it.name for it in self._circuit.entries if it.letter == "c"]
+        self._assumptions = assumptions(constraints, self._checks) if all(constraints) else []
         self._sides = Sides(self._circuit, self._source, self._timing, simulator)
         self._steps = adapted.steps
 
     def _timing_of(self, script: str, text: str) -> Timing:
         facts = self._bundle.manifest["timing"]
-        timing = of_facts(facts) if facts else timing_of_older(script, self._circuit, text)
-        if timing.clock and not _PLAIN.fullmatch(timing.clock_name):
-            raise NotReplayed(f"the clock {timing.clock_name} has no plain name")
-        return timing
+        return of_facts(facts) if facts else timing_of_older(script, self._circuit, text)
 
     @property
     def left_out(self) -> Sequence[str]:
         """The signals of the circuit that are not compared."""
         return self._sides.left_out
 
+    @property
+    def asserted(self) -> Set[str]:
+        """The names of the assertions, covers and assumptions of the circuit."""
+        return {row.name for it in (*self._properties, *self._assumptions) for row in it.rows if row.kind != "condition"}
+
     # -- runs
 
-    def random(self, frames: int, seed: int) -> Outcome:
-        """Plays a random run, and compares all values in each frame."""
-        run = Dice(self._circuit, self._timing, self._holds, self._stop).run(frames, seed)
-        return self._best(run, [RANDOM_PASTS[seed % 2], PASTS[0]], None, None)
+    def random(self, frames: int, number: int) -> Outcome:
+        """Plays a random run, and compares all values in each frame. The first run tells, too, which values the circuit
+        leaves open and the sources do not."""
+        run = Dice(self._circuit, self._timing, self._holds, self._stop, self._seed).run(frames, number)
+        if number == 1:
+            self._driven = list(self._not_free(run))
+        return self._best(run, [RANDOM_PASTS[number % 2], PASTS[0]], None, None)
+
+    def _not_free(self, run: Sequence[Frame]) -> Iterator[Difference]:
+        """The values that are free in the circuit, and known in a simulation that does not set them."""
+        player = self._sides.player
+        asked = [*player.free, *player.constants]
+        if not asked:
+            return
+        alone = replace(player, free=[], constants=[], shown=asked)
+        try:
+            said = self._source.run(Playing(alone, run, ORDERS[0]).text([]), PASTS[0], self._simulator)
+        except Rejected:  # the run itself says why
+            return
+        for at, signal in enumerate(asked):
+            values = (row[at] for row in Log(said, self._checks, self._timing.is_cycle).frames if len(row) > at)
+            bits = (bit for value in values for bit, column in zip(value, signal.columns) if column >= 0)
+            if {"0", "1"} & set(bits):
+                yield Difference(ALWAYS, signal.path, "has a value in the sources", "is free")
 
     def row(self, row: Row, to: Optional[Path] = None) -> Outcome:
         """Plays the run of a row that fails or is reached, and writes its testbench."""
@@ -94,12 +122,13 @@ class Replay:
             run = of_witness(self._circuit, self._bundle.summed(row.files["witness"]), self._stop)
         except NotReplayed as error:
             return Outcome(Word.NOT_REPLAYED, str(error))
-        known = next(it for it in self._properties if row in it.rows)
+        known = next(it for it in self._properties if row.position in [other.position for other in it.rows])
         return self._best(run, [*PASTS, *self._pasts_of(run[0])], known, to and to / f"{row.position}.tb.v")
 
     def _pasts_of(self, frame: Frame) -> List[str]:
         """The values that registers of `$past` have where a run begins."""
-        found = (it for it in named(self._circuit.entries) if it.letter == "l" and _OF_PAST.fullmatch(it.path))
+        latches = (it for it in named(self._circuit.entries) if it.letter == "l")
+        found = (it for it in latches if _OF_PAST.fullmatch(it.path))
         values = ("".join(frame[0][at] for _, at in sorted(it.positions.items(), reverse=True)) for it in found)
         return list(dict.fromkeys(f"{len(bits)}'b{bits}" for bits in values))[:MOST_PASTS]
 
@@ -128,12 +157,11 @@ class Replay:
             try:
                 said = self._source.run(bench, past, self._simulator)
             except Rejected as error:
-                player = playing.player
-                if error.is_double and not player.wired or error.fixed - player.fixed:
-                    player = replace(player, wired=player.wired or error.is_double, fixed=player.fixed | error.fixed)
-                    self._sides.player = playing.player = player
-                    continue
-                raise NotReplayed(f"{self._simulator.program}: {error}") from None
+                mended = self._mended(playing.player, bench, error)
+                if mended == playing.player:
+                    raise NotReplayed(f"{self._simulator.program}: {error}") from None
+                self._sides.player = playing.player = mended
+                continue
             log = Log(said, self._checks, self._timing.is_cycle)
             if len(log.frames) != len(playing.frames):
                 raise NotReplayed(f"the simulation ends in frame {len(log.frames)}")
@@ -146,6 +174,13 @@ class Replay:
         if to:
             write_whole(to, self._source.behind(bench).encode("latin-1"))
         return self._told(found, differences, known)
+
+    def _mended(self, player: Player, bench: str, error: Rejected) -> Player:
+        """The player whose testbench the simulator may take: this one if there is no other."""
+        lines = self._source.behind(bench).split("\n")
+        typed = given_in([lines[at - 1] for at in error.casts if at <= len(lines)])
+        return replace(player, wired=player.wired or error.is_double, fixed=player.fixed | error.fixed,
+                       typed=player.typed | typed)
 
     def _heading(self, frames: int, past: str, known: Optional[Property], to: Optional[Path]) -> List[str]:
         """The first lines of a testbench: what it plays, and how."""
@@ -162,15 +197,18 @@ class Replay:
     # -- what it means
 
     def _told(self, found: Comparison, differences: List[Difference], known: Optional[Property]) -> Outcome:
-        if self._timing.is_cycle:
-            differences += found.of_own_values(self._sides.with_own_values)
+        differences += [*self._driven, *found.of_own_values(self._sides.starts)]
+        every = [*self._properties, *self._assumptions]
+        if self._bundle.manifest["timing"]:  # older versions gave other names, and none to assumptions
+            differences += found.of_names(every)
         if known is None or not self._steps:  # what `$past` is before a witness begins is not known here
-            differences += found.of_properties([it for it in self._properties if it is not known])
+            differences += found.of_properties([it for it in every if it is not known])
         placed = [self._placed(it) for it in sorted(differences, key=lambda it: it.frame)]
-        if placed and self._sides.unset:
-            return Outcome(Word.NOT_REPLAYED, f"the testbench cannot set {self._sides.unset[0]}")
-        paths = {it.path for it in self._sides.player.shown}
-        counts = placed, len(paths), len(found.asserted), found.values
+        decisive = self._decisive(found.frames) if placed else None
+        if decisive is not None:
+            return Outcome(Word.NOT_REPLAYED, f"the testbench cannot set {decisive}")
+        counts = (placed, len(found.signals), len(found.asserted), found.values, found.unknown_values, found.seen,
+                  found.places_without_row(every))
         if known is None:
             return Outcome(Word.DISAGREES if placed else Word.AGREES, "", *counts)
         broken, happens = found.broken(), found.happens_at_end(known)
@@ -185,6 +223,19 @@ class Replay:
             why = f"the assumption of {broken[0].place} is broken in frame {broken[1]}"
         return Outcome(Word.DISAGREES, why, *counts)
 
+    def _decisive(self, frames: Sequence[Frame]) -> Optional[str]:
+        """A register that the testbench cannot set, if what is compared depends on such values: on all of them, or on half."""
+        unset = list(self._sides.unset)
+        wanted = self._compared_of(frames)
+        for flipped in (unset, unset[::2], unset[1::2]):
+            if flipped and self._compared_of(with_other_start(self._circuit, frames, flipped, self._stop)) != wanted:
+                return self._sides.unset[flipped[0]]
+        return None
+
+    def _compared_of(self, frames: Sequence[Frame]) -> List[List[str]]:
+        """The values of a run that are compared."""
+        return [[*(it.bits(frame) for it in self._sides.player.shown), *frame[COLUMNS.index("b"):]] for frame in frames]
+
     def _reads_before(self, number: int) -> bool:
         """Whether some `$past` may read what was before the run in this frame."""
         return self._steps > 0 and (number <= self._steps or not self._timing.is_cycle)
@@ -194,9 +245,3 @@ class Replay:
             return it
         file, line = self._places.of(it.name)
         return it._replace(file=file, line=line)
-
-
-def _read(script: str, names: Sequence[str]) -> List[str]:
-    """The sources that Yosys was told to read, in their order; the others are included, or data."""
-    line = re.search(r"\bread_verilog -sv [^\n]*", script)
-    return [name for name in re.findall(r"\bsources/(\S+)", line[0] if line else "") if name in names]

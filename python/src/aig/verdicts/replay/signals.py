@@ -2,16 +2,19 @@
 
 from __future__ import annotations
 
+import random
 import re
-from typing import Dict, Iterable, List, NamedTuple, Optional, Sequence, Tuple
+from typing import AbstractSet, Dict, Iterable, List, NamedTuple, Optional, Sequence, Set, Tuple
 
 from ...entries import Entry
 
-_PATH = re.compile(r"[A-Za-z_][\w$]*(?:\[\d+\])*(?:\.[A-Za-z_][\w$]*(?:\[\d+\])*)*")
-_BIT = re.compile(r"(.+)\[(\d+)\]")
+_PLAIN, _INDEXES = re.compile(r"[A-Za-z_][\w$]*"), re.compile(r"(?:\[-?\d+\])*")
+BIT = re.compile(r"(.+)\[(-?\d+)\]")
+# The index of a signal that has no range.
+ALONE = 1 << 40
 # Names that aig-verdicts gives to what has none in the sources. A source may have such a name, too.
 _GIVEN = re.compile(r"(?:.*\.)?(?:past|value|when|x)(?:_\d+)+(?:_next)?|.*_(?:before|kept)(?:_\d+)?|x(?:_next)?")
-_WORD = re.compile(r".*\[\d+\]")
+_WORD = re.compile(r".*\[-?\d+\]")
 # The columns of a line of `aig check --trace --properties`.
 COLUMNS = "lionbc"
 
@@ -34,9 +37,9 @@ class Shape(NamedTuple):
         return "" if self.left is None else f"[{self.left}:{self.right}] "
 
     def indexes(self) -> List[int]:
-        """The indexes of the bits, the most significant one first; -1 of a signal without a range."""
+        """The indexes of the bits, the most significant one first; ALONE of a signal without a range."""
         if self.left is None or self.right is None:
-            return [-1]
+            return [ALONE]
         step = -1 if self.left >= self.right else 1
         return list(range(self.left, self.right + step, step))
 
@@ -45,12 +48,14 @@ class Signal(NamedTuple):
     """A signal that circuit and sources name.
 
     path     its name in the top module
+    text     the same as Verilog writes it
     letter   the section of the circuit: i, l or o
     columns  the position of each bit in that section, the most significant one first; -1 of a bit that is not there
     shape    its range in the sources
     """
 
     path: str
+    text: str
     letter: str
     columns: Tuple[int, ...]
     shape: Shape = Shape()
@@ -58,7 +63,7 @@ class Signal(NamedTuple):
     @property
     def is_word(self) -> bool:
         """Whether it is a word of a memory, or a bit of a vector by itself."""
-        return _WORD.fullmatch(self.path) is not None
+        return _WORD.fullmatch(self.text) is not None
 
     @property
     def is_whole(self) -> bool:
@@ -69,31 +74,36 @@ class Signal(NamedTuple):
         values = frame[COLUMNS.index(self.letter)]
         return "".join("?" if at < 0 else values[at] for at in self.columns)
 
-    def value(self, frame: Frame) -> str:
-        """Its value in a frame, as Verilog writes it."""
-        return f"{len(self.columns)}'b{self.bits(frame).replace('?', '0')}"
+    def value(self, frame: Frame, other: Optional[random.Random] = None) -> str:
+        """Its value in a frame, as Verilog writes it. Bits that the circuit does not have are random ones, or 0."""
+        bits = self.bits(frame)
+        while "?" in bits:
+            bits = bits.replace("?", other.choice("01") if other else "0", 1)
+        return f"{len(bits)}'b{bits}"
 
 
 class Named(NamedTuple):
-    """A name of the circuit, before the shape of the signal is known: the position of each index, or of -1."""
+    """A name of the circuit, before the shape of the signal is known: the position of each index, or of ALONE. `text` is as
+    Verilog writes it, or empty if it cannot."""
 
     path: str
+    text: str
     letter: str
     positions: Dict[int, int]
 
     def shaped(self, shape: Shape) -> Optional[Signal]:
         """The signal. A bit without a place in the range is counted from the least significant one, as an older version
         of aig-verdicts named it."""
-        if set(self.positions) == {-1} and shape.width == 1:  # Yosys gives no index to a vector of one bit
-            return Signal(self.path, self.letter, (self.positions[-1],), shape)
-        if self.path.endswith("]"):
+        if set(self.positions) == {ALONE} and shape.width == 1:  # Yosys gives no index to a vector of one bit
+            return Signal(self.path, self.text, self.letter, (self.positions[ALONE],), shape)
+        if self.text.endswith("]"):
             shape = self._of_word(shape)
         indexes = shape.indexes()
         if not set(self.positions) <= set(indexes):
             indexes = list(range(shape.width - 1, -1, -1))
         if not set(self.positions) <= set(indexes):
             return None
-        return Signal(self.path, self.letter, tuple(self.positions.get(it, -1) for it in indexes), shape)
+        return Signal(self.path, self.text, self.letter, tuple(self.positions.get(it, -1) for it in indexes), shape)
 
     def _of_word(self, shape: Shape) -> Shape:
         """The shape of a word of a memory, of which a simulator says the width alone: the circuit has its bits in the order of
@@ -104,32 +114,47 @@ class Named(NamedTuple):
 
     def bits(self) -> List[Named]:
         """Each bit as a signal of its own."""
-        return [Named(f"{self.path}[{index}]", self.letter, {-1: at})
-                for index, at in self.positions.items() if index >= 0]
+        return [Named(f"{self.path}[{index}]", f"{self.text}[{index}]", self.letter, {ALONE: at})
+                for index, at in self.positions.items() if index != ALONE]
 
     @property
     def is_given(self) -> bool:
         """Whether this is perhaps no name of the sources."""
         return is_given(self.path)
 
-    @property
-    def is_plain(self) -> bool:
-        """Whether a testbench can have this name."""
-        return _PATH.fullmatch(self.path) is not None
-
 
 def is_given(path: str) -> bool:
     return _GIVEN.fullmatch(path) is not None
 
 
-def named(entries: Iterable[Entry]) -> List[Named]:
-    """All signals by all of their names."""
+def named(entries: Iterable[Entry], escaped: AbstractSet[str] = frozenset()) -> List[Named]:
+    """All signals by all of their names. The sources have these names with a backslash."""
     found: Dict[Tuple[str, str], Dict[int, int]] = {}
+    lost: Set[Tuple[str, str]] = set()
     for entry in entries:
         for word in entry.name.split(" ") if entry.letter in "ilo" else []:
-            match = _BIT.fullmatch(word)
-            if match:
-                found.setdefault((match[1], entry.letter), {})[int(match[2])] = entry.position
-            elif word:
-                found.setdefault((word, entry.letter), {})[-1] = entry.position
-    return [Named(path, letter, positions) for (path, letter), positions in found.items()]
+            match = None if escaped and written(word, escaped).endswith(" ") else BIT.fullmatch(word)
+            path, index = (match[1], int(match[2])) if match else (word, ALONE)
+            places = found.setdefault((path, entry.letter), {})
+            if places and (index in places or (index == ALONE) != (ALONE in places)):  # `\\x[1] ` beside a vector x
+                lost.add((path, entry.letter))
+            places[index] = entry.position
+    return [Named(path, "" if (path, letter) in lost else written(path, escaped), letter, positions)
+            for (path, letter), positions in found.items() if path]
+
+
+def written(path: str, escaped: AbstractSet[str]) -> str:
+    """A name as Verilog writes it. Where it has one with a backslash, the longest one is meant. Empty if there is none."""
+    parts, rest = [], path
+    while rest:
+        long = max((it for it in escaped if re.match(re.escape(it) + r"(?:[.\[]|$)", rest)), key=len, default="")
+        plain = _PLAIN.match(rest)
+        name = long or (plain[0] if plain else "")
+        indexes = _INDEXES.match(rest, len(name))
+        assert indexes is not None
+        rest = rest[indexes.end():]
+        parts.append((f"\\{long} " if long else name) + indexes[0])
+        if not name or rest and (rest[0] != "." or len(rest) == 1):
+            return ""
+        rest = rest[1:]
+    return ".".join(parts)

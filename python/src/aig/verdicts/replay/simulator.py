@@ -11,14 +11,17 @@ from pathlib import Path
 from typing import Dict, Sequence
 
 from ..tools import Ran, Stop, found, run
-from .adapted import NotReplayed
+from .words import NotReplayed
 from .lines import numbered
 
 # How long a simulator may take, by the processor and by the clock, and how much it may write.
 SECONDS, MOST_SECONDS, MEGABYTES = 60, 1200.0, 256
 ENDLESS = f"a simulation takes over {SECONDS} s of processor time, or writes over {MEGABYTES} MB"
-BENCH = "aig_tb.v"
+BENCH, BEGIN = "aig_tb.v", "aig.begin.v"
+# Icarus Verilog reads the same text as others: it does not have a macro that says which program reads it.
+_AS_OTHERS = "`undef __ICARUS__\n"
 _ERROR = re.compile(r"aig_tb\.v:(\d+): (?:error|sorry)")
+_CAST = re.compile(r"aig_tb\.v:(\d+): error: This assignment requires an explicit cast")
 _FIXED = re.compile(r"error: dut\.(\S+)\[[^\]]*\] is not a valid l-value")
 _NO_PORT = re.compile(r"port ``(\S+)'' is not a port")
 
@@ -30,6 +33,7 @@ class Rejected(Exception):
     no_ports   the names that are no ports
     is_syntax  whether it does not know a word
     fixed      arrays of wires, of which a word cannot be given a value
+    casts      the lines that give a number to a variable of an `enum`
     is_double  whether a register drives what the design drives too
     """
 
@@ -40,6 +44,7 @@ class Rejected(Exception):
         self.is_syntax = "syntax error" in said
         self.is_double = "unresolved wire" in said
         self.fixed = frozenset(_FIXED.findall(said))
+        self.casts = [int(it) for it in _CAST.findall(said)]
 
 
 @dataclass
@@ -73,7 +78,9 @@ class Simulator:
             folder = Path(name)
             for source, text in sources.items():
                 (folder / source).write_text(numbered(source, text), encoding="latin-1")
-            words = [self.program, "-g2012", "-E", *(f"-D{it}" for it in defines), "-o", "aig.pre.v", *names]
+            (folder / BEGIN).write_text(_AS_OTHERS)
+            files = [f"./{it}" for it in (BEGIN, *names)]  # no name is an option
+            words = [self.program, "-g2012", "-E", *(f"-D{it}" for it in defines), "-o", "aig.pre.v", *files]
             ran = self._ran(words, folder)
             if ran.status != 0:
                 raise NotReplayed(f"{self.program}: {first_error(ran.said)}")

@@ -4,14 +4,14 @@ from __future__ import annotations
 
 import random
 from dataclasses import dataclass
-from typing import Dict, List, NamedTuple, Sequence, Tuple
+from typing import Collection, Dict, List, NamedTuple, Sequence, Tuple
 
 from ...circuit import Circuit
-from ..row import CONFIRMED
+from ..checked import CONFIRMED
 from ..timing import Timing
 from ..tools import Stop, ask
-from .adapted import NotReplayed
-from .signals import Frame
+from .words import NotReplayed
+from .signals import BIT, Frame
 
 # A held input of one bit is released in one frame of so many.
 RELEASES = 16
@@ -62,6 +62,13 @@ def of_witness(circuit: Circuit, witness: bytes, stop: Stop) -> List[Frame]:
     return frames
 
 
+def with_other_start(circuit: Circuit, frames: Sequence[Frame], flipped: Collection[int], stop: Stop) -> List[Frame]:
+    """The same run from a start in which these latches have the other value."""
+    start = "".join("10"[int(bit)] if at in flipped else bit for at, bit in enumerate(frames[0][0]))
+    lines = ["1", "b0", start, *(frame[1] for frame in frames), ".", ""]
+    return _played(circuit, "\n".join(lines).encode(), stop)[0]
+
+
 def _played(circuit: Circuit, witness: bytes, stop: Stop) -> Tuple[List[Frame], str]:
     said = ask(stop, "check", "--trace", "--properties", files=[circuit.file, witness], good=(0, 1)).decode()
     *lines, verdict = said.splitlines()
@@ -70,38 +77,41 @@ def _played(circuit: Circuit, witness: bytes, stop: Stop) -> Tuple[List[Frame], 
 
 @dataclass
 class Dice:
-    """Random runs of a circuit, with random values in latches that begin with any."""
+    """Random runs of a circuit, with random values in latches that begin with any. A seed chooses all of them."""
 
     circuit: Circuit
     timing: Timing
     holds: Sequence[Hold]
     stop: Stop
+    seed: int = 0
 
     def __post_init__(self) -> None:
         inputs = [it for it in self.circuit.entries if it.letter == "i"]
         self._bits: Dict[str, List[Tuple[int, int]]] = {}
         for entry in inputs:
             for word in entry.name.split(" "):
-                name, _, index = word.rstrip("]").partition("[")
-                self._bits.setdefault(name, []).append((int(index) if index.isdigit() else 0, entry.position))
+                match = BIT.fullmatch(word)
+                name, index = (match[1], int(match[2])) if match else (word, 0)
+                self._bits.setdefault(name, []).append((index, entry.position))
         for hold in self.holds:
             if hold.name not in self._bits:
                 raise NotReplayed(f"--hold: there is no input {hold.name}")
         self._count = len(inputs)
         self._clocks = sorted(at for name in self.timing.first for _, at in self._bits.get(name, []))
 
-    def run(self, frames: int, seed: int) -> List[Frame]:
-        """A run of so many frames. A seed gives the same run each time."""
-        dice, latches, holds = random.Random(seed), latches_of(self.circuit), self._holds(seed)
-        pasts = {it.position: "01"[seed % 2] for it in self.circuit.entries if it.letter == "l" and "past_" in it.name}
+    def run(self, frames: int, number: int) -> List[Frame]:
+        """The run of this number, of so many frames: the same one each time."""
+        dice = random.Random(f"{self.seed} {number}" if self.seed else number)
+        latches, holds = latches_of(self.circuit), self._holds(number)
+        pasts = {it.position: "01"[number % 2] for it in self.circuit.entries if it.letter == "l" and "past_" in it.name}
         start = [pasts.get(at, dice.choice("01")) if latches.is_open(at) else reset
                  for at, reset in enumerate(latches.resets)]
         values = [dice.choice("01") for _ in range(self._count)]
         lines = []
-        for number in range(frames):
-            self._hold(values, holds, number, dice)
+        for at in range(frames):
+            self._hold(values, holds, at, dice)
             lines.append("".join(values))
-            values = self._next(values, dice, CHANGES[seed % len(CHANGES)])
+            values = self._next(values, dice, CHANGES[number % len(CHANGES)])
         text = "\n".join(["1", "b0", "".join(start), *lines, ".", ""]).encode()
         return _played(self.circuit, text, self.stop)[0]
 
@@ -116,11 +126,11 @@ class Dice:
                 changed[at] = "10"[int(values[at])]
         return changed
 
-    def _holds(self, seed: int) -> List[Hold]:
+    def _holds(self, run: int) -> List[Hold]:
         """What is held. An asynchronous reset begins a run, but for the first one."""
         named = {it.name for it in self.holds}
         resets = [Hold(it.split(" ")[1], int(it.startswith("posedge")), RESET) for it in self.timing.resets]
-        return [*self.holds, *(it for it in resets if seed > 1 and it.name not in named and it.name in self._bits)]
+        return [*self.holds, *(it for it in resets if run > 1 and it.name not in named and it.name in self._bits)]
 
     def _hold(self, values: List[str], holds: Sequence[Hold], number: int, dice: random.Random) -> None:
         """A held input of one bit has the other value in most of the later frames."""

@@ -2,6 +2,8 @@
 
 from __future__ import annotations
 
+import random
+import re
 from dataclasses import dataclass, field
 from typing import Dict, FrozenSet, Iterator, List, Optional, Sequence, Set, Tuple
 
@@ -12,6 +14,8 @@ from ..timing import Timing
 TIMESCALE, TIMESCALE_OF_DESIGN = "`timescale 1us/1ns", "`timescale 1ns/1ns"
 # How many values are on one line of the log.
 IN_A_LINE = 64
+# The other part of a concatenation.
+SPARE = "spare_bit"
 # How often a value is given to signals that are x: one x may be the cause of others.
 ROUNDS = 2
 
@@ -27,8 +31,10 @@ class Player:
     words      words of memories, which begin so too
     shown      all signals whose values are compared
     waited     the names that a block waits for an edge of
+    clock      the one clock, if there is one
     wired      whether wires are between the registers of the testbench and the ports, as `inout` needs them
     fixed      names of arrays of wires, whose words get no values
+    typed      names of variables that take no number, as those of an `enum`
     """
 
     top: str
@@ -40,13 +46,22 @@ class Player:
     words: Sequence[Signal]
     shown: Sequence[Signal]
     waited: FrozenSet[str] = frozenset()
+    clock: Optional[Signal] = None
     wired: bool = False
     fixed: FrozenSet[str] = frozenset()
+    typed: FrozenSet[str] = frozenset()
+
+    def gives(self, signal: Signal, value: str) -> str:
+        """Gives a signal a value. A variable of an `enum` takes only a value of its type. The name of that type is not
+        known outside of the design, but a variable takes any bits as a part of a concatenation with two parts."""
+        if signal.text in self.typed:
+            return f"{{dut.{signal.text}, {SPARE}}} = {{{value}, 1'b0}};"
+        return f"dut.{signal.text} = {value};"
 
     def turned(self, register: Signal, frame: Frame) -> str:
         """Another value of a register, where no block waits for an edge of it: an asynchronous reset would change others."""
-        name = register.path.rpartition(".")[2]
-        return f"{'' if name in self.waited else '~'}{register.value(frame)}"
+        is_waited = any(register.path == it or register.path.endswith(f".{it}") for it in self.waited)
+        return f"{'' if is_waited else '~'}{register.value(frame)}"
 
     def takes(self, word: Signal) -> bool:
         """Whether a testbench can give a signal a value."""
@@ -54,7 +69,11 @@ class Player:
 
     def drives(self, port: Signal) -> str:
         """The register that gives a port its value."""
-        return f"drives_{port.path}" if self.wired else port.path
+        return _of_bench("drives", port)
+
+    def joins(self, port: Signal) -> str:
+        """What is connected to a port."""
+        return _of_bench("joins", port) if self.wired else self.drives(port)
 
     def wanted(self, signal: Signal, frames: Sequence[Frame], number: int) -> Optional[Frame]:
         """The frame that has the value of a signal in this one. With several clocks, the circuit writes a memory one
@@ -64,34 +83,44 @@ class Player:
         return frames[number + 1] if number + 1 < len(frames) else None
 
 
-def asking(top: str, ports: Sequence[str], names: Sequence[Named]) -> List[str]:
+def _of_bench(prefix: str, port: Signal) -> str:
+    """A name of the testbench for a port."""
+    return f"{prefix}_{port.text}" if port.text == port.path else f"\\{prefix}_{port.path} "
+
+
+def asking(top: str, ports: Sequence[Named], names: Sequence[Named]) -> List[str]:
     """The lines of a testbench that prints the shapes of ports and signals. One line has one of them."""
     lines = [TIMESCALE, "module aig_tb;", "  reg initstate = 1;", f"  {top} dut("]
-    lines += [f"    .{port}(){',' if port != ports[-1] else ''}" for port in ports]
+    lines += [f"    .{port.text}(){',' if port != ports[-1] else ''}" for port in ports]
     lines += ["  );", "  initial begin"]
-    lines += [f'    $display("aig shape p{at} %0d %0d", $left(dut.{port}), $right(dut.{port}));'
-              for at, port in enumerate(ports)]
-    lines += [f'    $display("aig shape s{at} {_ranged(it.path)}, dut.{it.path});' for at, it in enumerate(names)]
+    lines += [f'    $display("aig shape p{at} %0d %0d", $left(dut.{it.text}), $right(dut.{it.text}));'
+              for at, it in enumerate(ports)]
+    lines += [f'    $display("aig shape s{at} {_ranged(it.text)}, dut.{it.text});' for at, it in enumerate(names)]
     return [*lines, "    $finish;", "  end", "endmodule", ""]
 
 
-def _ranged(path: str) -> str:
+def _ranged(text: str) -> str:
     """What prints the range of a signal. Of a word of a memory the functions give the range of the addresses."""
-    return 'x x %b"' if path.endswith("]") else f'%0d %0d %b", $left(dut.{path}), $right(dut.{path})'
+    return 'x x %b"' if text.endswith("]") else f'%0d %0d %b", $left(dut.{text}), $right(dut.{text})'
 
 
-def _given(word: Signal, frame: Frame) -> Iterator[str]:
+def _given(player: Player, word: Signal, frame: Frame) -> Iterator[str]:
     """Gives a word of a memory its value, or those bits that the circuit has."""
     if word.is_whole:
-        yield f"    dut.{word.path} = {word.value(frame)};"
+        yield f"    {player.gives(word, word.value(frame))}"
     else:
         bits = zip(word.shape.indexes(), word.bits(frame))
-        yield from (f"    dut.{word.path}[{index}] = {bit};" for index, bit in bits if bit != "?")
+        yield from (f"    dut.{word.text}[{index}] = {bit};" for index, bit in bits if bit != "?")
 
 
 def has_line_of(name: Named, line: str) -> bool:
     """Whether a line asks for the shape of this signal."""
-    return line.endswith(f", dut.{name.path});")
+    return line.endswith(f", dut.{name.text});")
+
+
+def given_in(lines: Sequence[str]) -> FrozenSet[str]:
+    """The names of the signals that get a value in these lines."""
+    return frozenset(name for line in lines for name in re.findall(r"\bdut\.(\S+) = ", line))
 
 
 @dataclass
@@ -112,14 +141,13 @@ class Playing:
 
     def _lines(self) -> Iterator[str]:
         player, first = self.player, self.frames[0]
-        clock = player.timing.clock_name
-        if player.wired and clock:
-            clock = f"drives_{clock}"
+        clock = player.drives(player.clock) if player.clock else ""
         idle = "0" if player.timing.edge == "posedge" else "1"
         yield TIMESCALE
         yield "module aig_tb;"
         yield "  reg initstate = 1;"
         yield f"  reg [{max(len(player.shown), 1) - 1}:0] chosen = 0; // which x has the value of the run"
+        yield from [f"  reg {SPARE}; // so that a variable of an enum takes any bits"] if player.typed else []
         for it in player.ports:
             value = ""
             if it.path == player.timing.clock_name:
@@ -128,23 +156,23 @@ class Playing:
                 value = f" = {it.value(first)}"
             yield f"  reg {it.shape.declared}{player.drives(it)}{value};"
             if player.wired:
-                yield f"  wire {it.shape.declared}{it.path} = {player.drives(it)};"
-        yield f"  {player.top} dut({', '.join(f'.{it.path}({it.path})' for it in player.ports)});"
+                yield f"  wire {it.shape.declared}{player.joins(it)} = {player.drives(it)};"
+        yield f"  {player.top} dut({', '.join(f'.{it.text}({player.joins(it)})' for it in player.ports)});"
         yield from self._show()
         yield "  initial begin"
         yield "    #1;"
         for it in filter(player.takes, player.constants):
-            yield from _given(it, first) if it.is_word else [f"    force dut.{it.path} = {it.value(first)};"]
-        yield from self._inputs(first, "all")
-        yield "    #1;"
+            yield from _given(player, it, first) if it.is_word else [f"    force {player.gives(it, it.value(first))}"]
         yield '    $display("aig own"); show;'
+        yield from self._inputs(0, "all")
+        yield "    #1;"
         yield "    // each register changes once, so that each `always @*` runs; then it has its first value"
         for values in ([player.turned(it, first) for it in player.registers], [it.value(first) for it in player.registers]):
-            yield from (f"    force dut.{it.path} = {value};" for it, value in zip(player.registers, values))
+            yield from (f"    force {player.gives(it, value)}" for it, value in zip(player.registers, values))
             yield "    #1;"
-        yield from (f"    release dut.{it.path};" for it in player.registers)
+        yield from (f"    release dut.{it.text};" for it in player.registers)
         for it in filter(player.takes, player.words):
-            yield from _given(it, first)
+            yield from _given(player, it, first)
         yield '    $display("aig start");'
         for number, frame in enumerate(self.frames):
             yield from self._frame(number, frame, clock, idle)
@@ -159,7 +187,7 @@ class Playing:
         yield "    begin"
         for at in range(0, len(shown), IN_A_LINE):
             some = shown[at:at + IN_A_LINE]
-            form, paths = " ".join(["%b"] * len(some)), ", ".join(f"dut.{it.path}" for it in some)
+            form, paths = " ".join(["%b"] * len(some)), ", ".join(f"dut.{it.text}" for it in some)
             yield f'      $display("aig values {at} {form}", {paths});'
         yield "    end"
         yield "  endtask"
@@ -172,7 +200,7 @@ class Playing:
             yield from self._release(False)
             yield f'    initstate = 0; $display("aig data {number}");'
             for group in ("first", "rest"):
-                yield from self._inputs(frame, group)
+                yield from self._inputs(number, group)
                 yield "    #2;"
             if clock:
                 yield f"    {clock} = {idle};"
@@ -183,7 +211,7 @@ class Playing:
             for group in self.order:
                 if group == "rest" and self.order[0] == "first":
                     yield f'    $display("aig data {number}");'
-                yield from self._inputs(frame, group)
+                yield from self._inputs(number, group)
                 yield "    #1;"
         yield "    #1;"
         yield from self._choose(number)
@@ -191,15 +219,17 @@ class Playing:
         if number + 1 < len(self.frames):
             yield from self._release(True)
 
-    def _inputs(self, frame: Frame, group: str) -> Iterator[str]:
-        """The inputs of a frame: those that change first, the rest, or all. The one clock is not among them."""
-        clock, first = self.player.timing.clock_name, self.player.timing.first
-        words = [f"{self.player.drives(it)} = {it.value(frame)};" for it in self.player.ports
+    def _inputs(self, number: int, group: str) -> Iterator[str]:
+        """The inputs of a frame: those that change first, the rest, or all. The one clock is not among them. What the circuit
+        does not have gets random values: as it says, nothing reads that."""
+        clock, first, frame = self.player.timing.clock_name, self.player.timing.first, self.frames[number]
+        other = random.Random(number)
+        words = [f"{self.player.drives(it)} = {it.value(frame, other)};" for it in self.player.ports
                  if it.path != clock and (group == "all" or (it.path in first) == (group == "first"))]
-        if group != "first":
-            words += [f"force dut.{it.path} = {it.value(frame)};" for it in self.player.free]
         if words:
             yield f"    {' '.join(words)}"
+        if group != "first":
+            yield from (f"    force {self.player.gives(it, it.value(frame))}" for it in self.player.free)
 
     def _watched(self) -> Iterator[Tuple[int, Signal]]:
         return ((at, it) for at, it in enumerate(self.player.shown)
@@ -213,10 +243,10 @@ class Playing:
                 if wanted is None:
                     continue
                 value = it.value(wanted)
-                given = f"dut.{it.path} = {value};"
+                given = self.player.gives(it, value)
                 if not it.is_word:
                     given = f"force {given} chosen[{at}] = 1;"
-                yield (f"    if (|(dut.{it.path} ^ {value}) === 1'bx) begin "
+                yield (f"    if (|(dut.{it.text} ^ {value}) === 1'bx) begin "
                        f'$display("aig x {number} {at}"); {given} end')
             yield "    #1;"
 
@@ -226,8 +256,8 @@ class Playing:
         registers = {it.path for it in self.player.registers}
         for at, it in self._watched():
             if not it.is_word and (it.path in registers) == is_register:
-                again = "" if is_register else f"force dut.{it.path} = {len(it.columns)}'bx; "
-                yield f"    if (chosen[{at}]) begin {again}release dut.{it.path}; chosen[{at}] = 0; end"
+                again = "" if is_register else "force " + self.player.gives(it, f"{len(it.columns)}'bx") + " "
+                yield f"    if (chosen[{at}]) begin {again}release dut.{it.text}; chosen[{at}] = 0; end"
 
 
 def shapes(log: str) -> Dict[str, Shape]:

@@ -1,0 +1,234 @@
+"""Where each verdict begins. `check` has `aig` answer the commands of a claim, and makes a `Checked` of its answers.
+Nothing else makes one, and nothing else is a verdict: rows, tables, pages and exit statuses take a `Checked`, and
+decisions.py says what it means. Who audits a `recheck` reads these two files."""
+
+from __future__ import annotations
+
+import hashlib
+from dataclasses import InitVar, dataclass
+from typing import Callable, Dict, List, Mapping, NamedTuple, Tuple
+
+from ..errors import AigError
+from .tools import Stop, answer
+
+CIRCUIT = "circuit.aig"
+# The position of the row that says whether some run keeps the constraints.
+CONSTRAINTS = -1
+# Lines that `aig` prints.
+CONFIRMED, UNREACHABLE, ALIVE = "confirmed", "unreachable", "alive"
+
+
+class Wrong(Exception):
+    """Something is not what somebody says."""
+
+
+class Rejected(Wrong):
+    """`aig` rejects a file that has to show something."""
+
+    def __init__(self, label: str, command: str, error: AigError):
+        super().__init__(f"{label}: aig {command}: {error.part}: {error.reason}")
+        self.error = error
+
+
+def expect(condition: bool, what: str) -> None:
+    if not condition:
+        raise Wrong(what)
+
+
+def sum_of(data: bytes) -> str:
+    return hashlib.sha256(data).hexdigest()
+
+
+class Shown(NamedTuple):
+    """The files that show a verdict, by role: those that have to be there, and those that may."""
+
+    needed: Tuple[str, ...] = ()
+    possible: Tuple[str, ...] = ()
+
+
+# What a verdict is found by, and the files of each. A row that nothing shows has none.
+WAYS: Dict[str, Shown] = {
+    "run": Shown(("witness",), ("shorter",)),
+    "induction": Shown(("base", "step")),
+    "certificate": Shown(("certificate", "proof")),
+    "bound": Shown(("base",)),
+    "alive": Shown(("alive",)),
+    "kept": Shown(("witness",)),
+    "": Shown(),
+}
+
+
+class Command(NamedTuple):
+    """The arguments of `aig`, and the line that it has to print. A file is its name in the bundle."""
+
+    prints: str
+    words: List[str]
+
+
+class Parts(NamedTuple):
+    """The arguments of a command about files of the bundle: options, the files that options name, and the last file."""
+
+    options: List[str]
+    named: Dict[str, str]
+    last: str
+
+
+def parts_of(words: List[str]) -> Parts:
+    """The parts of a command of a claim."""
+    options, named = words[1:-2], {}
+    for option in ("--step", "--certificate"):
+        if option in options:
+            place = options.index(option)
+            named[option] = options[place + 1]
+            del options[place : place + 2]
+    return Parts(options, named, words[-1])
+
+
+@dataclass(frozen=True)
+class Claim:
+    """What somebody says: that files show a verdict on a property. Nothing of it is believed.
+
+    by      a key of WAYS
+    frames  of the run, the induction or the bound
+    named   the names of the files, by their roles
+    """
+
+    position: int
+    by: str
+    frames: int
+    named: Tuple[Tuple[str, str], ...] = ()
+
+    @property
+    def files(self) -> Dict[str, str]:
+        return dict(self.named)
+
+    @property
+    def label(self) -> str:
+        return "constraints" if self.position == CONSTRAINTS else f"b{self.position}"
+
+    @property
+    def _property(self) -> str:
+        return f"--property={self.position}"
+
+    @property
+    def line(self) -> str:
+        """What `aig` prints if the claim is right: the verdict."""
+        return {"run": CONFIRMED, "induction": UNREACHABLE, "certificate": UNREACHABLE, "kept": ALIVE,
+                "bound": f"unreachable within {self.frames}", "alive": f"no run of {self.frames} frames"}[self.by]
+
+    def commands(self) -> List[Command]:
+        """The commands that check the claim. The first one prints its line."""
+        files = self.files
+        if self.by == "run":
+            shown = [Command(self.line, ["check", self._property, CIRCUIT, files["witness"]])]
+            if "shorter" in files:
+                shown.append(self._bounded(self.frames - 1, files["shorter"]))
+            return shown
+        if self.by == "induction":
+            step = ["--step", files["step"]]
+            return [self._refuted(self.line, [f"--frames={self.frames}"], step, files["base"])]
+        if self.by == "certificate":
+            certificate = ["--certificate", files["certificate"]]
+            return [self._refuted(self.line, [], certificate, files["proof"])]
+        if self.by == "bound":
+            return [self._bounded(self.frames, files["base"])]
+        if self.by == "kept":
+            words = ["check", "--alive", f"--frames={self.frames}", CIRCUIT, files["witness"]]
+            return [Command(self.line, words)]
+        if self.by == "alive":
+            words = ["refute", "--alive", f"--frames={self.frames}", CIRCUIT, files["alive"]]
+            return [Command(self.line, words)]
+        return []
+
+    def _bounded(self, frames: int, proof: str) -> Command:
+        return self._refuted(f"unreachable within {frames}", [f"--frames={frames}"], [], proof)
+
+    def _refuted(self, prints: str, frames: List[str], more: List[str], proof: str) -> Command:
+        return Command(prints, ["refute", *frames, self._property, *more, CIRCUIT, proof])
+
+
+# Only this module has it, so only `check` makes a Checked.
+_KEY = object()
+
+
+@dataclass(frozen=True)
+class Checked:
+    """A claim that `aig` confirmed: each command ended with status 0 and printed exactly its line.
+
+    claim    what was asked, of which property, for how many frames, and by which commands
+    circuit  the sum of the circuit (SHA-256)
+    sums     those of the files, by role
+    key      that of this module
+    """
+
+    claim: Claim
+    circuit: str
+    sums: Mapping[str, str]
+    key: InitVar[object]
+
+    def __post_init__(self, key: object) -> None:
+        if key is not _KEY:
+            raise TypeError("only a check makes a Checked")
+
+    def __reduce__(self) -> str:
+        raise TypeError("a Checked stays in its process: another one has to check the claim again")
+
+    @property
+    def line(self) -> str:
+        """The line that `aig` printed: the verdict."""
+        return self.claim.line
+
+    @property
+    def by(self) -> str:
+        return self.claim.by
+
+    @property
+    def frames(self) -> int:
+        return self.claim.frames
+
+    def is_about(self, claim: Claim, circuit: str, files: Mapping[str, bytes]) -> bool:
+        """Whether it is about this claim, circuit and files, by their content. The files are there by their roles."""
+        return (self.claim, self.circuit) == (claim, circuit) and self.sums == {
+            role: sum_of(data) for role, data in files.items()}
+
+
+def check(claim: Claim, circuit: bytes, read: Callable[[str], bytes], stop: Stop) -> Checked:
+    """Has `aig` answer each command of a claim about a circuit. `read` has the bytes of a file by its name. A Wrong
+    says what is not as claimed."""
+    texts: Dict[str, bytes] = {}
+
+    def text(name: str) -> bytes:
+        """The file, which is read once: it may change meanwhile."""
+        if name not in texts:
+            texts[name] = read(name)
+        return texts[name]
+
+    commands = claim.commands()
+    expect(commands != [] and commands[0].prints == claim.line, f"nothing shows the verdict of {claim.label}")
+    if claim.by == "run":
+        _look_at_witness(claim, text(claim.files["witness"]))
+    for command in commands:
+        _ask(claim, command, circuit, text, stop)
+    return Checked(claim, sum_of(circuit), {role: sum_of(text(name)) for role, name in claim.named}, _KEY)
+
+
+def _look_at_witness(claim: Claim, witness: bytes) -> None:
+    """That a witness is about the property of its claim, and as long."""
+    expect(witness.split(b"\n", 2)[1:2] == [b"b%d" % claim.position],
+           f"the witness of {claim.label} is for another property")
+    expect(witness.count(b"\n") - 4 == claim.frames, f"the witness of {claim.label} has another number of frames")
+
+
+def _ask(claim: Claim, command: Command, circuit: bytes, text: Callable[[str], bytes], stop: Stop) -> None:
+    """Has `aig` answer a command, and compares its line and its status."""
+    line, words = command
+    options, files, last = parts_of(words)
+    expect(words[-2] == CIRCUIT, f"{claim.label} is about another circuit")
+    named = {option: text(file) for option, file in files.items()}
+    try:
+        said = answer(stop, words[0], *options, files=[circuit, text(last)], named=named, good=(0, 1))
+    except AigError as error:
+        raise Rejected(claim.label, words[0], error) from None
+    printed = said.out.decode("ascii", "replace")
+    expect(printed == f"{line}\n", f"{claim.label}: aig {words[0]} prints {printed.strip()!r}, and not {line!r}")
+    expect(said.status == 0, f"{claim.label}: aig {words[0]} prints {line!r} and ends with status {said.status}")

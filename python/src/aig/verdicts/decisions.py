@@ -1,0 +1,250 @@
+"""What checks mean: the word and the mark of each assertion and cover, the exit status, and the last line. These are
+functions of rows alone. A word that says something of a circuit needs a `Checked`, and only checked.py makes one. Who
+audits a `recheck` reads these two files."""
+
+from __future__ import annotations
+
+from dataclasses import dataclass, replace
+from typing import TYPE_CHECKING, Any, Callable, Dict, Final, List, Literal, NamedTuple, Optional, Sequence, Union
+
+from .checked import CONFIRMED, UNREACHABLE, Checked, Wrong, expect
+from .cycles import Moment
+from .row import LEFT_OUT, UNDECIDED, Row
+
+if TYPE_CHECKING:
+    from .simulated import Simulated
+
+# Exit statuses of a table that is whole.
+GOOD, OPEN, BAD = 0, 4, 5
+# Those without a table, and that of a run that was stopped.
+REJECTED, WRONG_ARGUMENTS, UNREADABLE, INTERRUPTED = 1, 2, 3, 130
+# The result of a row that a simulator denies.
+DISAGREES: Final = "disagrees"
+# What is said of the sources.
+SAME_CIRCUIT, NOT_COMPARED = "Yosys makes the same circuit of the sources", "Not compared with the sources"
+
+
+class Meaning(NamedTuple):
+    """What a result asks for: an exit status, a mark, how it looks on the page, and an element of JUnit."""
+
+    status: int
+    mark: str
+    look: str
+    junit: str
+
+
+MEANINGS = {
+    "fails": Meaning(BAD, "✗", "bad", "failure"),
+    "never": Meaning(BAD, "✗", "bad", "failure"),
+    DISAGREES: Meaning(OPEN, "≠", "warn", "error"),
+    "vacuous": Meaning(OPEN, "∅", "warn", "failure"),
+    "undecided": Meaning(OPEN, "?", "warn", "error"),
+    LEFT_OUT: Meaning(OPEN, "–", "warn", "skipped"),
+    "bounded": Meaning(OPEN, "◐", "warn", "skipped"),
+    "holds": Meaning(GOOD, "✓", "good", ""),
+    "reached": Meaning(GOOD, "✓", "good", ""),
+}
+# The words of a result, where they are others. Those of `bounded` have the frames after them.
+WORDS = {"never": "never reached"}
+Found = Literal["fails", "never", "bounded", "holds", "reached"]
+
+
+@dataclass(frozen=True)
+class Decided:
+    """A result that says something of the circuit, and its check. Of a vacuous row that is the check of its condition,
+    or of the assumptions."""
+
+    result: Union[Found, Literal["vacuous"]]
+    shown: Checked
+
+
+@dataclass(frozen=True)
+class Undecided:
+    """A result that says nothing of the circuit."""
+
+    result: Literal["undecided", "left out", "disagrees"]
+
+
+@dataclass(frozen=True)
+class Judged:
+    """A row of the table.
+
+    said    fails, holds, bounded, vacuous, undecided or left out of an assertion; reached, never, bounded, .. of a
+            cover; disagrees of one that a simulator denies
+    why     of a vacuous one, in words
+    proof   the row that shows it, where that is not the row itself
+    doubt   of one that may be vacuous, in words
+    moment  of one with a run: when the assertion fails, or the cover is reached
+    simulated  what a simulator says of its run, in words
+    denied  that a simulator denies the circuit, in words
+    """
+
+    row: Row
+    said: Union[Decided, Undecided]
+    why: str = ""
+    proof: Optional[Row] = None
+    doubt: str = ""
+    moment: Optional[Moment] = None
+    simulated: str = ""
+    denied: str = ""
+
+    @property
+    def result(self) -> str:
+        return self.said.result
+
+    @property
+    def words(self) -> str:
+        if self.result == "bounded":
+            return f"{'not reached' if self.row.kind == 'cover' else 'holds'} within {self.row.frames}"
+        return WORDS.get(self.result, self.result)
+
+    @property
+    def by(self) -> str:
+        return ", ".join(part for part in (self.way, self.at) if part)
+
+    @property
+    def way(self) -> str:
+        """How it was found."""
+        frames = self.row.frames
+        shown = {"run": f"run of {frames}", "induction": f"induction of {frames}", "certificate": "invariant"}
+        return shown.get(self.row.by, "")
+
+    @property
+    def at(self) -> str:
+        """When the assertion fails, or the cover is reached, if that is known."""
+        return f"at {self.moment}" if self.moment else ""
+
+    @property
+    def status(self) -> int:
+        """The exit status that this row asks for."""
+        return max(MEANINGS[self.result].status, OPEN if self.doubt or self.denied else GOOD)
+
+    @property
+    def look(self) -> str:
+        """How the row looks: one that is in doubt is not good."""
+        return "warn" if self.doubt or self.denied else MEANINGS[self.result].look
+
+    @property
+    def junit(self) -> str:
+        """What a CI server takes the row for: an element of JUnit, or nothing if it passes."""
+        return MEANINGS[self.result].junit
+
+    def denied_by(self, said: str) -> Judged:
+        """The same row, where a simulator denies it."""
+        return replace(self, said=Undecided(DISAGREES), simulated=said)
+
+
+class Judge:
+    """Judges rows by each other: the rows of conditions and of the constraints say what is vacuous."""
+
+    def __init__(self, rows: Sequence[Row]):
+        self._alive = next((row for row in rows if row.kind == "constraints"), None)
+        self._conditions: Dict[Optional[int], Row] = {row.of: row for row in rows if row.kind == "condition"}
+        circuits = {row.checked.circuit for row in rows if row.checked is not None}
+        expect(len(circuits) <= 1, "the rows are about several circuits")
+
+    def of(self, row: Row) -> Judged:
+        own = row.checked
+        if own is None:
+            return Judged(row, Undecided(LEFT_OUT if row.is_left_out else UNDECIDED))
+        result = _alone(row, own)
+        alive = self._alive.checked if self._alive is not None else None
+        if alive is not None and alive.by == "alive" and result in ("holds", "never", "bounded"):
+            said = f"no run keeps the assumptions for {alive.frames} frames"
+            return Judged(row, Decided("vacuous", alive), said, self._alive)
+        condition = self._conditions.get(row.position)
+        if condition is not None and result in ("holds", "bounded"):
+            asked = condition.checked
+            if asked is not None and asked.line == UNREACHABLE:
+                said = "its condition is never true: nothing is asserted in any run"
+                return Judged(row, Decided("vacuous", asked), said, condition)
+            if asked is None or asked.line != CONFIRMED:
+                return Judged(row, Decided(result, own), doubt="whether its condition is ever true is not decided")
+        return Judged(row, Decided(result, own))
+
+    def waits_for(self, row: Row) -> List[Row]:
+        """The rows that have a say in what this one means."""
+        rows = [row, self._alive, self._conditions.get(row.position)]
+        return [it for it in rows if it is not None]
+
+
+def _alone(row: Row, own: Checked) -> Found:
+    """What the check of a row means if nothing is vacuous."""
+    cover = row.kind == "cover"
+    if own.line == CONFIRMED:
+        return "reached" if cover else "fails"
+    if own.by == "bound":
+        return "bounded"
+    if own.line == UNREACHABLE:
+        return "never" if cover else "holds"
+    raise Wrong(f"{row.label} has the verdict of another kind of row")
+
+
+def judge(rows: Sequence[Row], moment: Callable[[Row], Optional[Moment]] = lambda _: None) -> List[Judged]:
+    """The table, in the order of the properties, which is that of the sources. `moment` has that of a row's run."""
+    judged = Judge(rows)
+    table = [judged.of(row) for row in rows if row.kind in ("assert", "cover")]
+    table = [replace(it, moment=moment(it.row)) if it.row.by == "run" else it for it in table]
+    return sorted(table, key=lambda it: it.row.position)
+
+
+def exit_status(table: Sequence[Judged], count: int) -> int:
+    """0 if all hold and all covers are reached, 5 if one fails or is never reached, else 4: also if the table has not
+    all of so many rows."""
+    missing = [OPEN] * (len(table) != count or count == 0)
+    return max([*missing, *(it.status for it in table)])
+
+
+DENIED = "denied by the simulator"
+_COUNTED = {
+    "assert": ("assertion", {"fails": "fail", DISAGREES: DENIED, "holds": "hold",
+                             "bounded": "hold for the frames searched", "vacuous": "vacuous", "undecided": "undecided", LEFT_OUT: LEFT_OUT}),
+    "cover": ("cover", {"reached": "reached", DISAGREES: DENIED, "never": "never reached",
+                        "bounded": "not reached within the bound", "vacuous": "vacuous", "undecided": "undecided", LEFT_OUT: LEFT_OUT}),
+}
+
+
+def summary(table: Sequence[Judged]) -> str:
+    """One sentence."""
+    parts = []
+    for kind, (noun, words) in _COUNTED.items():
+        found = [it.result for it in table if it.row.kind == kind]
+        if found:
+            counts = [f"{found.count(result)} {word}" for result, word in words.items() if result in found]
+            parts.append(f"{len(found)} {noun}{'s' * (len(found) > 1)}: {', '.join(counts)}")
+    return "; ".join(parts)
+
+
+def asked(manifest: Dict[str, Any]) -> int:
+    """How many assertions and covers MANIFEST.json has: each of them has to have its answer."""
+    return sum(row["kind"] in ("assert", "cover") for row in manifest["rows"])
+
+
+def checked(table: Sequence[Judged], count: int) -> str:
+    """How many verdicts `aig` checked, of so many rows: a row without a verdict has nothing to check."""
+    done = sum(it.row.checked is not None for it in table)
+    return "all checked by aig" if done == count > 0 else f"{done} of {count} checked by aig"
+
+
+def compared(has_sources: bool, has_yosys: bool, said: Simulated) -> str:
+    """What the last line of `recheck` says of the sources."""
+    if not has_sources:
+        return ""
+    yosys = f", and {SAME_CIRCUIT}" if has_yosys else ""
+    if not said.by:
+        return yosys or f"; {NOT_COMPARED[0].lower()}{NOT_COMPARED[1:]}"
+    if not said.agrees or DISAGREES in (it.word for it in said.rows.values()):
+        return f"{yosys}; ALARM: {said.by} disagrees, so the circuit may not be that of the sources"
+    means = "which is no proof" if said.is_compared else "so nothing is said of the sources"
+    return f"{yosys}; {said.circuit}, {means}"
+
+
+def line_of_recheck(table: Sequence[Judged], count: int, of_sources: str, are_own: bool) -> str:
+    """The last line of `recheck`, for so many rows."""
+    own = "; the sources are your files" if are_own else ""
+    return f"{summary(table)}; {checked(table, count)}{of_sources}{own}"
+
+
+def line_of_run(table: Sequence[Judged], has_sources: bool, said: Simulated) -> str:
+    """The last line of `run`, without the page."""
+    return summary(table) + ("; not compared with a simulator" if has_sources and not said.by else "")

@@ -1,0 +1,27 @@
+"""Rows as if `aig` had confirmed their verdicts, for tests of what checks mean. Of the package, checked.py alone makes
+a check."""
+
+from aig.verdicts import checked
+from aig.verdicts.checked import Checked, Claim
+from aig.verdicts.row import Row
+
+# That of the circuit which these rows are about.
+SUM = "0" * 64
+
+
+def believed(position, kind, name, file="", first=0, last=0, of=None, verdict="undecided", by="", frames=0, files=(),
+             notes=(), circuit=SUM):
+    """A row with this verdict. One that nothing shows has no check."""
+    row = Row(position, kind, name, file, first, last, of, verdict == "left out", notes=list(notes))
+    if by:
+        row.take(check_of(position, by, frames, files, circuit), circuit)
+    elif verdict == "alive":
+        row.claim = Claim(position, "", frames)
+    if row.claim is None and verdict not in ("undecided", row.verdict):
+        raise ValueError(f"{verdict} is not the verdict of {by}")
+    return row
+
+
+def check_of(position, by, frames, files=(), circuit=SUM):
+    """A check that nobody made."""
+    return Checked(Claim(position, by, frames, tuple(dict(files).items())), circuit, {}, checked._KEY)
