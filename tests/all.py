@@ -30,7 +30,8 @@ STEPS = "run_steps.py"
 # these run the package of Python, and aig-verdicts as far as it needs no other program
 PACKAGES = ("python/tests/run_package.py", "python/tests/run_explain.py", "python/tests/run_pages.py",
             "python/tests/run_bundles.py", "python/tests/run_circuit.py", "python/tests/run_replay.py",
-            "python/tests/run_netlists.py")
+            "python/tests/run_netlists.py", "python/tests/run_versions.py", "python/tests/run_sva.py",
+            "python/tests/run_reading.py")
 # this compares a few random designs with a simulator
 RANDOM = "python/tests/random_verilog.py"
 # this tries some of the planted bugs of the package

@@ -7,7 +7,8 @@
 #
 # It makes folders of each version below FOLDER (1 GB), and the next call uses them again. It is no part of the gate, and
 # needs root, debootstrap, unshare, dpkg-deb and a mirror of Debian (MIRROR, else that of debootstrap). STEPS names some of
-# the steps alone: suite, exchanged, package, wheel.
+# the steps alone: suite, exchanged, package, wheel; or peers, which runs benchmarks/peers.py with the options PEERS. Debian 12
+# has no drat-trim for it.
 #
 # usage: run_debians.sh PROGRAM FOLDER SUITE ..     as: run_debians.sh build/aig /var/tmp/debians bookworm trixie sid
 set -eu
@@ -25,6 +26,8 @@ plain() {
     [ ! -e "$folder/$1.plain/made" ] || return 0
     rm -rf "$folder/$1.plain"
     debootstrap --variant=minbase "$1" "$folder/$1.plain" $mirror > "$folder/$1.plain.log" 2>&1
+    # a mirror may have an older sid than its lists allow
+    echo 'Acquire::Check-Valid-Until "false";' > "$folder/$1.plain/etc/apt/apt.conf.d/90older"
     chroot "$folder/$1.plain" apt-get update >> "$folder/$1.plain.log" 2>&1
     touch "$folder/$1.plain/made"
 }
@@ -53,12 +56,13 @@ is_step() {
 }
 
 for suite; do
-    is_step suite || is_step exchanged || continue
+    is_step suite || is_step exchanged || is_step peers || continue
     made "$suite"
     said=$(chroot "$folder/$suite" sh -c 'yosys -V; iverilog -V; python3 -V; echo cadical $(cadical --version)' 2> /dev/null)
     echo "== $suite: $(echo "$said" | grep -E '^(Yosys|Icarus Verilog version|Python|cadical)' | tr '\n' ' ')"
     ! is_step suite || within "$folder/$suite" suite.sh "${COUNT:-500}"
     ! is_step exchanged || within "$folder/$suite" exchanged.sh make "$suite"
+    ! is_step peers || within "$folder/$suite" peers.sh ${PEERS:-}
 done
 if is_step exchanged; then
     for suite; do

@@ -14,21 +14,20 @@ import shutil
 import subprocess
 import sys
 
+from at_random import live_scripts
 from library import runs, supervised
+from library.c_header import HEADER, declared, exports, fields, structs
 from library.runs import EXAMPLES, REPOSITORY, TESTS, LeftOut, contents, leave_out
 
 sys.path.insert(0, REPOSITORY + "/tools")
 import gate  # noqa: E402
 import pack  # noqa: E402
-from sources.exports import Crate  # noqa: E402
 
-HEADER = f"{REPOSITORY}/include/aig.h"
 PKG_CONFIG = f"{REPOSITORY}/tools/aig.pc"
 DONE, REFUSED, NO_ROOM = 0, 1, 2
+# what examples/live.c says of two gates and their rows
+LIVE = "set: 0, 2 evaluated, 2 changed\n8 is 1 at 2 of 2 frames\n"
 WARNINGS = ("-Wall", "-Wextra", "-Werror", "-pedantic")
-# the types in C of a parameter of an export
-TYPES = {"Global": [], "&[u8]": ["const uint8_t *", "size_t"], "u32": ["uint32_t"], "bool": ["bool"],
-         "&mut [u8]": ["uint8_t *", "size_t"], "&mut usize": ["size_t *"], "&mut bool": ["bool *"]}
 
 
 def folder_of(program):
@@ -56,25 +55,11 @@ def works(*flags):
     return ran("cc", *flags, "empty.c", "-o", "empty").returncode == 0 and ran("./empty").returncode == 0
 
 
-def exports():
-    """The types in C of the arguments of each export of the crate, by its name."""
-    found = {}
-    for export in Crate("aig_c").exports():
-        kinds = re.findall(r"\w+: ([^,()]+)", export.head.partition("(")[2])
-        found[export.name] = [it for kind in kinds for it in TYPES[kind.strip()]]
-    return found
-
-
-def declared():
-    """The types of the arguments of each function in the header, by its name."""
-    text = re.sub(r"/\*.*?\*/", "", contents(HEADER).decode(), flags=re.S)
-    return {name: [re.sub(r"\w+$", "", it.strip()).strip() for it in arguments.split(",")]
-            for name, arguments in re.findall(r"uint8_t (\w+)\(([^)]*)\);", text)}
-
-
 def header(program, tally, _):
-    """The header declares what the crate exports, with the types of its arguments. The library shows nothing else."""
+    """The header declares what the crate exports, with the types of its arguments, and the structs of the crate. The
+    library shows nothing else."""
     names = sorted(exports())
+    tally.compare("the structs in the header", structs(), fields())
     tally.compare("the names in the header", sorted(declared()), names)
     for name in names:
         tally.compare(f"the arguments of {name}", declared().get(name), exports()[name])
@@ -86,36 +71,62 @@ def header(program, tally, _):
         tally.compare(f"what {name} shows", sorted(shown), names)
 
 
-def calls(program, tally, _):
-    """Calls with results that are known, in one thread and in two, under each sanitizer that is there."""
-    folder = folder_of(program)
-    need("cc")
+def in_each_way(folder, tally, name, compiler="cc", standard="c99"):
+    """Runs a program of tests/calls in threads, under each sanitizer that is there, and by valgrind."""
+    need(compiler)
+    stem = name.partition(".")[0]
     for flags, times in (("-O2", 200), ("-g -fsanitize=address,undefined", 20), ("-g -fsanitize=thread", 20)):
         if not works(*flags.split()):
-            leave_out(f"calls: {flags}", "cc has no such flag")
+            leave_out(f"{stem}: {flags}", "cc has no such flag")
             continue
-        built = ran("cc", *flags.split(), "-std=c99", *WARNINGS, f"-I{REPOSITORY}/include", f"{TESTS}/calls/calls.c",
-                    f"{folder}/libaig.a", "-lpthread", "-o", "calls")
-        tally.compare(f"cc {flags}", (built.returncode, built.stdout), (0, ""))
-        done = ran("./calls", EXAMPLES, str(times))
-        tally.compare(f"calls {flags}", (done.returncode, done.stdout), (0, "as wanted\n"))
+        built = ran(compiler, *flags.split(), f"-std={standard}", *WARNINGS, f"-I{REPOSITORY}/include",
+                    f"{TESTS}/calls/{name}", f"{folder}/libaig.a", "-lpthread", "-o", stem)
+        tally.compare(f"{name} {flags}", (built.returncode, built.stdout), (0, ""))
+        done = ran(f"./{stem}", EXAMPLES, str(times))
+        tally.compare(f"{name} runs, {flags}", (done.returncode, done.stdout), (0, "as wanted\n"))
         if flags == "-O2" and shutil.which("valgrind"):
-            done = ran("valgrind", "-q", "--leak-check=full", "--error-exitcode=9", "./calls", EXAMPLES, "1")
-            tally.compare("calls by valgrind", (done.returncode, done.stdout), (0, "as wanted\n"))
+            done = ran("valgrind", "-q", "--leak-check=full", "--error-exitcode=9", f"./{stem}", EXAMPLES, "1")
+            tally.compare(f"{name} by valgrind", (done.returncode, done.stdout), (0, "as wanted\n"))
+
+
+def calls(program, tally, _):
+    """Calls with results that are known, in one thread and in two, under each sanitizer that is there."""
+    in_each_way(folder_of(program), tally, "calls.c")
+
+
+def live(program, tally, _):
+    """Benches that stay open, from C and from C++: results that are known, each status, structs at the edge of a page,
+    and two threads with a bench each, under each sanitizer that is there."""
+    in_each_way(folder_of(program), tally, "live.c")
+    in_each_way(folder_of(program), tally, "live.cpp", "c++", "c++11")
+
+
+def scripts(program, tally, _):
+    """Random scripts on benches that stay open: each answer beside `aig bench` and the plain workbench, and each report
+    beside the values before and after the edit."""
+    library = ctypes.CDLL(f"{folder_of(program)}/libaig.so")
+    kinds = live_scripts.small(program, tally, library, 60)
+    wide = live_scripts.wide(program, tally, library, 12000)
+    return f"{kinds['answers']} answers and {kinds['no']} refusals of small benches, {wide} answers of a wide one; "
+
+
+def without_memory(folder, tally, name):
+    """Builds and runs a program that refuses allocations, and answers what it says."""
+    need("cc")
+    flags = ["-g", "-fsanitize=address"] if works("-g", "-fsanitize=address") else ["-g"]
+    stem = name.partition(".")[0]
+    built = ran("cc", *flags, "-std=c99", *WARNINGS, f"-I{REPOSITORY}/include", f"{TESTS}/calls/{name}",
+                f"{folder}/libaig.a", "-Wl,--wrap=malloc,--wrap=realloc", "-o", stem)
+    tally.compare(f"cc {name}", (built.returncode, built.stdout), (0, ""))
+    done = ran(f"./{stem}", EXAMPLES)
+    told = re.fullmatch(r"(\d+) done, (\d+) without memory\n", done.stdout)
+    tally.check(f"{name}: each allocation", done.returncode == 0 and told and int(told[2]) > 0, done.stdout)
+    return f"{done.stdout.strip()}; "
 
 
 def memory(program, tally, _):
-    """Each allocation of each call is refused in turn."""
-    folder = folder_of(program)
-    need("cc")
-    flags = ["-g", "-fsanitize=address"] if works("-g", "-fsanitize=address") else ["-g"]
-    built = ran("cc", *flags, "-std=c99", *WARNINGS, f"-I{REPOSITORY}/include", f"{TESTS}/calls/memory.c",
-                f"{folder}/libaig.a", "-Wl,--wrap=malloc,--wrap=realloc", "-o", "memory")
-    tally.compare("cc memory.c", (built.returncode, built.stdout), (0, ""))
-    done = ran("./memory", EXAMPLES)
-    told = re.fullmatch(r"(\d+) done, (\d+) without memory\n", done.stdout)
-    tally.check("each allocation", done.returncode == 0 and told and int(told[2]) > 0, done.stdout)
-    return f"{done.stdout.strip()}; "
+    """Each allocation of each call is refused in turn, and each of a bench that stays open."""
+    return "".join(without_memory(folder_of(program), tally, name) for name in ("memory.c", "live_memory.c"))
 
 
 def examples(program, tally, _):
@@ -136,6 +147,14 @@ def examples(program, tally, _):
                                     ("no", (2, "no cannot be read\n"))):
                 done = ran("./verdict", f"{EXAMPLES}/wraps.aag", witness)
                 tally.compare(f"{source} of {witness}", (done.returncode, done.stdout), wanted)
+    for compiler, standard in (("cc", ("-std=c99",)), ("c++", ("-std=c++11", "-x", "c++"))):
+        if shutil.which(compiler):
+            built = ran(compiler, *standard, *WARNINGS, f"-I{REPOSITORY}/include", f"{EXAMPLES}/live.c", "-x", "none",
+                        f"{folder}/libaig.a", "-o", "live")
+            tally.compare(f"live.c by {compiler}", (built.returncode, built.stdout), (0, ""))
+            for rows, wanted in (("two_gates.stim", (0, LIVE)), ("wraps.stim", (1, "stimulus: length of line 1\n"))):
+                done = ran("./live", f"{EXAMPLES}/two_gates.aag", f"{EXAMPLES}/{rows}", "8")
+                tally.compare(f"live.c by {compiler} of {rows}", (done.returncode, done.stdout), wanted)
 
 
 def called(library, name, arguments, room):
@@ -177,7 +196,8 @@ def as_program(program, tally, _):
         else:
             tally.compare(call, (status, b"aig: " + text + b"\n"), (REFUSED, wanted.err))
             tally.compare(f"{call}: no room for the message", called(library, name, given, 1), (REFUSED, b""))
-    tally.compare("each export", {name for _, name, _ in CALLS} | {"aig_version"}, set(exports()))
+    of_bytes = {name for name in exports() if not name.startswith("aig_live_")}
+    tally.compare("each export", {name for _, name, _ in CALLS} | {"aig_version"}, of_bytes)
 
 
 def version(program, tally, _):
@@ -251,8 +271,8 @@ CALLS = [
      ["ring.aag", "ring.cert.aag", "empty", 0]),
 ]
 
-PARTS = {"header": header, "version": version, "calls": calls, "memory": memory, "examples": examples,
-         "as_program": as_program}
+PARTS = {"header": header, "version": version, "calls": calls, "live": live, "scripts": scripts,
+         "memory": memory, "examples": examples, "as_program": as_program}
 
 if __name__ == "__main__":
     runs.main(__doc__, PARTS)

@@ -6,7 +6,9 @@ from library import runs
 from steps.all_assignments import all_assignments
 from steps.at_random import at_random, options
 from steps.calls import calls
+from steps.credit import credit
 from steps.definitions import definitions
+from steps.edges import edges
 from steps.edits import edits
 from steps.extended import added_variables, more_pigeons, pigeon_holes, tables
 from steps.hinted import hinted
@@ -18,6 +20,7 @@ from steps.solved import solved
 PROVED = runs.REPOSITORY + "/crates/aig_tests/out/aig_tests"
 PARTS = {"at_random": at_random, "all_assignments": all_assignments, "hinted": hinted, "pigeons": pigeon_holes,
          "added_variables": added_variables, "tables": tables, "listed": listed, "kept": kept,
+         "credit": credit, "edges": edges,
          "definitions": definitions, "names": names, "edits": edits, "calls": calls, "more_pigeons": more_pigeons,
          "solved": solved}
 

@@ -43,8 +43,7 @@ README = ROOT / "README.md"
 CODE = re.compile(r"\d+(?=\s+lines\s+of\s+code\b)")
 # The functions between the clauses and the system, each with its file.
 BETWEEN = (("aig/src/main.rt", "main"), ("aig/src/main.rt", "run"), ("aig/src/main.rt", "run_on"),
-           ("aig_program/src/arguments.rt", "all"), ("aig_files/src/files.rt", "open"),
-           ("aig_files/src/files.rt", "output"), ("aig_files/src/terminal.rt", "write_some"))
+           ("aig_files/src/files.rt", "open"))
 WIDTH = 120
 
 

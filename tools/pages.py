@@ -25,7 +25,8 @@ CALLING = ROOT / "docs" / "CALLING.md"
 CALLERS = ROOT / "crates" / "aig_tests"
 MARK = re.compile(r" *(?:-|\d+\.) ")
 # What an auditor of a `recheck` reads, the pages that say so, and the most lines that such a file may have.
-AUDITED = tuple(ROOT / "python" / "src" / "aig" / "verdicts" / name for name in ("checked.py", "decisions.py"))
+AUDITED = tuple(ROOT / "python" / "src" / "aig" / "verdicts" / name
+                for name in ("checked.py", "decisions.py", "sentences.py"))
 NAMES_AUDITED = ("docs/VERDICTS.md", "docs/PROVED.md")
 MOST_AUDITED = 250
 

@@ -84,7 +84,7 @@ WITHOUT = {
     "aig_prompt": "Table::new",
     "aig_sat": "Refutation::new Refutation::add_variables Refutation::delete",
     "aig_why": "Run::new",
-    "aig_files": "Shown::new Shown::flush Terminal::begin Terminal::runtime Terminal::write_some Tracked::new",
+    "aig_files": "Shown::new Shown::flush StandardOutput::flush Terminal::runtime Tracked::new",
 }
 
 # What the prover says of an answer that names something which is not there.

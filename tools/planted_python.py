@@ -9,7 +9,8 @@ A file of bugs begins with `file:` and the path of a source. Each bug is a parag
 source exactly once. An edit that no longer applies fails, whatever is tried.
 
 seen.txt has a sum of each bug that was seen: of the bug, of its source, and of the file of its part. --new tries the
-bugs whose sum is another one, or is not there; --write notes those that are seen.
+bugs whose sum is another one, or is not there; --write notes those that are seen. A run that is stopped notes what it
+saw until then.
 
 With --sample N it tries so many bugs: first those that --new would try, then those that the commit chooses; each commit
 chooses others. tests/all.py tries 40, and runs all parts without a bug too, so a sample does that for one part of each
@@ -25,6 +26,7 @@ import queue
 import re
 import resource
 import shutil
+import signal
 import subprocess
 import sys
 import tempfile
@@ -223,25 +225,34 @@ def chosen(known, words):
     return bugs if words.sample is None else sampled(bugs, words.sample, gate.asked("git", "rev-parse", "HEAD"))
 
 
-def tried(bugs, copies, are_sampled):
-    """The bugs that are seen, and how many others there are. Of a sample, one part of each script runs without a bug."""
-    rights = {bug.seen.split()[0] if are_sampled else bug.seen: bug.seen for bug in bugs}
-    failed, seen = 0, []
-    for part, shown in results(sorted(rights.values()), copies, Copy.shown):
-        if shown.has_failed is not False:
-            print(f"{part}: FAILED: without a bug: {shown.why}", flush=True)
-            failed += 1
-    for bug, shown in results(bugs, copies, Copy.tried):
-        if shown.has_failed:
-            seen.append(bug)
-        else:
-            print(f"{bug.name}: FAILED: not seen by {bug.seen}: {shown.why}", flush=True)
-            failed += 1
-    return seen, failed
+class Trial:
+    """Bugs on trial: those that were tried, those of them that were seen, and how many checks failed."""
+
+    def __init__(self, bugs, copies):
+        self.bugs, self.copies = bugs, copies
+        self.tried, self.seen, self.failed = [], [], 0
+
+    def without_bugs(self, are_sampled):
+        """Runs the parts without a bug; of a sample, one part of each script."""
+        rights = {bug.seen.split()[0] if are_sampled else bug.seen: bug.seen for bug in self.bugs}
+        for part, shown in results(sorted(rights.values()), self.copies, Copy.shown):
+            if shown.has_failed is not False:
+                print(f"{part}: FAILED: without a bug: {shown.why}", flush=True)
+                self.failed += 1
+
+    def with_bugs(self):
+        for bug, shown in results(self.bugs, self.copies, Copy.tried):
+            self.tried.append(bug)
+            if shown.has_failed:
+                self.seen.append(bug)
+            else:
+                print(f"{bug.name}: FAILED: not seen by {bug.seen}: {shown.why}", flush=True)
+                self.failed += 1
 
 
 def main():
     words = arguments()
+    signal.signal(signal.SIGTERM, lambda *_: sys.exit("stopped"))
     every = all_bugs()
     known = [bug for bug in every if is_right_python(bug)]
     for name in sorted({bug.name for bug in every} - {bug.name for bug in known}):
@@ -254,15 +265,18 @@ def main():
         return 0
     program = os.path.abspath(words.program or runs.PROVED_PROGRAM)
     with tempfile.TemporaryDirectory(prefix="planted-") as name:
-        copies = [Copy(f"{name}/{number}", program) for number in range(max(1, words.jobs))]
-        seen, failed = tried(bugs, copies, words.sample is not None)
-    if words.write:
-        note(bugs, seen, known)
-    failed += len(every) - len(known)
+        trial = Trial(bugs, [Copy(f"{name}/{number}", program) for number in range(max(1, words.jobs))])
+        try:
+            trial.without_bugs(words.sample is not None)
+            trial.with_bugs()
+        finally:
+            if words.write:
+                note(trial.tried, trial.seen, known)
+    failed = trial.failed + len(every) - len(known)
     usage = resource.getrusage(resource.RUSAGE_CHILDREN)
     seconds = usage.ru_utime + usage.ru_stime
     print(f"{len(known) - len(unseen(known))} of {len(every)} planted bugs of Python are noted as seen")
-    print(f"planted bugs of Python, {seconds:.0f} processor seconds: {len(seen)} passed, {failed} failed")
+    print(f"planted bugs of Python, {seconds:.0f} processor seconds: {len(trial.seen)} passed, {failed} failed")
     return 1 if failed else 0
 
 

@@ -16,29 +16,41 @@ import c_library
 from sources.exports import Crate
 from sources.specs import ROOT
 
-ARGUMENTS = {"alloc: Global": "rt.alloc()", "&[u8]": 'b""', "u32": "0", "bool": "false", "&mut [u8]": "&mut room",
-             "&mut usize": "&mut length", "&mut bool": "&mut confirmed"}
+ARGUMENTS = {"Global": "rt.alloc()", "&[u8]": 'b""', "u8": "0", "u32": "0", "bool": "false", "&mut [u8]": "&mut room",
+             "&mut u8": "&mut last", "&mut u32": "&mut literal", "&mut usize": "&mut length",
+             "&mut bool": "&mut confirmed", "&mut AigLive": "&mut bench", "&mut AigReport": "&mut report",
+             "&mut AigSizes": "&mut sizes", "&[AigEdit]": "&[]", "&[AigCell]": "&[]", "&[u32]": "&[]"}
 
 MAIN = """
 fn main(rt: HostRuntime) -> std::io::Result<()> {
     let mut room = [0u8; 64];
     let mut length = 0usize;
+    let mut literal = 0u32;
     let mut confirmed = false;
+    let mut bench = crate::live::AigLive::closed(rt.alloc());
+    let mut report = crate::live::AigReport { evaluated: 0, changed: 0 };
+    let mut sizes = crate::live::AigSizes {
+        frames: 0, inputs: 0, latches: 0, outputs: 0, gates: 0, max_var: 0 };
     let mut last = 0u8;
-%s    println!(rt; "{last} {length} {confirmed}")
+%s    println!(rt; "{last} {length} {confirmed} {literal}")
+}
+"""
+
+# The crate has no struct without a bench of its own: C makes it.
+CLOSED = """
+impl AigLive {
+    pub(crate) fn closed(alloc: Global) -> AigLive {
+        AigLive { seat: Seat::empty(alloc), present: false }
+    }
 }
 """
 
 
-def argument(parameter):
-    """Returns a value for a parameter of an export."""
-    return ARGUMENTS.get(parameter) or ARGUMENTS[parameter.partition(": ")[2]]
-
-
 def call(export):
     """Returns the line that calls an export."""
-    parameters = re.findall(r"\w+: [^,()]+", export.head.partition("(")[2])
-    return f"    last = crate::{export.module}::{export.name}({', '.join(map(argument, parameters))});\n"
+    types = re.findall(r"\w+: ([^,()]+)", export.head.partition("(")[2])
+    arguments = ", ".join(ARGUMENTS[kind.strip()] for kind in types)
+    return f"    last = crate::{export.module.partition('::')[0]}::{export.name}({arguments});\n"
 
 
 def copy(room):
@@ -50,6 +62,8 @@ def copy(room):
     crate = Crate("aig_c")
     text = re.sub(r"(?m)^pub use [^;]*;\n", "", crate.texts["lib"])
     (source / "main.rt").write_text(text + MAIN % "".join(map(call, crate.exports())))
+    with open(source / "live" / "handle.rt", "a", encoding="utf-8") as file:
+        file.write(CLOSED)
     for name in ("crates.txt", "HANDLES"):
         shutil.copy(ROOT / name, room)
 

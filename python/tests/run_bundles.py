@@ -9,8 +9,8 @@ from pathlib import Path
 PYTHON = Path(__file__).resolve().parent.parent
 sys.path[:0] = [str(PYTHON.parent / "tests"), str(PYTHON / "src"), str(PYTHON / "tests")]
 from bundles import (  # noqa: E402
-    attacks, checking, deciding, denying, dying, emptied, ends, folding, hinted, judging, late, lots, lying, many, remaking,
-    replaying, searches, tampering, zips,
+    attacks, checking, comparing, crashing, deciding, denying, dying, emptied, ends, equal, folding, hinted, judging,
+    late, lots, lying, many, remaking, replaying, reusing, searches, tampering, zips,
 )
 from library import runs  # noqa: E402
 
@@ -34,11 +34,13 @@ PARTS = {part.__name__.rstrip("_"): on_program(part) for part in (
     attacks.folders_of_others, attacks.sizes, attacks.outputs,
     ends.stops, ends.folders, ends.yosys, ends.bounds, ends.executors, judging.judging,
     many.many, many.taken_over, lying.lies, checking.checking, late.dead, late.late, emptied.emptied, dying.dying,
-    dying.memory, denying.denying, lots.lots,
+    dying.memory, crashing.crashing, denying.denying, lots.lots,
     deciding.right, deciding.harms, deciding.lines, deciding.ends_of_aig, deciding.again, deciding.commands,
     deciding.names_of_files, deciding.folder_files, deciding.workers_, deciding.stopped, deciding.rechecked,
     deciding.kinds,
-    remaking.remaking, replaying.replaying,
+    equal.equal, remaking.remaking, replaying.replaying,
+    comparing.changed, comparing.hiding, comparing.moved, comparing.compares,
+    reusing.reusing, reusing.lying_baselines, reusing.refused,
 )}
 
 if __name__ == "__main__":

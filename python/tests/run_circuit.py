@@ -15,7 +15,7 @@ HERE = Path(__file__).resolve().parent
 sys.path.insert(0, str(HERE.parent / "src"))
 os.environ["AIG_PROGRAM"] = os.path.abspath(sys.argv[1] if len(sys.argv) > 1 else HERE.parent.parent / "crates/aig/out/aig")
 
-from aig.verdicts import names, tree, warnings, yosys  # noqa: E402
+from aig.verdicts import names, netlist, tree, warnings  # noqa: E402
 from aig.verdicts.cycles import cycles_of  # noqa: E402
 from aig.verdicts.design import read_verilog  # noqa: E402
 from aig.verdicts.places import with_place  # noqa: E402
@@ -302,7 +302,7 @@ class OfClocks(unittest.TestCase):
             (True, [self.register(2), cell("$mem_v2", {"WR_CLK": [2, 3], "RD_CLK": ["x"]}, WR_CLK_ENABLE="01", WR_CLK_POLARITY="11", RD_CLK_ENABLE="0", RD_CLK_POLARITY="0")]),
             (False, [self.register(2), cell("$mem_v2", {"WR_CLK": [2, 3], "RD_CLK": ["x"]}, WR_CLK_ENABLE="11", WR_CLK_POLARITY="11", RD_CLK_ENABLE="0", RD_CLK_POLARITY="0")]),
         ):
-            self.assertEqual(yosys.one_clock(module(cells, clk=[2], other=[3])), wanted, cells)
+            self.assertEqual(netlist.one_clock(module(cells, clk=[2], other=[3])), wanted, cells)
 
     def test_instances(self):
         """2^40 instances are counted without a walk through all of them."""
@@ -311,7 +311,7 @@ class OfClocks(unittest.TestCase):
 
         modules = {f"m{k}": {"attributes": {}, "ports": {}, "cells": {"a": instance(f"m{k + 1}"), "b": instance(f"m{k + 1}")}} for k in range(40)}
         modules["m40"] = {"attributes": {}, "ports": {}, "cells": {"c": cell("$assert", {}), "d": cell("$cover", {}), "e": cell("$assume", {})}}
-        self.assertEqual(yosys.checks(modules, "m0"), 2 << 40)
+        self.assertEqual(netlist.checks(modules, "m0"), 2 << 40)
 
 
 @unittest.skipUnless(shutil.which("yosys"), "there is no yosys")
@@ -468,7 +468,7 @@ class WithYosys(Folder):
             ("s #(2) u(a);", ""), ("s #(.P(2)) u(a);", ""), ("wire w = a; // #5 bind\n", ""), ("wire [3:0] w = a ? 3 : 4;", ""),
             ("reg y;\nalways @(a) y = a & b;", "x.v:2: `always` with a list"), ("reg y;\nalways @(a or b) y = a & b;", "x.v:2: `always` with a list"),
             ("reg y; always @(*) y = a & b;", ""), ("reg y = 0; always @(posedge c or negedge a) if (!a) y <= 0; else y <= b;", "asynchronous"),
-            ("wire z = a;\nbind s t u(.a(a));", "x.v:2: `bind` is left out"),
+            ("wire z = a;\nbind s t u(.a(a));", ""),
             ("always @*\nw: assert ($countbits(a, 'x) == 0);", "x.v:2: compares with x"),
             ("reg n [0:1]; always @(posedge c)\nn[0] <= a; always @(posedge c) n[b] <= b; wire y = n[a];", "several blocks write a memory"),
             ("reg n [0:1]; always @(posedge c) begin n[0] <= a; n[b] <= b; end wire y = n[a]; always @* w: assert (y);", ""),

@@ -52,6 +52,8 @@ def wrong_in(known, folder):
     """What is wrong of a design, line by line."""
     words = [*(f"-D{it}" for it in known.defines), *(f"-I{it}" for it in known.search), *(f"--free={it}" for it in known.free)]
     words += ["--top", known.top] if known.top else []
+    words += [word for it in known.asserts for word in ("--assert", HERE / "designs" / "known" / it)]
+    words += ["--module", known.module] if known.module else []
     status, table, said = called("run", *known.paths, *words, "--out", folder, "--quiet", "--jobs", "1", "--no-simulator")
     if status not in (0, 4, 5):
         return [f"status {status}: {said}"]

@@ -9,7 +9,8 @@ properties, of which each answer is about the one that was asked for (`many`, `a
 that is killed after it printed a verdict (`killed`); `aig.prove` and `aig.certify` with cadical: a bug, a bound, an
 induction, a right and a wrong certificate, and solvers that fail (`solvers`); the same without cadical (`small`);
 searches that a bound or another thread ends (`bounds`); verdicts beside the texts that they were (`texts`); programs in
-the place of ABC (`by_abc`); two circuits side by side (`miters`); what notebooks show (`notebooks`); a bench whose
+the place of ABC (`by_abc`); benches in the library beside those in a process, and calls that are wrong (`live`); where
+the library is looked for (`libraries`); two circuits side by side (`miters`); what notebooks show (`notebooks`); a bench whose
 program is killed, no program, no memory, four threads, and a system without memory files (`failures`, `threads`,
 `folders`); and, where it is asked for, what mypy says of the package (`types`)."""
 
@@ -24,7 +25,7 @@ from fractions import Fraction
 from pathlib import Path
 
 PYTHON = Path(__file__).resolve().parent.parent
-sys.path.insert(0, str(PYTHON.parent / "tests"))
+sys.path[:0] = [str(PYTHON.parent / "tests"), str(PYTHON.parent / "tools")]
 from library import runs, supervised  # noqa: E402
 from library.runs import EXAMPLES  # noqa: E402
 from library.supervised import SCRIPT_SECONDS  # noqa: E402
@@ -32,7 +33,7 @@ from library.supervised import SCRIPT_SECONDS  # noqa: E402
 if "--installed" not in sys.argv:
     sys.path.insert(0, str(PYTHON / "src"))
 import aig  # noqa: E402
-from package import answers, bench, by_abc, failures, miters, notebooks, replies, searches  # noqa: E402
+from package import answers, bench, by_abc, failures, live, miters, notebooks, replies, searches  # noqa: E402
 from package.common import CLAIMS_0, CLAIMS_1, CONFIRMED, PROOF_OF_0, STAYS  # noqa: E402
 from package.common import example, need, raised, running  # noqa: E402
 
@@ -224,7 +225,7 @@ PARTS = {
     "models": answers.models,
     "killed": answers.killed, "solvers": searches.solvers, "small": searches.small, "bounds": searches.bounds,
     "texts": searches.texts, "by_abc": by_abc.by_abc, "miters": miters.miters, "notebooks": notebooks.notebooks, "bench": bench.bench,
-    "replies": replies.replies,
+    "live": live.live, "libraries": live.libraries, "replies": replies.replies,
     "failures": failures.failures, "threads": failures.threads, "folders": failures.folders, "types": types,
 }
 

@@ -2,48 +2,13 @@
    an input that is refused, and with rooms that are too small; all of them TIMES times, first alone and then in two
    threads at once. It stops at the first answer that is wrong. */
 #include "aig.h"
+#include "wanted.h"
 #include <pthread.h>
-#include <stdio.h>
-#include <stdlib.h>
-#include <string.h>
 
-#define WANT(fact) ((fact) ? (void)0 : wrong(#fact, __LINE__))
-#define OF(it) (it).bytes, (it).length
-#define TEXT(text) (const uint8_t *)(text), sizeof(text) - 1
-#define ROOM room, sizeof room, &length
 /* a latch that keeps its value, and is bad if it is 1: no certificate of itself */
 #define STUCK "aag 1 0 1 0 0 1\n2 2 1\n2\n"
 
-struct file { uint8_t *bytes; size_t length; };
-
 static struct file wraps, witness, proof, model, ring, certificate, ring_proof;
-
-static void wrong(const char *fact, int line)
-{
-    fprintf(stderr, "line %d: %s\n", line, fact);
-    exit(1);
-}
-
-static struct file contents(const char *folder, const char *name)
-{
-    char path[4096];
-    struct file read;
-    snprintf(path, sizeof path, "%s/%s", folder, name);
-    FILE *file = fopen(path, "rb");
-    WANT(file && !fseek(file, 0, SEEK_END));
-    read.length = ftell(file);
-    rewind(file);
-    /* as many bytes as the file has: a sanitizer sees a read behind them */
-    read.bytes = malloc(read.length);
-    WANT(fread(read.bytes, 1, read.length, file) == read.length);
-    fclose(file);
-    return read;
-}
-
-static int says(const uint8_t *room, size_t length, const char *text)
-{
-    return length == strlen(text) && !memcmp(room, text, length);
-}
 
 static int begins(const uint8_t *room, size_t length, const char *text)
 {

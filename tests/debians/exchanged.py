@@ -1,5 +1,6 @@
 """Makes bundles of some designs with this version of Yosys, or checks with it those that other versions made: `aig` confirms
-all rows, and then Yosys makes the same circuit, or the message says what differs and which version made each.
+all rows, and then Yosys makes the same circuit or one that does the same, or the message says what differs and which
+version made each.
 
 usage: exchanged.py make|check SUITE FOLDER"""
 
@@ -25,9 +26,12 @@ SHORT = ("--frames", "2", "--seconds", "5", "--abc", "", "--no-conditions", "--n
 BY_ANOTHER = r".*; the bundle says that Yosys \S+ made it, and this is Yosys \S+"
 KINDS = {
     "the same circuit": "Yosys makes the same circuit",
+    "another circuit that does the same": "Yosys makes a circuit of the sources that does the same",
     "the same names, other gates": f"its names are the same, and its gates are others{BY_ANOTHER}",
     "other names": f"Yosys makes another circuit of the sources: its [a-z]+ (are others|have another order){BY_ANOTHER}",
 }
+# Those that are no reason to reject the bundle.
+TAKEN = [*KINDS][:2]
 
 
 def called(*words):
@@ -58,7 +62,7 @@ def kind(bundle):
     """What this Yosys says of a bundle, whose rows `aig` confirms before."""
     status, said = called("recheck", bundle, "--quiet", "--yosys")
     found = next((name for name, line in KINDS.items() if re.search(line, said)), "")
-    is_ended = status in (0, 4, 5) if found == "the same circuit" else status == 1
+    is_ended = status in (0, 4, 5) if found in TAKEN else status == 1
     return found if found and is_ended else f"FAILED: {bundle}: {status} {said}"
 
 

@@ -1,5 +1,6 @@
 # Mounts the repository, the folder of run_debians.sh and that of the program below a root, and takes the first four words
-# of a script that sources this file: ROOT, REPOSITORY, FOLDER and PROGRAM. `inside` runs a command there.
+# of a script that sources this file: ROOT, REPOSITORY, FOLDER and PROGRAM. `inside` runs a command there, with the
+# AIG_TEST_SECONDS of the caller.
 root=$1 program=/mnt/$(basename "$4")
 mkdir -p "$root/aig" "$root/folder"
 mount --bind "$2" "$root/aig" && mount --bind "$3" "$root/folder" && mount --bind "$(dirname "$4")" "$root/mnt" &&
@@ -10,5 +11,6 @@ failed=0
 inside() {
     echo "-- $*"
     chroot "$root" env -i HOME=/root LANG=C.UTF-8 DEBIAN_FRONTEND=noninteractive PYTHONDONTWRITEBYTECODE=1 \
-        "PATH=${path:-}/usr/local/sbin:/usr/local/bin:/usr/sbin:/usr/bin:/sbin:/bin" "AIG_PROGRAM=${named:-$program}" "$@"
+        "PATH=${path:-}/usr/local/sbin:/usr/local/bin:/usr/sbin:/usr/bin:/sbin:/bin" "AIG_PROGRAM=${named:-$program}" \
+        "AIG_TEST_SECONDS=${AIG_TEST_SECONDS:-120}" "$@"
 }

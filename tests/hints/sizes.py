@@ -58,9 +58,12 @@ def lists():
         gone = line(5, [1], [1, 3]) + deletion(5, [5] * size) + line(6, [2, OWN, -OWN], []) + line(7, [], [5, 2, 4])
         wanted = f"+d+{WRONG} {OPEN}" if size else f"+d++ {REFUTED}"
         yield f"{size} deletions of one clause", gone, wanted
+    own = range(OWN, OWN + LONG)
+    yield ("a hint of a long clause", line(5, [1], [1, 3]) + line(6, [*own, 1], [5]) + line(7, [1, *own], [6]) + end(8),
+           f"{5 * FOLLOWS} {REFUTED}")
     yield "hints that give nothing", line(5, [1], [2] * FEW_LOOKS + [1, 3]) + end(6), f"{3 * FOLLOWS} {REFUTED}"
-    # A step gives up after so many looks.
-    yield "hints without an end", line(5, [1], [2] * MANY_LOOKS + [1, 3]) + end(6), f"{WRONG}++ {REFUTED}"
+    # More looks than a step may take to follow by its hints. The proof has as many for steps on a first literal.
+    yield "hints without an end", line(5, [1], [2] * MANY_LOOKS + [1, 3]) + end(6), f"{ON_FIRST}++ {REFUTED}"
 
 
 def first_lines():
@@ -141,19 +144,20 @@ def candidates():
         groups = [[-named, true] for named, true in zip(implied, trues)]
         mixed = rng.sample(groups, count)
         others = [[-named, true] for named, true in zip(implied, trues[1:] + trues[:1])]
-        # To pass a hint in search of a candidate is a look.
-        is_many = count > 1_000
+        # Of two groups of a candidate the first one counts.
+        others_first = ON_FIRST if count == 1 else WRONG
         for name, used, mark in (
-                ("in order", groups, ON_FIRST), ("in any order", mixed, WRONG if is_many else ON_FIRST),
-                ("the other way round", groups[::-1], WRONG if is_many else ON_FIRST),
+                ("in order", groups, ON_FIRST), ("in any order", mixed, ON_FIRST),
+                ("the other way round", groups[::-1], ON_FIRST), ("others before", others + groups, others_first),
                 ("twice", groups + groups, ON_FIRST), ("without one", groups[:-1], WRONG),
-                ("with hints of others", others, ON_FIRST if count == 1 else WRONG), ("without any", [], WRONG)):
+                ("with hints of others", others, others_first), ("others behind", groups + others, ON_FIRST),
+                ("without any", [], WRONG)):
             hints = [hint for group in used for hint in group]
             yield (f"{count} candidates, {name}", made + line(number, [x], hints) + end(number + 1),
                    f"{marks}{mark}++ {REFUTED}")
         before = line(number, [x], [*trues[:count], *(-named for named in implied)])
         # For each candidate all hints before its own are looked at again.
-        mark = WRONG if is_many else ON_FIRST
+        mark = WRONG if count > 1_000 else ON_FIRST
         yield f"{count} candidates, hints before all", made + before + end(number + 1), f"{marks}{mark}++ {REFUTED}"
 
 

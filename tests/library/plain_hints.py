@@ -112,13 +112,9 @@ class HintedChecker:
         """Whether the clause is a resolution asymmetric tautology on its first literal, by its hints."""
         if not clause:
             return False
-        begin = 0
         for number, literals in self.clauses.items():
             if -clause[0] in literals:
-                places = [place for place, hint in enumerate(hints, 1) if hint == -number]
-                later = [place for place in places if place > begin]
-                group = hints[(later or places)[0]:] if places else ()
-                begin = (later or places)[0] if places else begin
+                group = hints[hints.index(-number) + 1:] if -number in hints else ()
                 if not self.follows([*clause, *(literals - {-clause[0]})], hints, group):
                     return False
         return True

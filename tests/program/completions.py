@@ -90,7 +90,7 @@ WHOLE = ((["toaig", "--to=a"], ["--to=aag", "--to=aig"]), (["unroll", "--map=n"]
 
 # The same of aig-verdicts. Without an answer, bash completes files.
 OF_VERDICTS = (
-    ([""], ["--help", "--version", "demo", "recheck", "replay", "run"]),
+    ([""], ["--help", "--version", "compare", "demo", "recheck", "replay", "run"]),
     (["rec"], ["recheck"]),
     (["a"], []),
     (["recheck", "--j"], ["--jobs", "--json", "--junit"]),

@@ -108,6 +108,9 @@ def texts(keeping):
     keeping.row("more than a block", BOTH, Ended(0, b"ok\n", b""),
                 {"new_circuit": wide.encode(), "new_rows": long * 100},
                 (("design", wide), ("rows", long * 99), ("script", b"+ " + long)))
+    many = b"10\n0x\n11\n" * 2001
+    keeping.row("6,003 rows", BOTH, Ended(0, b"ok\n", b""), {"new_circuit": CIRCUIT, "new_rows": many + b"01\n"},
+                (("rows", many), ("script", b"+ 01\n")))
 
 
 def places(keeping):

@@ -199,6 +199,10 @@ NEVER_KEPT = ("aag 10 2 1 0 7 1\n2\n4\n6 6\n20\n8 5 3\n10 4 3\n12 5 2\n14 4 2\n1
 STEP_HINTS = "46 4 0 3 43 44 37 38 27 30 0\n47 0 46 3 43 40 41 33 36 0\n"
 
 
+# So many frames of candidates, and so many groups of hints.
+FRAMES, GROUPS = 65_536, 400
+
+
 def refute(program, tally, _):
     rows = Rows("refute", program, tally)
     write_all()
@@ -224,6 +228,8 @@ def refute(program, tally, _):
     steps(rows)
     alive(rows)
     numbers(rows)
+    looks(rows)
+    groups(rows)
     broken(rows)
     frat(rows)
 
@@ -247,6 +253,33 @@ def ends_wrong(number):
     yield "binary", b"a\x04\x05\0d\x04\x05\0" * pairs + b"a\x04\x05\0" * more + b"a\0"
     hinted = [f"{at} 2 -2 0 0\n0 d {at} 0\n" for at in range(100, 100 + pairs)]
     yield "hints", "".join([*hinted, "2147483646 2 -2 0 0\n" * more, "2147483647 0 0\n"])
+
+
+def looks(rows):
+    """The first RAT step over the looks that a proof has for such steps. Each frame has a clause `G -2 -3`, and the
+    resolvent of four literals with `2 3` is blocked. By the rule of aig_sat's README."""
+    write("blocked", "aag 3 0 2 0 1 1\n2 2 2\n4 4 4\n6\n6 4 2\n")
+    formula = rows.program.run("cnf", "--frames", str(FRAMES), "blocked").out.splitlines()
+    words = sum(line.count(b" ") + 3 for line in formula if line[:1] not in (b"c", b"p"))
+    left, step = (1 << 24) + words, 1
+    while left + 2 * 256 >= FRAMES * 5:
+        left, step = left + 2 * 256 + 5 - FRAMES * 5, step + 1
+    for name, count, fault in (("before", step - 1, "no refutation"), ("at", 2 * step, f"step {step}")):
+        proof = "".join(f"{1_000_000 + at} 2 3 0 0\n" for at in range(count))
+        rows.refuses(f"{name} the last look", f"refute --frames {FRAMES} blocked proof", f"proof: {fault}", proof=proof)
+
+
+def groups(rows):
+    """A RAT step with groups of two hints, in any order. Of two groups of a clause the first one counts."""
+    write("false", "aag 0 0 0 0 0 1\n0\n")
+    words, numbers = "refute --frames 1 false proof", range(11, 11 + GROUPS)
+    made = "10 50 0 0\n" + "".join(f"{number} -100 {number + 200} 50 0 10 0\n" for number in numbers)
+    end = f"{11 + GROUPS} 100 51 0 %s 0\n{12 + GROUPS} 0 1 2 0\n"
+    backwards = "".join(f" -{number} 10" for number in reversed(numbers))
+    for name, hints in (("backwards", backwards), ("twice, the second one wrong", f"{backwards} -11 11")):
+        rows.gives(f"groups, {name}", words, "unreachable within 1\n", proof=made + end % hints)
+    rows.refuses("groups, twice, the first one wrong", words, f"proof: step {GROUPS + 2}",
+                 proof=made + end % f"-11 11 {backwards}")
 
 
 def frat(rows):

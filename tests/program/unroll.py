@@ -41,6 +41,7 @@ MAPS = (
     ("12 frames", 12, "bad_input", "".join(f"i {at} {at} 0 \n" for at in range(12))),
     ("12 frames, names and starts", 12, "starts", "".join(f"i {2 * at} {at} 0 in\ni {2 * at + 1} {at} 1 \n" for at in range(12))
      + "l 24 1 \nl 25 3 free one\n"),
+    ("400 frames", 400, "bad_input", "".join(f"i {at} {at} 0 \n" for at in range(400))),
 )
 # Two inputs, a latch that counts, one that is free and one that starts at 1; bad where all three are 1, a constraint.
 RUN = ("aag 9 2 3 0 4 1 1\n2\n4\n6 18\n8 4 8\n10 8 1\n16\n3\n12 6 8\n14 10 4\n16 12 14\n18 3 4\n")

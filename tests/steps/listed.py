@@ -1,7 +1,7 @@
 """Steps on first literals about a formula of over 2,000 clauses, 300 of which have the negation, between deletions and
 clauses that are added. Each of the first steps allows the next one only because one clause came or went, so a clause
-that is missing from a list, or stays in it, changes a mark. The looks of a step suffice only where its hints are in the
-order of the clauses. The plain checkers mark all steps so, too."""
+that is missing from a list, or stays in it, changes a mark. The groups of hints are in any order. The plain checkers
+mark all steps so, too."""
 
 import random
 
@@ -48,8 +48,9 @@ class Lists:
 
     def on_first(self, mark):
         """A step that each candidate allows whose cause stands; where it does not stand, it is no hint."""
-        groups = sorted((number, self.numbers.get((-CAUSE, clause[1]))) for clause, number in self.numbers.items()
-                        if clause[0] == -FIRST)
+        groups = [(number, self.numbers.get((-CAUSE, clause[1]))) for clause, number in self.numbers.items()
+                  if clause[0] == -FIRST]
+        self.rng.shuffle(groups)
         self.add([FIRST, -CAUSE], mark, [hint for number, cause in groups for hint in (-number, cause) if hint])
         if mark != WRONG:
             self.delete([FIRST, -CAUSE])

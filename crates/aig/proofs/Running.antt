@@ -1,10 +1,12 @@
 -- How a run ends, from how its parts do.
-use Rattle.std.proofs.Common.{◌≡◌, ℕ, List, Result, Ok, Err, refl, sym, subst}
-use Rattle.std.specs.Prelude.{Option, IfErr, IfOk}
-use Rattle.std.specs.Result.{IsErrAnd}
+use Rattle.std.proofs.Common.{◌≡◌, ◌∙◌, ℕ, List, Result, Ok, Err, ap, refl, sym, subst}
+use Rattle.std.specs.Prelude.{Option, IfErr, IfOk, map, String}
+use Rattle.std.specs.Result.{IsErrAnd, IsOkAnd}
+use Rattle.std.specs.Vec.Iter.{into_iter_items}
+use Rattle.std.specs.declared.vec.IntoIter.{IntoIter}
 use Rattle.aig_files.specs.declared.exit.Exit.{Exit}
 use Rattle.aig_program.specs.Arguments.{IsUnparsed}
-use Rattle.aig.specs.Program.{Runs, unparsed}
+use Rattle.aig.specs.Program.{Runs, unparsed, words_of}
 
 -- the exit of what failed is one of those that it may fail with
 pub exit_of : {T : Type 0} (found : Result T Exit) (exit : Exit) (P : Exit → Type 0) → Err exit ≡ found → IfErr found P → P exit
@@ -19,3 +21,9 @@ pub ends_unparsed : {F : Type 0} (left : F → Option (List ℕ)) (words : List 
     (exit : Exit) → IsUnparsed exit → IsErrAnd r (λ e. e ≡ exit) → Runs left words r
 ends_unparsed left words (Ok done) exit why is = absurd is
 ends_unparsed left words (Err e) exit why is = unparsed e refl (subst IsUnparsed (sym is) why)
+
+-- the bytes of a list that has what the system gave
+pub words_given : {A E : Type 0} (given : Result (IntoIter (String A) A) E) (items now : List (String A)) → now ≡ items
+    → IsOkAnd given (λ args. items ≡ into_iter_items args) → map (λ word. word.bytes.items) now ≡ words_of given
+words_given {A = A} (Ok args) items now is held = ap (map (λ (word : String A). word.bytes.items)) (is ∙ held)
+words_given (Err error) items now is held = absurd held

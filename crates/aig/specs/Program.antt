@@ -1,7 +1,9 @@
 -- What the end of a run of the program means.
 -- Example: where the words are `aig refute --frames 20 CIRCUIT PROOF`, status 0 says that `Refute` ended well, and that
 -- its K is 20.
-use Rattle.std.specs.Prelude.{◌≡◌, ℕ, List, Option, Result, Ok, Err, IfOk}
+use Rattle.std.specs.Prelude.{◌≡◌, ℕ, List, [], Option, Result, Ok, Err, IfOk, OnOk, map, String}
+use Rattle.std.specs.Vec.Iter.{into_iter_items}
+use Rattle.std.specs.declared.vec.IntoIter.{IntoIter}
 use Rattle.aig_bytes.specs.Flow.{Flow}
 use Rattle.clap.specs.declared.parser.matches.ArgMatches.{ArgMatches}
 use Rattle.aig_cli.specs.Table.{HoldsWords}
@@ -13,15 +15,17 @@ use Rattle.aig_program.specs.Arguments.{IsUnparsed}
 use Rattle.aig_program.specs.Choice.{Chooses}
 use Rattle.aig_program.specs.Commands.{EndsAsMeant}
 use Rattle.aig_program.specs.Ends.{Seen}
+use Rattle.aig_program.specs.GoodEnds.{MeansGood}
 use Rattle.aig_program.specs.declared.chosen.Chosen.{Chosen}
 use Rattle.aig_program.specs.declared.chosen.Chosen.TheVariants as chosen
 use Rattle.aig.specs.Sessions.{EndsSession}
 
--- a command or a session that was opened ends as it means; where none was, the run ends with the exit that says so
+-- a command or a session that was opened ends as it means, and a good end says what it means; where none was, the run ends with the exit that says so
 abbrev pub EndsAsOpened : {F : Type 0} → Flow Seen → (F → Option (List ℕ)) → Result (Chosen F) Exit
     → Result (Unit {0}) Exit
     → Type 0
-EndsAsOpened out left (Ok (chosen.Command command)) result = EndsAsMeant out left command result
+EndsAsOpened out left (Ok (chosen.Command command)) result =
+    EndsAsMeant out left command result × OnOk result (MeansGood left command)
 EndsAsOpened out left (Ok (chosen.Session it)) result = EndsSession out left it.circuit it.given result
 EndsAsOpened out left (Err exit) result = result ≡ Err exit
 
@@ -36,6 +40,11 @@ pub data Runs {F : Type 0} (left : F → Option (List ℕ)) (words : List (List 
   where
     parsed : (matches : ArgMatches) → HoldsWords words matches → RunsAsMeant left matches result → Runs left words result
     unparsed : (exit : Exit) → result ≡ Err exit → IsUnparsed exit → Runs left words result
+
+-- the bytes of the arguments that the system gave, in their order; none where it gave none
+abbrev pub words_of : {A E : Type 0} → Result (IntoIter (String A) A) E → List (List ℕ)
+words_of (Ok args) = map (λ word. word.bytes.items) (into_iter_items args)
+words_of (Err error) = []
 
 -- the exit status: 0 for a good end
 abbrev pub status_of_end : Result (Unit {0}) Exit → ℕ

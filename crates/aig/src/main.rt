@@ -3,7 +3,7 @@
 
 ghost use Rattle.std.specs.Prelude.{◌≡◌, ℕ, List, Ok, map};
 ghost use Rattle.aig_program.specs.Ends.{seen};
-ghost use Rattle.aig.specs.Program.{EndsAsOpened, Runs, RunsAsMeant, status_of_end};
+ghost use Rattle.aig.specs.Program.{EndsAsOpened, Runs, RunsAsMeant, status_of_end, words_of};
 
 mod sessions;
 
@@ -14,9 +14,9 @@ use aig_program::arguments::{self, parsed};
 use aig_program::{Chosen, command_for};
 use clap::ArgMatches;
 use sessions::shell;
-use std::env::Env;
+use std::env::{self, Args, Env};
 use std::fs::Files;
-use std::io::{IsTerminal, Read};
+use std::io::{self, IsTerminal, Read};
 use std::os::fd::AsFd;
 use std::process::ExitCode;
 use std::time::Clock;
@@ -51,7 +51,20 @@ where
     ensures ends { (words : List (List ℕ)) × Runs R.File.remaining words result }
 {
     let _reserved = reported(rt, reserve(rt))?;
-    let words = reported(rt, arguments::all(rt))?;
+    run_given(rt, terminals, env::args(rt))
+}
+
+/// The same for the arguments that the system gave.
+fn run_given<R: Env + Files + AllocGlobal + Print + Eprint + Clock + Input>(
+    rt: &R,
+    terminals: Terminals,
+    given: io::Result<Args>,
+) -> Result<(), Exit>
+where
+    R::File: AsFd,
+    ensures ends { Runs R.File.remaining (words_of given) result }
+{
+    let words = reported(rt, arguments::all(rt.alloc(), given))?;
     run_words(rt, terminals, words.as_slice())
 }
 
@@ -92,7 +105,7 @@ where
     R::File: AsFd,
     ensures ends { RunsAsMeant R.File.remaining matches.now result }
 {
-    let mut out = output(terminal);
+    let mut out = output(terminal, io::writer(terminal.runtime()));
     run_opened(terminal, command_for(terminal, matches), &mut out)
 }
 

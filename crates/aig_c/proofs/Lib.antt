@@ -1,3 +1,6 @@
+pub mod EditLemmas
 pub mod Endings
 pub mod Flags
+pub mod Holding
+pub mod Seats
 pub mod Silent

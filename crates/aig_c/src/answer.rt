@@ -14,7 +14,7 @@ pub(crate) const DONE: u8 = 0;
 /// An input is rejected.
 const REFUSED: u8 = 1;
 /// The text is longer than the room.
-const NO_ROOM: u8 = 2;
+pub(crate) const NO_ROOM: u8 = 2;
 /// Memory ran out.
 pub(crate) const NO_MEMORY: u8 = 3;
 

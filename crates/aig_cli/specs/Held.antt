@@ -1,8 +1,7 @@
 -- What the parsed arguments hold.
--- Example: `--property 3` holds 3 for `P`, and without it `P` is 0.
+-- Example: `--frames 3` holds 3 for `K`, and without it there is none.
 use Rattle.std.specs.Prelude.{◌≡◌, ◌⊎◌, ℕ, ◌<◌, ◌^◌, ◌&&◌, ◌||◌, nat_le, List, slice_index, Bool, true, false, Option, None}
 use Rattle.std.specs.Prelude.{Some, codes, is_some, not}
-use Rattle.std.specs.Option.{unwrap_or}
 use Rattle.std.specs.Str.{bytes_eq}
 use Rattle.std.specs.Str.Parse.{IsNumeral, digits_value, without_leading_plus}
 use Rattle.clap.specs.Matches.{first_value, found_of, one_text}
@@ -26,11 +25,6 @@ abbrev pub HoldsNumber : ArgMatches → List ℕ → Option ℕ → Type 0
 HoldsNumber matches name number =
     (one_text (found_of matches) name ≡ None → number ≡ None)
     × ((text : List ℕ) → one_text (found_of matches) name ≡ Some text → IsNumberOf text number)
-
--- a number is that one, or another where the argument is left out
-abbrev pub HoldsNumberOr : ArgMatches → List ℕ → ℕ → ℕ → Type 0
-HoldsNumberOr matches name other number =
-    (held : Option ℕ) × HoldsNumber matches name held × (number ≡ unwrap_or held other)
 
 -- a flag is set where the matches hold that it was given, and is not where they hold that it was not
 abbrev pub HoldsFlag : ArgMatches → List ℕ → Bool → Type 0

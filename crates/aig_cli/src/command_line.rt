@@ -2,7 +2,7 @@
 ghost use Rattle.std.specs.Prelude.{◌≡◌, [], IfOk, IfSome, None, false, is_some, true, map, option_map, slice_index};
 ghost use Rattle.clap.specs.Matches.{first_value, found_of, matched_of, raw_values};
 ghost use Rattle.clap.specs.Words.{app_of, is_simple, subcommand_rows_of, with_subcommand};
-ghost use Rattle.aig_cli.specs.Held.{HoldsFlag, HoldsGeneralFlag, HoldsNumber, HoldsNumberOr, HoldsSubcommand};
+ghost use Rattle.aig_cli.specs.Held.{HoldsFlag, HoldsGeneralFlag, HoldsNumber, HoldsSubcommand};
 ghost use Rattle.aig_cli.specs.Held.{LacksFormula, is_plain_number, names_formula, needs_formula};
 ghost use Rattle.aig_cli.specs.Table.{HoldsWords, IsCommandLine, program_of, shape_of_row, with_rows};
 
@@ -98,13 +98,6 @@ pub fn number_of(matches: &ArgMatches<'_>, name: &str) -> Option<u32>
     ensures held { HoldsNumber matches.now name.now result }
 {
     matches.get_one::<u32>(name)
-}
-
-/// Returns the number of an argument, or `default` if it is left out.
-pub fn number_or(matches: &ArgMatches<'_>, name: &str, default: u32) -> u32
-    ensures held { HoldsNumberOr matches.now name.now default result }
-{
-    number_of(matches, name).unwrap_or(default)
 }
 
 /// Returns whether a flag was given.

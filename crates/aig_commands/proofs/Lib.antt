@@ -7,6 +7,7 @@ pub mod Headers
 pub mod InfoLemmas
 pub mod ModelWitnesses
 pub mod NamedRuns
+pub mod Printed
 pub mod Questions
 pub mod Reductions
 pub mod Refutations

@@ -1,7 +1,7 @@
 -- What `check` answers and writes. How a verdict is written is our own choice.
 -- Examples: `aag 1 1 0 0 0 1/2/2/` and `1/b0//1/./`: `confirmed/`, with its trace ` 1  /confirmed/`, with properties
 -- ` 1   1 /confirmed/`; for property 1 this witness is refused, as it is one of property 0.
-use Rattle.std.specs.Prelude.{◌≡◌, ◌≢◌, ℕ, List, [], ◌++◌, Option, None, Some, Result, Ok, Err, codes}
+use Rattle.std.specs.Prelude.{◌≡◌, ◌≢◌, ℕ, List, [], ◌++◌, Option, None, Some, Result, Ok, Err, codes, IfSome}
 use Rattle.std.specs.Fmt.{decimal}
 use Rattle.aig_parts.specs.declared.ternary.Tern.{Tern}
 use Rattle.aig_parts.specs.declared.raw.Raw.{Raw}
@@ -12,6 +12,7 @@ use Rattle.aig_sim.specs.Verdict.{IsVerdict, IsConfirmed}
 use Rattle.aig_sim.specs.WitnessText.{Witness, SpellsWitness, IsAdmitted, IsWitnessOf, HasWitnessFault}
 use Rattle.aig_values.specs.PropertyTrace.{IsPropertyTrace}
 use Rattle.aig_values.specs.Trace.{IsTrace}
+use Rattle.aig_command.specs.Command.{IsFileOf}
 use Rattle.aig_command.specs.declared.run_fault.RunFault.{RunFault}
 use Rattle.aig_command.specs.declared.run_fault.RunFault.TheVariants as run_faults
 use Rattle.aig_commands.specs.declared.check.Shown.{Shown}
@@ -68,3 +69,17 @@ OfProperty (Some asked) Means text raw (Ok verdict) written =
 OfProperty (Some asked) Means text raw (Err (run_faults.OtherProperty found other)) written =
     (other ≡ asked) × (found ≢ asked) × IsWitnessOf found raw text × (written ≡ [])
 OfProperty (Some asked) Means text raw (Err fault) written = Means text raw (Err fault) written
+
+-- what a writer got begins with this text
+abbrev pub Prints : Option (List ℕ) → Option (List ℕ) → List ℕ → Type 0
+Prints (Some old) (Some new) text = (rest : List ℕ) × (new ≡ old ++ (text ++ rest))
+Prints _ _ text = ⊥
+
+-- the text is a witness of the circuit that reaches its property, whatever its x turn out to be
+abbrev pub HoldsConfirmed : Raw → List ℕ → Type 0
+HoldsConfirmed raw text = (witness : Witness) × SpellsWitness raw text witness × IsConfirmed raw witness
+
+-- the files are a circuit and such a witness of it, and one of the property that is asked for, if one is
+abbrev pub AreConfirmed : Option ℕ → List ℕ → List ℕ → Type 0
+AreConfirmed asked file text =
+    (raw : Raw) × IsFileOf file raw × HoldsConfirmed raw text × IfSome asked (λ property. IsWitnessOf property raw text)

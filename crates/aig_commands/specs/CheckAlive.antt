@@ -11,6 +11,7 @@ use Rattle.aig_sim.specs.declared.witness.breaks.Break.TheVariants as breaks
 use Rattle.aig_sim.specs.declared.witness.verdict.Verdict.TheVariants as verdict
 use Rattle.aig_sim.specs.Breaks.{HasRunFault, IsFirstBreak, SpellsRun}
 use Rattle.aig_refute.specs.Satisfiable.{KeepsConstraints}
+use Rattle.aig_command.specs.Command.{IsFileOf}
 use Rattle.aig_command.specs.declared.run_fault.RunFault.{RunFault}
 use Rattle.aig_command.specs.declared.run_fault.RunFault.TheVariants as run_faults
 use Rattle.aig_commands.specs.Check.{verdict_text}
@@ -43,3 +44,13 @@ abbrev pub ChecksRun : Option ℕ → List ℕ → Raw → Result (Option Break)
 ChecksRun asked text raw (Ok answer) written = ShowsRun raw asked text answer × (written ≡ alive_text answer)
 ChecksRun asked text raw (Err (run_faults.Witness fault)) written = HasRunFault raw text fault × (written ≡ [])
 ChecksRun asked text raw (Err _) written = ⊥
+
+-- the text is a witness, and its run keeps all constraints for the frames that are asked for, or for all that it has
+abbrev pub HoldsAlive : Raw → Option ℕ → List ℕ → Type 0
+HoldsAlive raw asked text =
+    (start : List Tern) × (rows : List (List Tern)) × SpellsRun raw text start rows
+    × KeepsConstraints raw (frames_asked asked rows) start rows
+
+-- the files are a circuit and such a witness of it
+abbrev pub AreAlive : Option ℕ → List ℕ → List ℕ → Type 0
+AreAlive asked file text = (raw : Raw) × IsFileOf file raw × HoldsAlive raw asked text

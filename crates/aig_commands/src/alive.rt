@@ -1,9 +1,10 @@
 //! `check --alive`: whether a run keeps all constraints.
-ghost use Rattle.std.specs.Prelude.{◌≡◌, IfErr, IfOk, Some};
+ghost use Rattle.std.specs.Prelude.{◌≡◌, IfErr, IfOk, Some, codes};
 ghost use Rattle.aig_bytes.specs.Bytes.{Writes};
 ghost use Rattle.aig_bytes.specs.Flow.{flow};
 ghost use Rattle.aig_command.specs.Command.{CommandEnds, OfFile};
-ghost use Rattle.aig_commands.specs.CheckAlive.{ChecksRun, ShowsRun, alive_text};
+ghost use Rattle.aig_commands.specs.Check.{Prints};
+ghost use Rattle.aig_commands.specs.CheckAlive.{AreAlive, ChecksRun, HoldsAlive, ShowsRun, alive_text};
 ghost use Rattle.aig_sim.specs.Breaks.{HasRunFault};
 
 use crate::check::write_verdict;
@@ -62,7 +63,9 @@ fn find_and_write<W: Write>(
     frames: Option<u32>,
     out: &mut W,
 ) -> Result<Option<Break>, RunFault>
-    ensures { CommandEnds (flow W.written W.failures out.old out.new) RunFault.Output
+    ensures printed { Prints (W.written out.old) (W.written out.new) (codes "alive") →
+        HoldsAlive circuit.now frames witness.now }
+    ensures ends { CommandEnds (flow W.written W.failures out.old out.new) RunFault.Output
         (ChecksRun frames witness.now circuit.now) result }
 {
     let answer = find_break(alloc, circuit, witness, frames)?;
@@ -83,6 +86,8 @@ pub fn check_alive<W: Write>(
     frames: Option<u32>,
     out: &mut W,
 ) -> Result<Option<Break>, RunFault>
+    ensures printed { Prints (W.written out.old) (W.written out.new) (codes "alive") →
+        AreAlive frames circuit.now witness.now }
     ensures ends { CommandEnds (flow W.written W.failures out.old out.new) RunFault.Output
         (OfFile circuit.now (ChecksRun frames witness.now)) result }
 {

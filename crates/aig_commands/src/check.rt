@@ -1,11 +1,12 @@
 //! `check`: the verdict on a witness.
-ghost use Rattle.std.specs.Prelude.{◌≡◌, ◌≢◌, ℕ, ◌+◌, ◌≤◌, Err, IfErr, IfSome, OnOk};
+ghost use Rattle.std.specs.Prelude.{◌≡◌, ◌≢◌, ℕ, ◌+◌, ◌≤◌, Err, IfErr, IfSome, None, OnOk, codes};
 ghost use Rattle.aig_bytes.specs.Bytes.{Writes};
 ghost use Rattle.aig_bytes.specs.Flow.{flow};
 ghost use Rattle.aig_command.specs.Command.{OfFile};
 ghost use Rattle.aig_command.specs.Command.{CommandEnds};
 ghost use Rattle.aig_commands.specs.GoesWell.{GoesWell};
-ghost use Rattle.aig_commands.specs.Check.{verdict_text, Checks, ChecksAndTraces, IsShown, OfProperty};
+ghost use Rattle.aig_commands.specs.Check.{verdict_text, AreConfirmed, Checks, ChecksAndTraces, HoldsConfirmed, IsShown};
+ghost use Rattle.aig_commands.specs.Check.{OfProperty, Prints};
 ghost use Rattle.aig_commands.specs.state.Asked.{RefusesAsked};
 ghost use Rattle.aig_sim.specs.Replayed.{Replays};
 ghost use Rattle.aig_sim.specs.WitnessText.{IsWitnessOf};
@@ -65,6 +66,8 @@ fn check_circuit<W: Write>(
     witness: &[u8],
     out: &mut W,
 ) -> Result<Verdict, RunFault>
+    ensures printed { Prints (W.written out.old) (W.written out.new) (codes "confirmed") →
+        HoldsConfirmed circuit.now witness.now }
     ensures ends { CommandEnds (flow W.written W.failures out.old out.new) RunFault.Output
         (Checks witness.now circuit.now) result }
     ensures count { W.failures out.new ≤ W.failures out.old + 1 }
@@ -103,6 +106,8 @@ pub fn check_bytes<W: Write>(
     witness: &[u8],
     out: &mut W,
 ) -> Result<Verdict, RunFault>
+    ensures printed { Prints (W.written out.old) (W.written out.new) (codes "confirmed") →
+        AreConfirmed None circuit.now witness.now }
     ensures ends { CommandEnds (flow W.written W.failures out.old out.new) RunFault.Output
         (OfFile circuit.now (Checks witness.now)) result }
     ensures count { W.failures out.new ≤ W.failures out.old + 1 }
@@ -121,6 +126,8 @@ pub fn check<W: Write>(
     property: Option<u32>,
     out: &mut W,
 ) -> Result<Verdict, RunFault>
+    ensures printed { Prints (W.written out.old) (W.written out.new) (codes "confirmed") →
+        AreConfirmed property circuit.now witness.now }
     ensures ends { CommandEnds (flow W.written W.failures out.old out.new) RunFault.Output
         (OfFile circuit.now (OfProperty property Checks witness.now)) result }
     ensures count { W.failures out.new ≤ W.failures out.old + 1 }

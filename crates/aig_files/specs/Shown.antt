@@ -1,7 +1,9 @@
 -- How bytes of files are shown, so that a terminal obeys none of them.
 -- Example: of `a`, ESC, LF `escaped` is `a\x1b\x0a`, and `shown` is `a\x1b/`.
 use Rattle.std.specs.Prelude.{ℕ, ◌+◌, ◌/◌, ◌%◌, ◌&&◌, ◌||◌, nat_eq, nat_lt, nat_le, IsTrue, Bool, if◌then◌else◌, List}
-use Rattle.std.specs.Prelude.{[], ◌∷◌, All, flat_map}
+use Rattle.std.specs.Prelude.{[], ◌∷◌, All, flat_map, Option}
+use Rattle.std.specs.Io.KnownBytes.{Appends}
+use Rattle.aig_bytes.specs.Bytes.{IsBeginning}
 
 -- a byte that a terminal shows as it is: 32 to 126
 abbrev pub is_printable : ℕ → Bool
@@ -38,3 +40,7 @@ shown_byte b = if is_plain b then b ∷ [] else escape b
 -- each byte of a text of lines
 abbrev pub shown : List ℕ → List ℕ
 shown text = flat_map shown_byte text
+
+-- known bytes grow by the first of these bytes, or by none
+abbrev pub AppendsSome : Option (List ℕ) → Option (List ℕ) → List ℕ → Type 0
+AppendsSome old new bytes = (done : List ℕ) × IsBeginning done bytes × Appends old new done

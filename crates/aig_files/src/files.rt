@@ -1,17 +1,18 @@
 //! The files that the arguments name.
-ghost use Rattle.std.specs.Prelude.{◌≡◌, ◌⊎◌, IfErr, IfOk, IfSome};
+ghost use Rattle.std.specs.Prelude.{◌≡◌, ◌⊎◌, [], IfErr, IfOk, IfSome};
 ghost use Rattle.aig_files.specs.Source.{source_name};
 
 use crate::exit::Exit;
 use crate::part::Part;
 use crate::source::Source;
+use crate::standard_output::StandardOutput;
 use crate::terminal::Terminal;
 use crate::tracked::Tracked;
 use aig_base::{Buffered, Std};
 use aig_command::RunFault;
 use std::alloc::Global;
 use std::fs::{self, Files};
-use std::io::{self, ErrorKind, Printer, Read};
+use std::io::{ErrorKind, Read, Write};
 use std::time::Clock;
 
 /// Opens a file of a run by its name, which it keeps. The line of the run shows it while it is read.
@@ -44,7 +45,14 @@ pub fn read_whole<F: Read + Drop>(alloc: Global, mut file: F, part: Part) -> Res
     }
 }
 
-/// Returns standard output, buffered in blocks.
-pub fn output<P: Print>(rt: &P) -> Buffered<Std<Printer<'_, P>>> {
-    Buffered::new(Std::new(io::writer(rt)))
+/// Returns standard output, buffered in blocks, over the writer to it.
+pub fn output<'t, R: Clock + Eprint, W: Write>(
+    terminal: &'t Terminal<'t, R>,
+    writer: W,
+) -> Buffered<Std<StandardOutput<'t, R, W>>>
+    ensures inner { result.inner.inner.inner ≡ writer }
+    ensures terminal { result.inner.inner.is_terminal ≡ terminal.now.is_output }
+    ensures empty { result.held ≡ [] }
+{
+    Buffered::new(Std::new(StandardOutput::new(terminal, writer)))
 }

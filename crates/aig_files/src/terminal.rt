@@ -1,11 +1,8 @@
 //! The runtime of a run, as the terminal of its user sees it.
-ghost use Rattle.std.specs.Prelude.{◌≡◌, ◌≤◌, IfOk, length};
+ghost use Rattle.std.specs.Prelude.{◌≡◌};
 
 use crate::progress::Progress;
-use crate::shown::Shown;
 use std::alloc::{Alloc, Global};
-use std::fmt::Display;
-use std::io::{self, ErrorKind, Write};
 use std::marker::Model;
 use std::time::Clock;
 
@@ -20,8 +17,7 @@ pub struct Terminals {
     pub error: bool,
 }
 
-/// The runtime of a run, with the line that says how far the run is. If standard output is a terminal, it gets the
-/// bytes that it may obey escaped, and no line comes after the first of them.
+/// The runtime of a run, with the line that says how far the run is, and which of the standard streams are terminals.
 #[derive(Drop)]
 pub struct Terminal<'a, R> {
     rt: &'a R,
@@ -31,15 +27,17 @@ pub struct Terminal<'a, R> {
 }
 
 impl<'a, R> Model for Terminal<'a, R> {
-    ghost Value = { R };
+    ghost use Rattle.aig_files.specs.StandardOutput.{RunTerminal};
 
-    ghost view = { λ t. t.rt.now };
+    ghost Value = { RunTerminal R };
+
+    ghost view = { λ t. record { runtime = t.rt.now; is_output = t.is_output } };
 }
 
 impl<'a, R: Clock + Eprint> Terminal<'a, R> {
     /// Of a run that begins now. The line is shown if standard error is a terminal, or if the user asks for it.
     pub fn begin(rt: &'a R, terminals: Terminals, is_asked_for: bool) -> Terminal<'a, R>
-        ensures { result ≡ rt.now }
+        ensures { result ≡ record { runtime = rt.now; is_output = terminals.output } }
     {
         Terminal {
             rt,
@@ -51,7 +49,7 @@ impl<'a, R: Clock + Eprint> Terminal<'a, R> {
 
     /// Returns the runtime below it.
     pub fn runtime(&self) -> &'a R
-        ensures { result.now ≡ self.now }
+        ensures { result.now ≡ self.now.runtime }
     {
         self.rt
     }
@@ -59,6 +57,13 @@ impl<'a, R: Clock + Eprint> Terminal<'a, R> {
     /// Whether standard input is a terminal, where a person types.
     pub fn has_person(&self) -> bool {
         self.is_input
+    }
+
+    /// Whether standard output is a terminal.
+    pub(crate) fn is_output(&self) -> bool
+        ensures { result ≡ self.now.is_output }
+    {
+        self.is_output
     }
 
     /// Returns the line that says how far the run is.
@@ -77,43 +82,5 @@ impl<R: Alloc<A = Global>> Alloc for Terminal<'_, R> {
 
     fn alloc(&self) -> Global {
         self.rt.alloc()
-    }
-}
-
-// Standard output.
-impl<R: Clock + Eprint + Print + AllocGlobal> Print for Terminal<'_, R> {
-    fn print<D: Display + Drop>(&self, value: D) -> io::Result<()> {
-        let text = value.to_string(self.rt.alloc())?;
-        Print::write_all(self, text.as_bytes())
-    }
-
-    fn println<D: Display + Drop>(&self, value: D) -> io::Result<()> {
-        self.print(value)?;
-        Print::write_all(self, b"\n")
-    }
-
-    fn write_all(&self, bytes: &[u8]) -> io::Result<()> {
-        let mut rest = bytes;
-        while !rest.is_empty() {
-            let count = self.write_some(rest)?;
-            if count == 0 {
-                return Err(io::Error::from(ErrorKind::WriteZero));
-            }
-            rest = &rest[count..];
-        }
-        Ok(())
-    }
-
-    fn write_some(&self, bytes: &[u8]) -> io::Result<usize>
-        // The trait's clause.
-        ensures bound { IfOk result (λ n. n ≤ length bytes.now) }
-    {
-        if self.is_output {
-            self.progress.end();
-            return Shown::new(io::writer(self.rt)).write(bytes);
-        }
-        let count = self.rt.write_some(bytes)?;
-        self.progress.wrote(count);
-        Ok(count)
     }
 }

@@ -8,7 +8,9 @@ use Rattle.aig_bytes.specs.Flow.{Flow, flow}
 use Rattle.aig_bytes.proofs.WriteLemmas.{after-nil}
 use Rattle.aig_parts.specs.declared.fault.Fault.TheVariants as circuits
 use Rattle.aig_parts.specs.declared.raw.Raw.{Raw}
-use Rattle.aig_commands.specs.CheckAlive.{ChecksRun}
+use Rattle.aig_commands.specs.Check.{AreConfirmed}
+use Rattle.aig_commands.specs.CheckAlive.{AreAlive, ChecksRun}
+use Rattle.aig_commands.proofs.Printed.{holds_alive, holds_confirmed}
 use Rattle.aig_sim.specs.declared.witness.breaks.Break.{Break}
 use Rattle.aig_sim.specs.declared.witness.verdict.Verdict.{Verdict}
 use Rattle.aig_sim.specs.declared.witness.verdict.Verdict.TheVariants.{Initial, Constraint, NotBad, Confirmed}
@@ -22,8 +24,8 @@ use Rattle.aig_files.specs.declared.exit.Exit.TheVariants as exits
 use Rattle.aig_files.specs.Known.{still_known}
 use Rattle.aig_files.specs.declared.part.Part.{Part}
 use Rattle.aig_files.specs.declared.part.Part.TheVariants as parts
-use Rattle.aig_program.specs.Ends.{AreAlive, end_of_alive}
-use Rattle.aig_program.specs.Ends.{AreConfirmed, ChecksWitness, Completes, Ends, EndsFlushed, EndsKeeping, IsReadOf, IsUnwritten, OfText, Seen}
+use Rattle.aig_program.specs.Ends.{end_of_alive}
+use Rattle.aig_program.specs.Ends.{ChecksWitness, Completes, Ends, EndsFlushed, EndsKeeping, IsReadOf, IsUnwritten, OfText, Seen}
 use Rattle.aig_program.specs.Ends.{as_meant, end_of, end_of_streamed, end_of_verdict, not_begun, not_kept, seen, unread, unwritten}
 
 -- what holds of the bytes that were read holds of those that the file had left
@@ -314,13 +316,13 @@ confirmed_file out fault shown asked file text (Ok (Initial latch)) (Ok done) a 
 confirmed_file out fault shown asked file text (Ok (Constraint frame constraint)) (Ok done) a is = cc
 confirmed_file out fault shown asked file text (Ok NotBad) (Ok done) a is = cc
 confirmed_file out fault (Some shown) None file text (Ok Confirmed) (Ok done) (CommandEnds.writes_all bytes (raw, is_file, means) got) is =
-    (raw, is_file, means.0, tt)
+    (raw, is_file, holds_confirmed raw text means.0, tt)
 confirmed_file out fault None None file text (Ok Confirmed) (Ok done) (CommandEnds.writes_all bytes (raw, is_file, means) got) is =
-    (raw, is_file, means.0, tt)
+    (raw, is_file, holds_confirmed raw text means.0, tt)
 confirmed_file out fault (Some shown) (Some property) file text (Ok Confirmed) (Ok done) (CommandEnds.writes_all bytes (raw, is_file, (of, means)) got) is =
-    (raw, is_file, means.0, of)
+    (raw, is_file, holds_confirmed raw text means.0, of)
 confirmed_file out fault None (Some property) file text (Ok Confirmed) (Ok done) (CommandEnds.writes_all bytes (raw, is_file, (of, means)) got) is =
-    (raw, is_file, means.0, of)
+    (raw, is_file, holds_confirmed raw text means.0, of)
 
 pub confirmed_end : (out : Flow Seen) (fault : RunFault) (shown : Option Shown) (asked : Option ℕ) (file text : List ℕ)
     (r : Result (Unit {0}) Exit)
@@ -341,7 +343,7 @@ alive_file out fault asked file text answer (Err e) a is = tt
 alive_file out fault asked file text (Err why) (Ok done) a is = cc
 alive_file out fault asked file text (Ok (Some reason)) (Ok done) a is = cc
 alive_file out fault asked file text (Ok None) (Ok done) (CommandEnds.writes_all bytes (raw, is_file, means) got) is =
-    (raw, is_file, means.0)
+    (raw, is_file, holds_alive raw asked text None refl means.0)
 
 pub alive_end : (out : Flow Seen) (fault : RunFault) (asked : Option ℕ) (file text : List ℕ) (r : Result (Unit {0}) Exit)
     → Ends out fault end_of_alive (OfFile file (ChecksRun asked text)) r → OnOk r (AreAlive asked file text)

@@ -1,7 +1,7 @@
 -- How the program takes a command's answer, and which bytes its writer gets. That this writer is standard output, and
 -- what reaches that, no clause says.
 -- Examples: `bench` with a faulty stimulus ends with the stimulus's fault; `not bad` ends as `NotConfirmed`.
-use Rattle.std.specs.Prelude.{◌≡◌, ◌⊎◌, ℕ, List, [], IsTrue, Option, None, Some, Result, Ok, Err, IfSome}
+use Rattle.std.specs.Prelude.{◌≡◌, ◌⊎◌, ℕ, List, [], IsTrue, Option, None, Some, Result, Ok, Err}
 use Rattle.aig_bytes.specs.Bytes.{IsBeginning}
 use Rattle.aig_bytes.specs.Flow.{Flow, flow}
 use Rattle.aig_parts.specs.declared.fault.Fault.TheVariants as circuits
@@ -9,10 +9,9 @@ use Rattle.aig_parts.specs.declared.raw.Raw.{Raw}
 use Rattle.aig_sim.specs.declared.witness.breaks.Break.{Break}
 use Rattle.aig_sim.specs.declared.witness.verdict.Verdict.{Verdict}
 use Rattle.aig_sim.specs.declared.witness.verdict.Verdict.TheVariants.{Initial, Constraint, NotBad, Confirmed}
-use Rattle.aig_sim.specs.WitnessText.{IsWitnessOf}
 use Rattle.aig_base.specs.declared.select.PropertySection.{PropertySection}
 use Rattle.aig_format.specs.declared.reader.header.Format.{Format}
-use Rattle.aig_command.specs.Command.{BreaksOff, CommandEnds, Got, IsFileOf, OfFile, Text}
+use Rattle.aig_command.specs.Command.{BreaksOff, CommandEnds, Got, OfFile, Text}
 use Rattle.aig_command.specs.Flushed.{IsFlushed}
 use Rattle.aig_command.specs.declared.run_fault.RunFault.{RunFault}
 use Rattle.aig_command.specs.declared.run_fault.RunFault.TheVariants as run_faults
@@ -20,8 +19,7 @@ use Rattle.aig_files.specs.declared.exit.Exit.{Exit}
 use Rattle.aig_files.specs.declared.exit.Exit.TheVariants as exits
 use Rattle.aig_files.specs.declared.part.Part.{Part}
 use Rattle.aig_files.specs.declared.part.Part.TheVariants as parts
-use Rattle.aig_commands.specs.Check.{Checks, ChecksAndTraces, OfProperty, ShowsVerdict}
-use Rattle.aig_commands.specs.CheckAlive.{ShowsRun}
+use Rattle.aig_commands.specs.Check.{Checks, ChecksAndTraces, OfProperty}
 use Rattle.aig_commands.specs.Select.{SelectsNamed}
 use Rattle.aig_commands.specs.declared.check.Shown.{Shown}
 use Rattle.aig_commands.specs.declared.select.NamedSelection.{NamedSelection}
@@ -106,18 +104,6 @@ pub data EndsKeeping {T : Type 0} (out : Flow Seen) (fault : RunFault) (Means : 
   not_begun : (exit : Exit) → result ≡ Err exit → IsUnwritten exit → Got out [] → EndsKeeping out fault Means result
   not_kept : (exit : Exit) → result ≡ Err exit → IsUnwritten exit → Completes out Means
       → EndsKeeping out fault Means result
-
--- the files are a circuit and a witness of it whose verdict is `confirmed`, and which is one of the property that is
--- asked for, if one is
-abbrev pub AreConfirmed : Option ℕ → List ℕ → List ℕ → Type 0
-AreConfirmed asked file text =
-    (raw : Raw) × IsFileOf file raw × ShowsVerdict raw text Confirmed
-    × IfSome asked (λ property. IsWitnessOf property raw text)
-
--- the files are a circuit and a witness of it whose run keeps all constraints for the frames that are asked for, or for
--- all that it has
-abbrev pub AreAlive : Option ℕ → List ℕ → List ℕ → Type 0
-AreAlive asked file text = (raw : Raw) × IsFileOf file raw × ShowsRun raw asked text None
 
 -- `select --names` ends as it means for these positions and the text of names, and the bytes of the circuit's file
 abbrev pub EndsSelectingNamed : Flow Seen → PropertySection → PropertySection → List ℕ → List ℕ → Format → List ℕ

@@ -5,4 +5,5 @@ pub mod ChosenFiles
 pub mod Commands
 pub mod Ends
 pub mod GivenFiles
+pub mod GoodEnds
 pub mod Questions

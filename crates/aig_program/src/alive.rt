@@ -1,8 +1,8 @@
 //! The command on a circuit and a run that should keep its constraints: `check --alive`.
 ghost use Rattle.std.specs.Prelude.{IfSome, OnOk};
 ghost use Rattle.aig_command.specs.Command.{OfFile};
-ghost use Rattle.aig_commands.specs.CheckAlive.{ChecksRun};
-ghost use Rattle.aig_program.specs.Ends.{AreAlive, Ends, end_of_alive, seen};
+ghost use Rattle.aig_commands.specs.CheckAlive.{AreAlive, ChecksRun};
+ghost use Rattle.aig_program.specs.Ends.{Ends, end_of_alive, seen};
 
 use crate::command::CheckAlive;
 use crate::ended::alive;

@@ -1,5 +1,7 @@
 //! The arguments of the command line.
-ghost use Rattle.std.specs.Prelude.{IfErr, IfOk, map};
+ghost use Rattle.std.specs.Prelude.{◌≡◌, IfErr, IfOk, map};
+ghost use Rattle.std.specs.Result.{IsOkAnd};
+ghost use Rattle.std.specs.Vec.Iter.{into_iter_items};
 ghost use Rattle.aig_cli.specs.Table.{HoldsWords};
 ghost use Rattle.aig_program.specs.Arguments.{IsUnparsed};
 
@@ -10,22 +12,30 @@ use aig_files::{Exit, escaped};
 use clap::ArgMatches;
 use clap::error::ErrorKind;
 use std::alloc::Global;
-use std::env::{self, Env};
+use std::env::Args;
 use std::{fmt, io};
 
-/// Returns all arguments, the program's name first.
-pub fn all<R: Env + AllocGlobal>(rt: &R) -> Result<Vec<String>, Exit>
+/// Returns the arguments that the system gave, all and in their order, the program's name first.
+pub fn all(alloc: Global, given: io::Result<Args>) -> Result<Vec<String>, Exit>
+    ensures words { IfOk result (λ list. IsOkAnd given (λ args. list.items ≡ into_iter_items args)) }
     ensures fails { IfErr result IsUnparsed }
 {
-    match env::args(rt) {
-        Ok(words) => match words.collect(rt.alloc()) {
-            Ok(list) => Ok(list),
-            Err(_) => Err(Exit::Run(RunFault::Memory)),
-        },
+    match given {
+        Ok(args) => collected(alloc, args),
         Err(error) => match error.kind() {
             io::ErrorKind::OutOfMemory => Err(Exit::Run(RunFault::Memory)),
             _ => Err(Exit::NotText),
         },
+    }
+}
+
+fn collected(alloc: Global, args: Args) -> Result<Vec<String>, Exit>
+    ensures words { IfOk result (λ list. list.items ≡ into_iter_items args) }
+    ensures fails { IfErr result IsUnparsed }
+{
+    match args.collect(alloc) {
+        Ok(list) => Ok(list),
+        Err(_) => Err(Exit::Run(RunFault::Memory)),
     }
 }
 

@@ -1,6 +1,8 @@
 //! A command with its options and its open files, and what it runs.
+ghost use Rattle.std.specs.Prelude.{OnOk};
 ghost use Rattle.aig_program.specs.Commands.{EndsAsMeant};
 ghost use Rattle.aig_program.specs.Ends.{seen};
+ghost use Rattle.aig_program.specs.GoodEnds.{MeansGood};
 
 use crate::alive::check_alive;
 use crate::certificates::strengthen;
@@ -245,6 +247,7 @@ impl<F: Read + Drop> Command<'_, F> {
     where
         R::File: AsFd,
         ensures ends { EndsAsMeant (seen W.written W.failures out.old out.new) F.remaining self.entry result }
+        ensures good { OnOk result (MeansGood F.remaining self.entry) }
     {
         let alloc = terminal.alloc();
         match self {

@@ -1,10 +1,11 @@
 //! The commands on a witness: its check, its reduction, the dump of its run, and how it is made of a stimulus.
 ghost use Rattle.std.specs.Prelude.{IfSome, OnOk};
 ghost use Rattle.aig_command.specs.Command.{OfFile};
+ghost use Rattle.aig_commands.specs.Check.{AreConfirmed};
 ghost use Rattle.aig_commands.specs.Reduce.{Reduces};
 ghost use Rattle.aig_commands.specs.Wave.{DumpsRun};
 ghost use Rattle.aig_commands.specs.Witness.{WritesWitness};
-ghost use Rattle.aig_program.specs.Ends.{AreConfirmed, ChecksWitness, Ends, end_of, end_of_verdict, seen};
+ghost use Rattle.aig_program.specs.Ends.{ChecksWitness, Ends, end_of, end_of_verdict, seen};
 
 use crate::command::{Check, Reduce, WaveWitness, Witness};
 use crate::ended::{confirmed, ended};

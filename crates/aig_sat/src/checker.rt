@@ -2,6 +2,7 @@
 
 mod checker;
 mod clauses;
+mod credit;
 mod finder;
 mod first;
 mod hints;

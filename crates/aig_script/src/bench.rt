@@ -17,7 +17,11 @@ use aig_sim::{Grid, write_stimulus};
 use std::alloc::Global;
 
 /// A bench of a circuit file and a stimulus file.
-fn open_bench<G: Grid>(alloc: Global, circuit: &[u8], stimulus: &[u8]) -> Result<Bench<G>, RunFault>
+pub fn open_bench<G: Grid>(
+    alloc: Global,
+    circuit: &[u8],
+    stimulus: &[u8],
+) -> Result<Bench<G>, RunFault>
     ensures bench { IfOk result (λ bench. AreBenchFiles circuit.now stimulus.now bench.pair) }
     ensures fault { IfErr result (RefusesFiles circuit.now stimulus.now) }
 {

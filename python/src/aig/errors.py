@@ -24,15 +24,20 @@ class Unreadable(AigError, OSError):
     """A read or a write failed."""
 
 
+class Crashed(RuntimeError):
+    """The program ended without an answer: a signal ended it, or it is no `aig`. Nothing is known of its input."""
+
+
 class EditError(AigError):
     """A bench cannot do an edit, or answer a query. Nothing changed.
 
     number  the number of the reply `no`, from 1 to 13
+    done    of several edits, how many were done before it
     """
 
-    def __init__(self, number: int, line: str):
+    def __init__(self, number: int, line: str, done: int = 0):
         super().__init__("bench", f"{REPLIES.get(number, number)} (no {number} to the line {line!r})")
-        self.number = number
+        self.number, self.done = number, done
 
 
 REPLIES = {
@@ -56,7 +61,7 @@ def error_of(status: int, said: str) -> Exception:
     """The error for a run that ended with this status and this text on standard error."""
     first, _, rest = said.strip().partition("\n")
     if not first.startswith("aig: "):
-        return RuntimeError(f"aig ended with status {status}: {said.strip() or 'no message'}")
+        return Crashed(f"aig ended with status {status}: {said.strip() or 'no message'}")
     part, _, reason = first[len("aig: "):].partition(": ")
     # The names of the memory files are this package's own, and say nothing to its user.
     explanation = "\n".join(line for line in rest.split("\n") if not line.startswith("  file: /proc/self/fd/"))

@@ -5,6 +5,7 @@ from __future__ import annotations
 import os
 import shutil
 import tempfile
+from dataclasses import replace
 from pathlib import Path
 from typing import Dict, NamedTuple, Optional, Sequence, Union
 
@@ -86,6 +87,7 @@ def prove(
         alive = found(-1)
         if alive.checked is not None and alive.checked.by == "alive":
             return _verdict(circuit, found_of_it, alive)
+        return replace(verdict, notes=[*verdict.notes, *alive.notes])
     return verdict
 
 

@@ -20,6 +20,7 @@ from aig.verdicts.design import Assertion, Design, properties, read_aiger, symbo
 from aig.verdicts.folder import BusyFolder, Folder, replaced, script
 from aig.verdicts.manifest import rows_as_json
 from aig.verdicts.row import has_constraints, name_of
+from aig.verdicts.sentences import SAME_CIRCUIT
 from aig.verdicts.session import Session
 from aig.verdicts.tools import Stop, Stopped
 from aig.verdicts.workers import Workers
@@ -99,7 +100,7 @@ def raises(kind, call, *words):
     return False
 
 
-def with_aig(tally, name, body, rows=("two", "three")):
+def with_aig(tally, name, body, wanted=1, rows=("two", "three")):
     """A re-check with an `aig` that does something else for these rows: none of them is right."""
     path, real = kept("every"), os.environ["AIG_PROGRAM"]
     for which in rows:
@@ -112,7 +113,7 @@ def with_aig(tally, name, body, rows=("two", "three")):
         finally:
             os.environ["AIG_PROGRAM"] = real
         tally.check(f"{name}: {which}", why is not None and f"b{at}" in why, why)
-        tally.check(f"{name}: {which}: status", status == 1 and "all checked" not in err, (status, err))
+        tally.check(f"{name}: {which}: status", status == wanted and "all checked" not in err, (status, err))
 
 
 def lines(_, tally, __):
@@ -127,28 +128,30 @@ def lines(_, tally, __):
 
 
 def ends_of_aig(_, tally, __):
-    """An `aig` that prints the right line, and then is killed, ends with another status, or prints a message."""
+    """An `aig` that prints the right line, and then is killed, ends with another status, or prints a message: the last
+    one alone rejects the bundle."""
     for name, end in {"killed": "kill -9 $$", "a crash": "kill -SEGV $$", "status 2": "exit 2", "status 3": "exit 3",
                       "status 5": "exit 5", "status 130": "exit 130",
                       "a message": "echo 'aig: proof: step 1' >&2; exit 0",
                       "a message and status 1": "echo 'aig: proof: step 1' >&2; exit 1"}.items():
-        with_aig(tally, f"ends of aig: {name}", f'REAL "$@" 2> err; {end}')
+        with_aig(tally, f"ends of aig: {name}", f'REAL "$@" 2> err; {end}', 1 if "message" in name else 4)
 
 
 def again(_, tally, __):
-    """`recheck --yosys`, where Yosys is a function of this test: the same circuit and places, and others."""
+    """`recheck --yosys`, where Yosys is a function of this test: the same circuit and places, and others. Whether another
+    circuit does the same is a function, too."""
     path = kept("every")
     rows = Bundle(path).rows[1:]
     places = [Assertion(it.position, it.kind, it.name, it.file, it.first, it.last, it.of) for it in rows]
     circuit = (path / CIRCUIT).read_bytes()
-    usual = recheck.made, recheck.version, recheck._difference
+    usual = recheck.made, recheck.version, recheck._difference, recheck.do_the_same
     recheck.version = lambda name, _: manifest_of(path)["versions"][name]
-    recheck._difference = lambda *_: "its gates are others"
+    recheck._difference, recheck.do_the_same = lambda *_: "its gates are others", lambda *_: False
 
     def why(data=circuit, assertions=places, change=None):
         read = []
 
-        def made(paths, stop, options):
+        def made(paths, stop, options, asserts=()):
             read.extend(it.read_bytes() for it in paths)
             return Design("every", data, assertions)
 
@@ -169,6 +172,8 @@ def again(_, tally, __):
     turned[-2] ^= 1
     for name, data in (("one bit", bytes(turned)), ("a byte more", circuit + b"\n"), ("nothing", b"")):
         tally.check(f"again: {name}", "another circuit" in why(data))
+    recheck.do_the_same = lambda old, new, _: (old, new) == (circuit, bytes(turned))
+    tally.compare("again: one that does the same", [why(bytes(turned)), why(circuit + b"\n") != ""], ["", True])
     for name, change in {"line": {"last": 99}, "first line": {"first": 1}, "file": {"file": "x.v"},
                          "name": {"name": "x"}, "kind": {"kind": "cover"}}.items():
         for at in (0, len(places) - 1):
@@ -184,6 +189,11 @@ def again(_, tally, __):
                           "no text": {"top": None, "defines": [], "conditions": True, "wires": True}}.items():
         said = why(change=lambda bundle: bundle.manifest.update(options=options))
         tally.check(f"again: options: {name}", said != "", said)
+    options = {"top": "every", "defines": [], "conditions": True, "wires": True}
+    for name, more in {"files alone": {"asserts": ["every.v"]}, "a text of them": {"asserts": "every.v", "module": "m"}}.items():
+        said = why(change=lambda bundle: bundle.manifest.update(options={**options, **more}))
+        tally.check(f"again: assertions: {name}", said != "", said)
+    tally.check("again: another translation", "the translation" in why(change=_with_a_translation))
     tally.compare("again: no sources", why(change=lambda bundle: bundle.manifest.update(sources=[])),
                   "the bundle has no sources")
     tally.compare("again: no sources and no options", "the bundle has no sources",
@@ -191,7 +201,16 @@ def again(_, tally, __):
     recheck.version = lambda *_: "yosys Yosys 9.9"
     others = [replace(it, first=it.first - 1) for it in places]
     tally.compare("again: another Yosys may begin a line before", why(assertions=others), "")
-    _, recheck.version, recheck._difference = usual
+    _, recheck.version, recheck._difference, recheck.do_the_same = usual
+
+
+def _with_a_translation(bundle):
+    """A bundle that says that Yosys read a copy of its source."""
+    copy = Path("every.verdicts/translated/every.v")
+    copy.parent.mkdir()
+    copy.write_bytes(b"x")
+    bundle.manifest.update(translated=["every.v"])
+    bundle.sums["translated/every.v"] = sum_of(b"x")
 
 
 # The command of each way, and the line that `aig` has to print.
@@ -474,7 +493,8 @@ def of_programs(tally):
 def rechecked(_, tally, __):
     """`recheck` with each option: what it checks, what it asks Yosys, its last line and its status."""
     asked = []
-    usual, command.same_design = command.same_design, lambda bundle, stop: asked.append(bundle)
+    usual = command.same_design
+    command.same_design = lambda bundle, stop: asked.append(bundle) or SAME_CIRCUIT
     try:
         for words in ((), ("-q",), ("--json",), ("--jobs", "1"), ("--page", "page.html"), ("-q", "--junit", "j.xml")):
             for more in ((), ("--yosys",)):

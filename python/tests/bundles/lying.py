@@ -13,6 +13,8 @@ from bundles.common import FEW, SMALL_SOLVER, tool
 from bundles.many import circuit, position
 
 FRAMES = 3
+# The seconds of each question: more than a solver that is right needs on a busy machine.
+SECONDS = 1000.0
 # What a solver says at one question: that there is no model, with a proof of nothing, or that there is this model.
 LIES = {
     "no model": 'for last; do :; done; echo 0 > "$last"; exit 20',
@@ -69,7 +71,7 @@ def bound_of(true):
 
 
 def found_by(text, at, frames, solver, abc=None):
-    return decide(Task.of(text, at, Bounds(frames=frames), Programs(solver, abc)))
+    return decide(Task.of(text, at, Bounds(frames=frames, seconds=SECONDS), Programs(solver, abc)))
 
 
 def why_wrong(text, found):

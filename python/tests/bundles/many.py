@@ -177,9 +177,12 @@ def others(tally, run):
     path = made("other")
     Path("many.aag").write_bytes(circuit().replace(b"16 14", b"16 12"))
     called("run", "many.aag", "--out", path, "--abc", "", "--solver", tool("none", "exit 0"), "--frames", "3", "-q")
-    tally.compare("taken over: of another circuit", {it for it, _ in verdicts_of(path)}, {"undecided"})
-    tally.compare("taken over: its files", sorted(it.name for it in path.iterdir()),
-                  [".lock", "MANIFEST.json", "circuit.aig", "index.html", "recheck.sh", "times.json"])
+    rows = manifest_of(path)["rows"]
+    tally.compare("taken over: of another circuit, what aig has checked on this one",
+                  [row for row in rows if row["verdict"] not in ("undecided", "alive") and not row.get("origin")], [])
+    tally.check("taken over: and only that", judged(path) is not None)
+    tally.compare("taken over: its files", sorted(it.name for it in path.iterdir()), sorted(
+        [".lock", "MANIFEST.json", "index.html", "recheck.sh", "times.json", *manifest_of(path)["sums"]]))
     path = made("changed")
     manifest = manifest_of(path)
     manifest["rows"][-1].update(name="other")

@@ -170,7 +170,7 @@ def abc(_, tally, __):
     ):
         out = f"abc_{name}"
         status, _, _ = called("run", FEW, "--out", out, "--solver", SMALL_SOLVER, "--frames", "4", "--only", "later",
-                              "--seconds", "2" if name == "hang" else "60", "--abc", tool(f"{name}.sh", body))
+                              "--seconds", "5" if name == "hang" else "60", "--abc", tool(f"{name}.sh", body))
         later = rows_of(out)["later"]
         tally.compare(f"abc: {name}", (status, later["verdict"]), (4, "unreachable within 4"))
         tally.check(f"abc: {name}: a note", word in " ".join(later.get("notes", [])), later)

@@ -25,6 +25,7 @@ class Known:
     one_clock  whether a frame is a cycle of the one clock
     notes      texts that a note of the design has
     free       modules to leave out
+    asserts    files of assertions that are put into a module
     simulated  the status of `aig-verdicts replay`: 5 where a simulator has another meaning
     """
 
@@ -38,6 +39,8 @@ class Known:
     notes: Sequence[str] = ()
     simulated: int = 0
     free: Sequence[str] = ()
+    asserts: Sequence[str] = ()
+    module: str = ""
 
     @property
     def name(self) -> str:
@@ -156,6 +159,28 @@ DESIGNS = [
     Known(["watchdog.v"], "bites=holds not_early=holds misses=13 bound=holds bitten=13"),
     Known(["hamming.v"], "mends=holds sees_two=holds no_false_alarm=holds hasty_changes=2 three=never two_seen=2"),
     Known(["divider.v"], "quotient=holds remainder=holds of_zero=holds strict_quotient=5 seven_by_two=5"),
+    # concurrent assertions: the standard says what they mean. Frames are one more than edges
+    Known(["sva_first.sv"], "reset_then_zero=holds counts=holds needs_past=2 not_past=2 rises=3 changes=3 begins_at_0=holds "
+          "first_fall=2 stable_inputs=3 stable_count=2 unknown_rise=2 unknown_stable=2", by="hand"),
+    Known(["sva_resets.sv"], "granted=holds never_off=3 is_off=holds after_reset=holds rises=2 falls=never grows=4 "
+          "grows_in_time=holds", by="hand"),
+    Known(["sva_negedge.sv"], "follows=holds not_follows=3 past=holds first_value=3 twice=holds changed=3", by="hand"),
+    Known(["sva_bind.sv"], " ".join(f"{it}.rules.counts=holds {it}.rules.stays=holds {it}.rules.known=2 {it}.rules.wraps=8 "
+                                    f"{it}.rules.below=holds" for it in ("one", "two")), by="hand"),
+    # the width of a variable of a named type is not read for a simulator
+    Known(["sva_states.sv"], "runs=holds from_idle=holds declared=holds unknown=3 waits=holds last_one=2 finished=4",
+          by="hand", simulated=4),
+    Known(["sva_widths.sv"], "wraps=holds wide=18 low_wraps=holds not_nine=holds nine=holds seven=2 sum=holds "
+          "high=18", by="hand"),
+    Known(["sva_clocks.sv"], "pulse=4 other=holds wrong=6", by="hand", one_clock=False, notes=[FREE_CLOCK]),
+    Known(["sva_alone.v"], "after=5 u.moves=holds u:sva_alone.sva:4=5 u.wraps=6", by="hand", top="sva_alone",
+          asserts=["sva_alone.sva"], module="alone_counter"),
+    Known(["sva_vacuous.sv"], "three=vacuous jumps=vacuous both=vacuous steps=holds no_jump=never around=6", by="hand"),
+    Known(["sva_sequences.sv"], "d.in_three=holds d.in_two=4 d.in_range=holds d.twice=holds d.only=holds "
+          "h.stays=holds h.drops=holds h.held=holds h.again=6 l.whole=holds l.inside=holds l.first=holds l.within_three=holds "
+          "l.nothing=holds l.if_else=holds l.same=holds l.both=holds r.each[0].served=holds r.each[0].asked=holds "
+          "r.each[0].one=4 r.each[1].served=holds r.each[1].asked=holds r.each[1].one=4 r.alone=holds", by="hand",
+          top="sva_sequences"),
     # the repository's
     Known(["examples/queue.v"], "queue.v:37=11 queue.v:38=holds", defines=["FORMAL"]),
     Known(["examples/decimal.v"], "never_13=holds same=holds", defines=["FORMAL"]),

@@ -61,7 +61,10 @@ def arguments(program, plain, tally):
         wanted, said = plain.run(*asked), program.command.run(*asked)
         tally.check(f"explain: {asked}", explains(said, wanted), said)
         tally.compare(f"explain: {asked}: as a call", program.run(*asked), said)
-    for asked in ([], ["--help"], ["--version"], ["help", "check"], ["check", "--explain", "two_gates", "missing"],
+    write("wraps.wit", contents(f"{EXAMPLES}/wraps.wit"))
+    seen = [f"{EXAMPLES}/wraps.aag", "wraps.wit"]
+    tally.check("explain: a verdict has its property", b"property: b0" in program.command.run("check", *seen).err)
+    for asked in (["check", "--help", *seen], ["refute", "--help", *seen], ["check", "--frames", "1", *seen], [], ["--help"], ["--version"], ["help", "check"], ["check", "--explain", "two_gates", "missing"],
                   ["--explain", "info", "two_gates"], ["info", "caf\udcff"]):
         tally.compare(f"explain: {asked}", program.command.run(*asked), plain.run(*asked))
     module = supervised.run([sys.executable, "-m", "aig.explain", "info", "cycle"], capture_output=True, check=False,

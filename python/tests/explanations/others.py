@@ -73,6 +73,10 @@ def others(rows):
         rows.row(f"no signal {text}", ["why", "--of", text, "wraps", write("s", "1\n")], "why: name",
                  [f"no signal, vector, entry or literal has the name `{text}`", *notes, "the greatest literal is 19",
                   "aig info --names CIRCUIT prints the names of all entries"])
+    rows.row("no signal of two letters that are turned round", ["why", "--of", "acb", write("g", "aag 1 1 0 0 0\n2\ni0 abc\n"),
+             write("s", "1\n")], "why: name",
+             ["no signal, vector, entry or literal has the name `acb`", "do you mean `abc`?", "the greatest literal is 3",
+              "aig info --names CIRCUIT prints the names of all entries"])
     long = "n" * 69
     rows.row("no signal of a long name", ["why", "--of", f"{long}k", write("g", f"aag 1 1 0 0 0\n2\ni0 {long}m\n"), write("s", "1\n")],
              "why: name", [f"no signal, vector, entry or literal has the name `{long[:60]}..`", f"do you mean `{long[:60]}..`?",

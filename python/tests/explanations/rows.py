@@ -81,7 +81,10 @@ def solvers(rows):
 def variables(rows):
     """An explanation says how many variables the formula has that `cnf` writes, also of the induction step."""
     one = "aag 3 2 1 0 0 1 1\n2\n4\n6 2 6\n6\n4\n"
-    for circuit, proofs in ((NEVER, ("f",)), (one, ("f",)), (NEVER, ("--step", "f", "done"))):
+    # It never is 1 as NEVER, and has a latch that begins with 0: in a step it may begin with any value.
+    latched = NEVER.replace("aag 9 2 0 0 7 1\n2\n4\n", "aag 10 2 1 0 7 1\n2\n4\n20 20\n")
+    of_step = ("--step", "f", "done")
+    for circuit, proofs in ((NEVER, ("f",)), (one, ("f",)), (NEVER, of_step), (latched, ("f",)), (latched, of_step)):
         write("circuit", circuit)
         write("done", "2 0\n")
         step, proof = (["--step"], proofs[:2]) if len(proofs) > 1 else ([], [])

@@ -49,17 +49,24 @@ def need(*names):
 
 
 @contextlib.contextmanager
-def running(program):
-    """The package runs this program."""
-    usual = os.environ.get("AIG_PROGRAM")
-    os.environ["AIG_PROGRAM"] = os.path.abspath(program)
+def setting(name, value):
+    """A variable of the environment has this value, or none."""
+    usual = os.environ.pop(name, None)
+    if value is not None:
+        os.environ[name] = value
     try:
         yield
     finally:
-        if usual is None:
-            del os.environ["AIG_PROGRAM"]
-        else:
-            os.environ["AIG_PROGRAM"] = usual
+        os.environ.pop(name, None)
+        if usual is not None:
+            os.environ[name] = usual
+
+
+@contextlib.contextmanager
+def running(program):
+    """The package runs this program, and takes no library."""
+    with setting("AIG_PROGRAM", os.path.abspath(program)), setting("AIG_LIBRARY", ""):
+        yield
 
 
 def example(name):

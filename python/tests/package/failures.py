@@ -7,13 +7,13 @@ from pathlib import Path
 
 import aig
 from library import runs
-from package.common import CONFIRMED, example, raised, running
+from package.common import CONFIRMED, example, raised, running, setting
 
 
 def failures(program, tally, _):
     counter = example("counter.aag")
-    with counter.bench(["10"]) as killed:
-        killed._process.kill()
+    with setting("AIG_LIBRARY", ""), counter.bench(["10"]) as killed:
+        killed._engine.process.kill()
         tally.check("a killed bench", isinstance(raised(killed.value, "enable", 0), RuntimeError))
     tally.check("no circuit", raised(aig.Circuit, b"").part == "circuit")
     tally.check("no file", isinstance(raised(aig.read, "nothing.aag"), FileNotFoundError))

@@ -20,3 +20,7 @@ def replies(_, tally, __):
             found = []
             error = raised(lambda: found.extend(edited.script(["v 0 2"])))
             tally.compare(f"a {name} reply", (found, isinstance(error, RuntimeError)), (wanted or [], wanted is None))
+    runs.write("replies", "#!/bin/sh\nread line\necho bad\nread line\necho bad\n")
+    with running("replies"), counter.bench() as edited:
+        error = raised(edited.pop)
+        tally.check("an edit that is not known", isinstance(error, ValueError) and "'-'" in str(error), error)

@@ -10,7 +10,7 @@ from aig.verdicts.svg import Lane, waveform
 from believed import believed
 from pages.tags import read
 
-NO_ROOM = "The page has no more room for pictures"
+NO_ROOM = "The page has no picture of this run"
 
 
 def page_of(circuit, rows, files):

@@ -7,8 +7,7 @@ import resource
 import time
 import xml.etree.ElementTree as tree
 
-from aig.verdicts.decisions import DISAGREES
-from aig.verdicts.page import GROUPS
+from aig.verdicts.sentences import DISAGREES, GROUPS
 from aig.verdicts.style import STYLE
 from aig.verdicts.svg import STYLE as WAVE, Lane, hexadecimal, visible, waveform
 from pages.bundles import HOSTILE, Bundle
@@ -111,7 +110,7 @@ def hostile(_, tally, __):
                  "By induction of", "2 claims over 1 latch (0 gates)", "▲ fails", "▲ reached", "more notes",
                  "Longer runs were not"):
         tally.check(f"the page says {word}", word in text)
-    order = [page.index(f"<h2 id={key}>") for key, _, _ in GROUPS if key != DISAGREES]
+    order = [page.index(f"<h2 id={key}>") for key in GROUPS if key != DISAGREES]
     tally.compare("failures first", order, sorted(order))
     tally.check("no carriage return", "\r" not in page)
     doubted = page.rindex("<section", 0, page.index("Perhaps vacuous"))

@@ -36,8 +36,10 @@ class Expressions:
 
     def leaf(self, scope: Scope, most: int) -> Value:
         kind = self.random.random()
-        if kind < 0.12 and scope.counters and most >= 32:
-            return Value(expression(self.random.choice(scope.counters).name), 32, True)
+        counters = [it for it in scope.counters if it.width <= most]
+        if kind < 0.12 and counters:
+            counter = self.random.choice(counters)
+            return Value(expression(counter.name), counter.width, counter.is_signed)
         if kind < 0.3 or not scope.variables:
             return self.literal(most)
         return self.read(scope, self.random.choice(scope.variables), most)
@@ -73,7 +75,7 @@ class Expressions:
             return Value(expression(name), variable.width, variable.is_signed, variable.is_constant)
         if variable.is_constant:
             return self.literal(most)
-        tree, width = self.part(scope, variable, most)
+        tree, width = self.part(scope, variable, most, variable.is_member)
         return Value(expression(name, tree), width)
 
     def part(self, scope: Scope, variable: Variable, most: int, is_fixed: bool = False,

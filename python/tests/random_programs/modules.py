@@ -8,14 +8,17 @@ from random import Random
 from typing import Dict, List, Optional, Sequence, Tuple
 
 from .expressions import Expressions
-from .scope import Counter, Names, Scope, Target, Value, Variable
+from .scope import Counter, LoopVariable, Names, Scope, Target, Value, Variable
 from .statements import Statements
 from .tree import Kind, Tree, body, expression, item, joined, statement, text
+from .types import enum, loop_variable, struct
 
 # The file of a memory, and the words that it has, each of four bits.
 WORDS, WORDS_OF_FILE = "words.hex", (0, 1, 3, 4, 6)
 # At a wider port Icarus Verilog 11 extends the result of a signed function with zeros, and `s[5:0]`, if that is all of a
 # signed variable, with its sign. Verilator and Yosys do neither, as the standard has it.
+# An item of an enum, which Icarus Verilog 11 takes for one bit at a port.
+_ITEM_OF_ENUM = re.compile(r"\bE\d+\b")
 _WRONG_AT_PORT = re.compile(r"f\d+\(.*\)|\\?[\w.]+\S* ?\[[^\[\]]*\]")
 
 
@@ -56,7 +59,7 @@ class Inside:
     nets: List[Variable] = field(default_factory=list)
     items: List[Tree] = field(default_factory=list)
     functions: List = field(default_factory=list)
-    loop_variables: List[str] = field(default_factory=list)
+    loop_variables: List[LoopVariable] = field(default_factory=list)
     genvars: List[str] = field(default_factory=list)
     is_initial: bool = True
 
@@ -115,7 +118,20 @@ class Modules:
         for variable in made:
             self.declared(inside, variable, self.begin())
         inside.state += made
-        return made
+        return made + self.of_types(inside)
+
+    def of_types(self, inside: Inside) -> List[Variable]:
+        """Declares registers of named types. Returns them, and the members of structs."""
+        written: List[Variable] = []
+        for kind in self.random.choice([[], [], [], [struct], [struct], [enum], [enum], [struct, enum]]):
+            made = kind(self.random, self.names)
+            inside.items.append(text(f"{made.text}initial {made.variable.name} = {self.first_value(made.variable)};\n"))
+            inside.state += [made.variable, *made.more]
+            written += [made.variable, *(it for it in made.more if not it.is_constant)]
+        return written
+
+    def first_value(self, variable: Variable) -> str:
+        return self.random.choice(variable.items) if variable.items else str(self.begin())
 
     def routines(self, inside: Inside) -> None:
         """Functions of what they get alone, as `always @*` does not see what they read."""
@@ -170,7 +186,7 @@ class Modules:
         edges = " or ".join(f"{edge} {name}" for edge, name in resets)
         chain = ""
         for edge, name in resets:
-            values = "".join(f"{it.name} <= {self.begin()};\n" for it in written)
+            values = "".join(f"{it.name} <= {self.first_value(it)};\n" for it in written)
             chain += f"if ({'!' if edge == 'negedge' else ''}{name}) begin\n{values}end\nelse "
         return item(f"always @({clocks.clock} or {edges}) {begin}", chain, "begin\n", lines, "end\nend")
 
@@ -179,8 +195,8 @@ class Modules:
         random = self.random
         scope = inside.scope()
         # with one variable in two such blocks each of them would wake the other one for ever
-        scope.loop_variables = [self.names.plain("i")]
-        inside.items.append(text(f"integer {scope.loop_variables[0]};\n"))
+        scope.loop_variables = [loop_variable(random, self.names)]
+        inside.items.append(text(scope.loop_variables[0].declared))
         if not inside.is_initial or random.random() < 0.2:
             # `always @*` would not begin where no value changes, and in `always_comb` a local variable is a latch
             scope.is_plain, scope.loop_variables = random.random() < 0.98, []
@@ -328,7 +344,8 @@ class Modules:
                 value = self.expressions.value(inside.scope(), 0, most)
             if value.width < port.width and random.random() < 0.95:  # of an operator this is rejected
                 value = self.expressions.value(inside.scope(), 0, most)
-            if value.width < port.width and _WRONG_AT_PORT.fullmatch(str(value.tree)):
+            narrow = value.width < port.width and _WRONG_AT_PORT.fullmatch(str(value.tree))
+            if narrow or _ITEM_OF_ENUM.search(str(value.tree)):
                 value = self.expressions.literal(most)
             ports.append((port.name, value.tree))
         made = []
@@ -359,8 +376,8 @@ class Modules:
     def filled_in(self, inside: Inside, children: Sequence[Module], steps: int) -> None:
         """Gives a module registers, nets and blocks."""
         random = self.random
-        inside.loop_variables += [self.names.plain("i") for _ in range(2)]
-        inside.items.append(text(f"integer {', '.join(inside.loop_variables)};\n"))
+        inside.loop_variables += [loop_variable(random, self.names) for _ in range(2)]
+        inside.items += [text(it.declared) for it in inside.loop_variables]
         groups = [self.registers(inside) for _ in range(random.choice([1, 1, 2]))]
         self.routines(inside)
         waiting = list(children)

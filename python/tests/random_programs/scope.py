@@ -17,7 +17,10 @@ class Variable:
     low           the smaller one of the two indices in its range
     is_ascending  whether the range begins with `low`
     sizes         how many words each dimension of a memory has
-    is_constant   whether it is a parameter
+    is_constant   whether it is a parameter or an item of an enum
+    items         the items of an enum, which alone may be written to it
+    has_members   whether it is a struct, whose members are variables too
+    is_member     whether it is one of those: Icarus Verilog 11 knows no variable index of it
     """
 
     name: str
@@ -27,6 +30,9 @@ class Variable:
     is_ascending: bool = False
     sizes: Tuple[int, ...] = ()
     is_constant: bool = False
+    items: Tuple[str, ...] = ()
+    has_members: bool = False
+    is_member: bool = False
 
     @property
     def range(self) -> str:
@@ -66,6 +72,32 @@ class Counter(NamedTuple):
     name: str
     low: int
     high: int
+    width: int = 32
+    is_signed: bool = True
+
+
+class LoopVariable(NamedTuple):
+    """A variable that loops count with, and its type as it is written."""
+
+    name: str
+    type: str
+    width: int
+    is_signed: bool
+
+    @property
+    def declared(self) -> str:
+        return f"{self.type} {self.name};\n"
+
+    def has(self, value: int) -> bool:
+        low, high = (-1 << self.width - 1, 1 << self.width - 1) if self.is_signed else (0, 1 << self.width)
+        return low <= value < high
+
+    def literal(self, value: int) -> str:
+        """A number of its type."""
+        return f"{self.width}'{'s' if self.is_signed else ''}d{value}"
+
+    def between(self, low: int, high: int) -> Counter:
+        return Counter(self.name, low, high, self.width, self.is_signed)
 
 
 class Target(NamedTuple):
@@ -97,7 +129,7 @@ class Scope:
     counters: List[Counter] = field(default_factory=list)
     functions: List[Routine] = field(default_factory=list)
     tasks: List[Routine] = field(default_factory=list)
-    loop_variables: List[str] = field(default_factory=list)
+    loop_variables: List[LoopVariable] = field(default_factory=list)
     result: str = ""
     is_plain: bool = False
 

@@ -7,8 +7,9 @@ from dataclasses import replace
 from typing import List, Sequence, Tuple
 
 from .expressions import Expressions
-from .scope import Argument, Counter, Names, Routine, Scope, Target, Variable
+from .scope import Argument, LoopVariable, Names, Routine, Scope, Target, Variable
 from .tree import Tree, body, expression, item, joined, statement, text
+from .types import loop_variable
 
 # How often a part with a variable index that is written goes downward: it is rejected if it may end below bit 0.
 DOWNWARD = 0.01
@@ -39,6 +40,9 @@ class Statements:
 
     def assignment(self, scope: Scope) -> Tree:
         target = self.random.choice(scope.targets)
+        if target.variable.items:
+            item_of = self.random.choice(target.variable.items)
+            return statement(target.variable.name, " = " if target.blocks else " <= ", item_of, ";")
         if self.random.random() < (0.08 if target.blocks else 0.01):  # Yosys often rejects it in braces with <=
             written, width = self.several(scope, target.blocks)
         else:
@@ -66,10 +70,11 @@ class Statements:
     def several(self, scope: Scope, blocks: bool) -> Tuple[Tree, int]:
         """Several targets in braces, each once."""
         targets = [*dict.fromkeys(it.variable for it in scope.targets if it.blocks == blocks and not it.variable.sizes
-                                  and it.variable.name != scope.result)]
+                                  and it.variable.name != scope.result and not it.variable.items
+                                  and not it.variable.has_members)]
         chosen = self.random.sample(targets, min(len(targets), self.random.choice([2, 2, 3])))
         if not chosen:
-            return self.written(scope, next(it.variable for it in scope.targets if it.blocks == blocks))
+            return self.written(scope, next(it.variable for it in scope.targets if it.blocks == blocks and not it.variable.items))
         # Yosys rejects a variable index in braces that are written
         is_fixed = self.random.random() < 0.98
         parts = [self.written(scope, it, is_fixed) for it in chosen]
@@ -82,6 +87,7 @@ class Statements:
         for size in variable.sizes:
             words += ["[", expressions.index(scope, 0, size, False), "]"]
         form = random.random()
+        is_fixed = is_fixed or variable.is_member
         if form < 0.6 or variable.width == 1:
             return text(*words), variable.width
         # Yosys fails where a function with constants as arguments writes out of range
@@ -116,6 +122,9 @@ class Statements:
         random = self.random
         if random.random() < 0.15:
             return self.reverse_case(scope, depth)
+        enums = [it for it in scope.variables if it.items]
+        if enums and random.random() < 0.5:
+            return self.case_of_enum(scope, random.choice(enums), depth)
         kind = random.choice(["case", "case", "casez", "casex"])
         if random.random() < 0.01:  # of `casez` and `casex` this is rejected
             selector = self.expressions.literal(5)
@@ -128,6 +137,11 @@ class Statements:
         if random.random() < 0.7:
             items.append(statement("default: begin\n", self.some(scope, depth), "end"))
         return statement(f"{kind} (", selector.tree, ")\n", *items, "endcase")
+
+    def case_of_enum(self, scope: Scope, variable: Variable, depth: int) -> Tree:
+        labels = self.random.sample(variable.items, self.random.randint(1, len(variable.items)))
+        items = [statement(f"{it}: begin\n", self.some(scope, depth), "end") for it in labels]
+        return statement(f"case ({variable.name})\n", *items, "default: begin\n", self.some(scope, depth), "end\nendcase")
 
     def label(self, scope: Scope, kind: str, width: int) -> Tree:
         random = self.random
@@ -150,30 +164,39 @@ class Statements:
 
     def loop(self, scope: Scope, depth: int) -> Tree:
         random = self.random
-        name = random.choice(scope.loop_variables)
+        variable = random.choice(scope.loop_variables)
         low, step = random.choice([0, 0, 0, 1, 2]), random.choice([1, 1, 1, 2])
         high = low + step * random.randint(1, 4)
-        inside = replace(scope, counters=[*scope.counters, Counter(name, low, high)],
-                         loop_variables=[it for it in scope.loop_variables if it != name])
-        if random.random() < 0.75:
-            end, by = random.choice([(f"< {high + 1}", f"{name} + {step}"), (f"<= {high}", f"{name} + {step}"),
-                                     (f"<= {high}", f"{step} + {name}")])
-            head = f"for ({name} = {low}; {name} {end}; {name} = {by}) begin\n"
-        else:
-            head = f"for ({name} = {high}; {name} >= {low}; {name} = {name} - {step}) begin\n"
-        if inside.loop_variables and random.random() < 0.2:
-            return self.with_second(scope, inside, head, (high - low) // step + 1, depth)
-        if random.random() < 0.004:
+        if not variable.has(high + step):
+            high = low + step
+        inside = replace(scope, counters=[*scope.counters, variable.between(low, high)],
+                         loop_variables=[it for it in scope.loop_variables if it != variable])
+        if variable.width == 32 and random.random() < 0.004:
+            name = variable.name
             head = f"{name} = {low}; while ({name} <= {high}) begin {name} = {name} + 1;\n"
-            inside.counters[-1] = Counter(name, low + 1, high + 1)
+            inside.counters[-1] = variable.between(low + 1, high + 1)
+            return statement(head, self.some(inside, min(depth, 2)), "end")
+        head = self.head(variable, low, high, step)
+        if inside.loop_variables and random.random() < 0.2:
+            return self.with_second(inside, head, (high - low) // step + 1, depth)
         return statement(head, self.some(inside, min(depth, 2)), "end")
 
-    def with_second(self, scope: Scope, inside: Scope, head: str, times: int, depth: int) -> Tree:
+    def head(self, variable: LoopVariable, low: int, high: int, step: int) -> str:
+        """The head of a loop. Where its numbers have no width, the width of a narrow variable must not matter inside."""
+        random, name = self.random, variable.name
+        is_exact = variable.type != "integer" and random.random() < 0.6
+        first, last, by = (variable.literal(it) if is_exact else str(it) for it in (low, high, step))
+        if variable.has(low - step) and random.random() < 0.25:
+            return f"for ({name} = {last}; {name} >= {first}; {name} = {name} - {by}) begin\n"
+        end = random.choice([f"< {high + 1}", f"<= {last}"])
+        forms = [f"{name} = {name} + {by}"] * 3 + [f"{name} = {by} + {name}", f"{name} += {by}"] + [f"{name}++"] * (step == 1)
+        return f"for ({name} = {first}; {name} {end}; {random.choice(forms)}) begin\n"
+
+    def with_second(self, inside: Scope, head: str, times: int, depth: int) -> Tree:
         """A loop with a second variable that each round changes."""
-        second = inside.loop_variables[0]
-        low = self.random.choice([0, 1])
-        inside.counters.append(Counter(second, low, low + times - 1))
-        inside.loop_variables.remove(second)
+        variable = inside.loop_variables.pop(0)
+        second, low = variable.name, self.random.choice([0, 1])
+        inside.counters.append(variable.between(low, low + times - 1))
         if self.random.random() < 0.5:
             before, after = f"{second} = {low};\n", f"{second} = {second} + 1;\n"
         else:
@@ -185,17 +208,17 @@ class Statements:
 
     def block(self, scope: Scope, depth: int) -> Tree:
         """A named block with a variable of its own, which gets a value first."""
-        local, loop_variable = self.names.variable("t", 16), self.names.plain("i")
+        local, counts = self.names.variable("t", 16), loop_variable(self.random, self.names)
         first = text(local.name, " = ", self.expressions.value(scope, 2, max(local.width, 12)).tree, ";\n")
-        inside = scope.with_more(variables=[local], targets=[Target(local, True)] * 2, loop_variables=[loop_variable])
+        inside = scope.with_more(variables=[local], targets=[Target(local, True)] * 2, loop_variables=[counts])
         after = self.random.choice([0, 1]) * [self.assignment(inside)]
-        return statement(f"begin : {self.names.new('b')}\nreg {local.declared};\ninteger {loop_variable};\n", first,
+        return statement(f"begin : {self.names.new('b')}\nreg {local.declared};\n{counts.declared}", first,
                          self.some(inside, depth), *after, "end")
 
     def call(self, scope: Scope, depth: int) -> Tree:
         task = self.random.choice(scope.tasks)
         wanted = sum(it.way != "input" for it in task.arguments)
-        free = [it.variable for it in scope.targets if it.blocks and not it.variable.sizes]
+        free = [it.variable for it in scope.targets if it.blocks and not it.variable.sizes and not it.variable.has_members]
         free = list(dict.fromkeys(free))
         if len(free) < wanted:
             return self.assignment(scope)
@@ -207,7 +230,7 @@ class Statements:
             else:
                 variable = outputs.pop()
                 is_part = variable.width > 1 and self.random.random() < 0.2
-                part = self.expressions.part(scope, variable, variable.width, False, DOWNWARD)[0] if is_part else ""
+                part = self.expressions.part(scope, variable, variable.width, variable.is_member, DOWNWARD)[0] if is_part else ""
                 words.append(text(variable.name, part))
         return statement(task.name, "(", joined(words), ");") if words else statement(task.name, ";")
 
@@ -223,10 +246,10 @@ class Statements:
         name = self.names.new("t" if is_task else "f")
         shape = self.names.variable("r", 20)
         result = Variable(name, shape.width, shape.is_signed)
-        local, loop_variable = self.names.variable("v", 16), self.names.plain("i")
+        local, counts = self.names.variable("v", 16), loop_variable(random, self.names)
         inputs = [it.variable for it in arguments if it.way != "output"]
         written = [it.variable for it in arguments if it.way != "input"] + [result] * (not is_task) + [local]
-        inside = Scope([*scope.variables, *inputs], [], [], scope.functions, scope.tasks, [loop_variable])
+        inside = Scope([*scope.variables, *inputs], [], [], scope.functions, scope.tasks, [counts])
         lines = []
         for variable in written:
             tree, width = text(variable.name), variable.width
@@ -238,7 +261,7 @@ class Statements:
         if not is_task:
             inside.tasks, inside.result = [], name
         lines.append(self.body(inside, 2, random.choice([1, 1, 2])))
-        locals_of = text(f"reg {local.declared};\ninteger {loop_variable};\n")
+        locals_of = text(f"reg {local.declared};\n{counts.declared}")
         head = "task " if is_task else "function "
         head += "" if is_static else self.random.choice(["", "", "automatic "])
         return Routine(name, arguments, result), self._written(head, is_task, arguments, result, locals_of, lines)

@@ -25,17 +25,5 @@ returns-in_err-_reserved g c =
       );
     }
 
-pub returns-in_err-words : goal.returns-in_err-words
-returns-in_err-words g c =
-    let r = c.from_residual-in_err-words in
-    let exit = c.in_err-words.field-0.0 in
-    record {
-      ends = (
-        [],
-        ends_unparsed g.R.File.Read.remaining [] r.result exit
-            (exit_of c.all.result exit IsUnparsed c.in_err-words.ensures c.all.ensures.fails) r.ensures.1,
-      );
-    }
-
 pub returns : goal.returns
-returns g c = record { ends = (_, c.run_words.ensures.ends) }
+returns g c = record { ends = (_, c.run_given.ensures.ends) }

@@ -4,8 +4,9 @@ ghost use Rattle.aig_sat.specs.checker.Agreement.{Agrees};
 ghost use Rattle.aig_sat.specs.checker.Clause.{is_true, meets};
 ghost use Rattle.aig_sat.specs.checker.Holding.{Holds, KeepsHolding, KeepsMeeting};
 
+use crate::checker::credit::Credit;
 use crate::checker::finder::Finder;
-use crate::checker::hints::id_of;
+use crate::checker::hints::{Groups, id_of};
 use crate::checker::known::Free;
 use crate::checker::marks::Marks;
 use crate::checker::propagator::Propagator;
@@ -28,8 +29,9 @@ pub(crate) struct Checker {
     pub(crate) is_hinted: bool,
     // The id of the next clause.
     pub(crate) next: u32,
-    // Behind the hints of the last candidate.
-    pub(crate) cursor: usize,
+    // The groups of hints of the step that was last tried on its first literal.
+    pub(crate) groups: Groups,
+    pub(crate) credit: Credit,
 }
 
 impl Checker {
@@ -46,7 +48,8 @@ impl Checker {
             refuted: false,
             is_hinted,
             next: 1,
-            cursor: 0,
+            groups: Groups::new(alloc),
+            credit: Credit::new(),
         })
     }
 
@@ -148,6 +151,7 @@ impl Checker {
         if self.refuted {
             return Ok(());
         }
+        self.credit.add_clause(clause);
         self.marks.put(clause)?;
         self.stand()
     }
@@ -161,6 +165,7 @@ impl Checker {
         if self.refuted {
             return Ok(true);
         }
+        self.credit.add_step(clause, hints);
         if self.propagator.follows_by(clause, hints)? {
             self.add_clause(clause)?;
             return Ok(true);

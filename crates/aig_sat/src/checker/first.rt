@@ -12,7 +12,6 @@ ghost use Rattle.aig_sat.specs.checker.Listing.{FindsAll};
 
 use crate::checker::checker::Checker;
 use crate::checker::clauses::has;
-use crate::checker::hints::group_of;
 use crate::checker::known::negated;
 use aig_bytes::Memory;
 use aig_parts::Lit;
@@ -74,14 +73,15 @@ impl Checker {
         let Some(literals) = self.propagator.clauses.literals(place) else {
             return Ok(true);
         };
+        let size = literals.len() as u64;
         if !has(literals, lie) {
+            self.propagator.looks = self.propagator.looks.saturating_sub(size);
             return Ok(true);
         }
         resolve(literals, lie, clause, &mut self.resolvent)?;
         let id = self.propagator.clauses.number(place);
-        let group = group_of(hints, id, &mut self.cursor);
-        self.propagator
-            .follows_soon(&self.resolvent, group.way, group.passed)
+        let way = self.groups.way(hints, id);
+        self.propagator.follows_soon(&self.resolvent, way)
     }
 
     // Whether each of the candidates has another literal that is true where the clause that is added is not met, if it
@@ -122,6 +122,11 @@ impl Checker {
             → (p : ℕ) → IsSettled self.old.propagator self.new.propagator clause.now lie p) }
     {
         self.propagator.clauses.find(lie, &mut self.candidates)?;
+        let found = self.candidates.len() as u64;
+        if found > self.propagator.looks {
+            return Ok(false);
+        }
+        self.propagator.looks = self.propagator.looks.saturating_sub(found);
         self.settles_found(clause, hints, lie)
     }
 
@@ -160,16 +165,17 @@ impl Checker {
         }
     }
 
-    // Whether a clause may stand on its first literal, as a limited number of looks shows.
+    // Whether a clause may stand on its first literal, as the looks show that the proof has left.
     fn may_stand(&mut self, clause: &[Lit], hints: Option<&[Lit]>) -> Result<bool, Memory>
         ensures same { self.new.refuted ≡ self.old.refuted }
         ensures narrows { Narrows self.old.propagator self.new.propagator }
         ensures may { IfOk result (λ may. IsTrue may
             → MayStand self.old.propagator self.new.propagator clause.now) }
     {
-        self.propagator.looks = self.propagator.limit();
-        self.cursor = 0;
+        self.groups.put(hints)?;
+        self.propagator.looks = self.credit.looks;
         let may = self.may_stand_on_first(clause, hints);
+        self.credit.looks = self.propagator.looks;
         self.propagator.looks = u64::MAX;
         may
     }

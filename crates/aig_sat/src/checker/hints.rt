@@ -1,7 +1,9 @@
 //! The hints of a step: the ids of the clauses that it follows from. Nothing is proved of them: a clause is looked at
 //! before anything is taken from it.
 
+use aig_bytes::Memory;
 use aig_parts::Lit;
+use std::alloc::Global;
 
 /// How propagation finds the clauses that it looks at.
 #[derive(Clone, Copy)]
@@ -17,59 +19,63 @@ pub(crate) fn id_of(hint: Lit) -> u32 {
     hint.var().saturating_add(1)
 }
 
-/// How a candidate of a step is tried, and how many hints were passed in search of its group.
-#[derive(Clone, Copy)]
-pub(crate) struct Group<'a> {
-    pub(crate) way: Way<'a>,
-    pub(crate) passed: u64,
+/// The groups of a step. Each has a key: the id of its clause, and the place of the first hint after the one that names
+/// the clause. The keys are sorted.
+#[derive(Drop)]
+pub(crate) struct Groups {
+    keys: Vec<u64>,
 }
 
-// The place after the negative hint of a candidate.
-fn group_among(hints: &[Lit], id: u32) -> Option<usize> {
-    for (place, hint) in hints.iter().enumerate() {
-        if hint.is_neg() && id_of(*hint) == id {
-            return Some(place + 1);
+// The key of a group, or of the place before all groups of a clause.
+fn key_of(id: u32, place: usize) -> u64 {
+    u64::from(id) << 32 | place as u64
+}
+
+impl Groups {
+    /// No groups.
+    pub(crate) fn new(alloc: Global) -> Groups {
+        Groups {
+            keys: Vec::new(alloc),
         }
     }
-    None
-}
 
-// The same, from a place on, and then from the first one on.
-fn group_from(hints: &[Lit], id: u32, from: usize) -> Option<usize> {
-    let from = from.min(hints.len());
-    let (before, after) = hints.split_at(from);
-    match group_among(after, id) {
-        Some(place) => Some(from.saturating_add(place)),
-        None => group_among(before, id),
+    /// Takes the groups of a step's hints in place of those that it has.
+    pub(crate) fn put(&mut self, hints: Option<&[Lit]>) -> Result<(), Memory> {
+        self.keys.clear();
+        let Some(hints) = hints else {
+            return Ok(());
+        };
+        for (place, hint) in hints.iter().enumerate() {
+            if hint.is_neg() {
+                self.keys.push(key_of(id_of(*hint), place + 1))?;
+            }
+        }
+        self.keys.sort_unstable();
+        Ok(())
     }
-}
 
-/// How a candidate of a step is tried. Candidates mostly have their groups in their order, so the search begins where
-/// the last one ended.
-pub(crate) fn group_of<'a>(hints: Option<&'a [Lit]>, id: u32, cursor: &mut usize) -> Group<'a> {
-    let Some(hints) = hints else {
-        return Group {
-            way: Way::Search,
-            passed: 0,
+    // The place of the first hint of a clause's group. Of two groups the first one counts.
+    fn place(&self, id: u32) -> Option<usize> {
+        let at = match self.keys.binary_search(&key_of(id, 0)) {
+            Ok(at) => at,
+            Err(at) => at,
         };
-    };
-    let all = hints.len();
-    let Some(place) = group_from(hints, id, *cursor) else {
-        return Group {
-            way: Way::Named(hints, &[]),
-            passed: all as u64,
+        match self.keys.get(at) {
+            Some(key) if *key >> 32 == u64::from(id) => Some((*key % (1 << 32)) as usize),
+            _ => None,
+        }
+    }
+
+    /// How a candidate of the step is tried that has these hints: by those before all groups, and by those of its own.
+    pub(crate) fn way<'a>(&self, hints: Option<&'a [Lit]>, id: u32) -> Way<'a> {
+        let Some(hints) = hints else {
+            return Way::Search;
         };
-    };
-    // A search that goes round has passed all hints.
-    let passed = if place > *cursor {
-        place - *cursor
-    } else {
-        all
-    };
-    *cursor = place;
-    let (_, others) = hints.split_at(place.min(all));
-    Group {
-        way: Way::Named(hints, others),
-        passed: passed as u64,
+        let place = match self.place(id) {
+            Some(place) => place,
+            None => hints.len(),
+        };
+        let (_, group) = hints.split_at(place.min(hints.len()));
+        Way::Named(hints, group)
     }
 }

@@ -14,8 +14,8 @@ use aig_bytes::Memory;
 use aig_parts::Lit;
 use std::alloc::Global;
 
-/// A step whose cost is limited may look at as many watches and literals as there are words of clauses, and at this
-/// many more. Without a limit a step of a few bytes could take as long as the square of the formula.
+/// A step with hints may take as many looks to follow by them as there are words of clauses, and this many more: a long
+/// clause could be hinted again and again.
 const MORE_LOOKS: u64 = 65536;
 
 /// The clauses that stand, their watches, and the literals that are known.
@@ -25,7 +25,7 @@ pub(crate) struct Propagator {
     pub(crate) known: Known,
     pub(crate) watches: Watches,
     pub(crate) ids: Ids,
-    // How many watches and literals propagation may still look at.
+    // How many looks are left: at places of clauses, watches, literals and hints.
     pub(crate) looks: u64,
 }
 
@@ -209,6 +209,7 @@ impl Propagator {
         ensures propagates { Propagates self.old self.new }
         ensures conflict { IfOk result (λ conflict. IsTrue conflict → Contradicts self.old) }
     {
+        self.looks = self.looks.saturating_sub(1);
         let Some(literals) = self.clauses.literals(place as usize) else {
             return Ok(false);
         };
@@ -300,13 +301,12 @@ impl Propagator {
         follows
     }
 
-    /// How many looks a step may take whose cost is limited: as many as there are words of clauses, and some more.
-    pub(crate) fn limit(&self) -> u64 {
+    // How many looks a step may take to follow by its hints.
+    fn limit(&self) -> u64 {
         MORE_LOOKS + self.clauses.len() as u64
     }
 
-    /// Whether a clause follows by unit propagation. With hints it takes a limited number of looks: a long clause could
-    /// be hinted again and again.
+    /// Whether a clause follows by unit propagation. With hints it takes a limited number of looks.
     pub(crate) fn follows_by(
         &mut self,
         clause: &[Lit],
@@ -326,18 +326,12 @@ impl Propagator {
         }
     }
 
-    /// Whether a clause follows by unit propagation, as the looks that are left show. So many hints were passed in
-    /// search of the way; each of them is a look.
-    pub(crate) fn follows_soon(
-        &mut self,
-        clause: &[Lit],
-        way: Way<'_>,
-        passed: u64,
-    ) -> Result<bool, Memory>
+    /// Whether a clause follows by unit propagation, as the looks that are left show.
+    pub(crate) fn follows_soon(&mut self, clause: &[Lit], way: Way<'_>) -> Result<bool, Memory>
         ensures narrows { Narrows self.old self.new }
         ensures implied { IfOk result (λ follows. IsTrue follows → Implies self.old clause.now) }
     {
-        let looks = passed.saturating_add(clause.len() as u64);
+        let looks = clause.len() as u64;
         if looks > self.looks {
             return Ok(false);
         }

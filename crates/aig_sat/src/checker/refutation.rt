@@ -88,8 +88,8 @@ impl Refutation {
 
     /// Adds a clause, if it follows from those that stand by unit propagation, and answers whether it does. Any clause
     /// follows where there is a contradiction. With hints only the clauses that they name are looked at, in their order
-    /// up to the first negative one; a hint that gives nothing is passed over. They may take as many looks as a step on
-    /// a first literal.
+    /// up to the first negative one; a hint that gives nothing is passed over. They may take as many looks as the clauses
+    /// have words, and 65,536 more.
     pub fn add_step(&mut self, clause: &[Lit], hints: Option<&[Lit]>) -> Result<bool, Memory>
         ensures stands { Follows self.old self.new }
         ensures follows { IfOk result (λ taken. IsTrue taken → Follows self.old (clause.now ∷ [])) }
@@ -101,8 +101,9 @@ impl Refutation {
     /// a clause need not follow, but the formula stays satisfiable if it was. Neither that literal nor its negation may
     /// have been found to be true. Each clause that stands and has the negation has to give, without the negation and
     /// with this clause's literals, a clause that follows by unit propagation. With hints that is by the hints before
-    /// the first negative one, and then by those after the negative one that names the clause. All of them together may
-    /// take as many looks at watches, literals and hints as the clauses have words, and 65,536 more.
+    /// the first negative one, and then by those after the negative one that names the clause. All such steps together
+    /// may take 16,777,216 looks at clauses, watches, literals and hints, one more for each word of the formula, and 256
+    /// more for each literal and each hint of all steps so far.
     pub fn add_on_first(&mut self, clause: &[Lit], hints: Option<&[Lit]>) -> Result<bool, Memory>
         ensures keeps { KeepsSatisfiable self.old self.new }
         ensures stands { Follows (clause.now ∷ self.old) self.new }

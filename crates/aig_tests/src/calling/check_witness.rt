@@ -24,8 +24,10 @@ fn is_confirmed(alloc: Global, file: &[u8], witness: &[u8]) -> Result<bool, RunF
         × OfFile file.now (Checks witness.now) (Ok Verdict.Confirmed) line }
 {
     let mut line = MemWriter::new(alloc, 64)?;
-    let verdict = check_bytes(alloc, file, witness, &mut line)?;
-    Ok(verdict == Verdict::Confirmed)
+    match check_bytes(alloc, file, witness, &mut line)? {
+        Verdict::Confirmed => Ok(true),
+        _ => Ok(false),
+    }
 }
 
 pub(crate) fn run(rt: HostRuntime) -> io::Result<()> {

@@ -4,13 +4,15 @@ from __future__ import annotations
 
 import re
 import subprocess
-from typing import BinaryIO, Iterator, List, Optional
+from typing import TYPE_CHECKING, BinaryIO, Iterator, List, Optional
 
 from .._where import program
-from ..entries import Entry, listed
 from .files import Files, Hidden
 from .lines import Lines, first
 from .reader import header_of
+
+if TYPE_CHECKING:
+    from ..entries import Entry
 
 LONGEST = 256  # bytes of a name that others are compared with
 
@@ -26,6 +28,8 @@ def entries_of(files: Files, circuit: str) -> Iterator[Entry]:
 
 
 def _printed(file: BinaryIO) -> Iterator[Entry]:
+    from ..entries import listed  # with json, which few runs need
+
     words = [program(), "info", "--names", "--json", "/dev/stdin"]
     with subprocess.Popen(words, stdin=file, stdout=subprocess.PIPE, stderr=subprocess.DEVNULL) as printing:
         assert printing.stdout is not None

@@ -2,8 +2,7 @@
 
 from __future__ import annotations
 
-from dataclasses import dataclass
-from typing import Optional, Union
+from typing import NamedTuple, Optional, Union
 
 from .files import Hidden
 from .kinds import kind_at, push
@@ -30,8 +29,7 @@ MODELS = {
 KINDS_OF_MODELS = {"answer": None, "frat": "proof", "binary lrat": "proof"}
 
 
-@dataclass
-class Formula:
+class Formula(NamedTuple):
     """The formula of a run: what it is about, its number of frames, and the circuit if it is seen again."""
 
     about: str

@@ -13,7 +13,7 @@ STATUSES = """\
 exit status:
   0    all assertions hold, and all covers are reached
   5    an assertion fails, or a cover is never reached
-  4    else: one is vacuous, holds within a bound alone, or is undecided, or a simulator disagrees
+  4    else: one is vacuous, holds within a bound alone, or is undecided, a simulator disagrees, or aig crashed
   1    the sources, the circuit or the bundle was rejected, or Yosys failed
   2    wrong arguments
   3    a file cannot be read or written, or another run works in the folder
@@ -22,8 +22,8 @@ exit status:
 RUN = """\
 Find a checked verdict for each assertion and cover of a design.
 
-The design is Verilog (SystemVerilog with immediate and simple concurrent assertions, by Yosys), or one AIGER file with
-bad state properties. The folder of results has a page (index.html) and all that shows the verdicts; `aig-verdicts
+The design is Verilog (SystemVerilog with immediate and concurrent assertions), or one AIGER file with bad state
+properties. The folder of results has a page (index.html) and all that shows the verdicts; `aig-verdicts
 recheck FOLDER` checks them again with aig alone. If the folder is there already, its rows are checked again and only
 what is missing is searched. `aig-verdicts FILE ..` is short for `aig-verdicts run FILE ..`.
 """
@@ -51,6 +51,18 @@ exit status:
   4    one could not be played, is not decided there, or fails by other values
   1    the bundle was rejected, or there is no simulator
 """
+COMPARE = """\
+Say what changed from one version of a design to the next, after aig has checked the bundles of both.
+
+An assertion is found again by its label, or else by its line after a diff of the sources. If its text is another one,
+it is edited, and counts as a new one.
+
+exit status:
+  0    nothing became worse
+  5    an assertion fails that did not fail before, or a cover is never reached that was not so before
+  4    else: less is known of one, one is gone, a new one is not good, or there are more assumptions
+  1    a bundle was rejected
+"""
 _Raw = argparse.RawDescriptionHelpFormatter
 
 
@@ -76,6 +88,8 @@ def parser() -> argparse.ArgumentParser:
                      allow_abbrev=False)
     _recheck(verbs.add_parser("recheck", help="check a folder of results again", description=RECHECK, epilog=STATUSES,
                               formatter_class=_Raw, allow_abbrev=False))
+    _compare(verbs.add_parser("compare", help="say what changed between two folders of results", description=COMPARE,
+                              formatter_class=_Raw, allow_abbrev=False))
     _replay(verbs.add_parser("replay", help="run the failing runs in Icarus Verilog", description=REPLAY,
                              formatter_class=_Raw, allow_abbrev=False))
     return top
@@ -96,6 +110,19 @@ def _replay(replay: argparse.ArgumentParser) -> None:
     replay.add_argument("-v", "--verbose", action="store_true", help="name the signals that are not compared")
 
 
+def _compare(compare: argparse.ArgumentParser) -> None:
+    compare.add_argument("old", type=Path, metavar="OLD", help="the bundle of the version before: a folder or a .zip")
+    compare.add_argument("new", type=Path, metavar="NEW", help="the bundle of the version now")
+    compare.add_argument("-j", "--jobs", type=_whole(0, 4096), default=0, metavar="N",
+                         help="checks at once (one per processor)")
+    compare.add_argument("--megabytes", type=_whole(1, 2**31 - 1), default=1024, metavar="N",
+                         help="the largest file that is read (1024)")
+    compare.add_argument("--all", action="store_true", help="print the rows that are as before, too")
+    compare.add_argument("--page", type=Path, metavar="FILE", help="write a page of what changed, with both runs")
+    compare.add_argument("--json", action="store_true", help="print what changed as JSON")
+    compare.add_argument("--junit", type=Path, metavar="FILE", help="write what changed as JUnit XML, for a CI server")
+
+
 def _run(run: argparse.ArgumentParser) -> None:
     usual = Bounds()
     run.add_argument("files", nargs="+", type=Path, metavar="FILE",
@@ -108,8 +135,16 @@ def _run(run: argparse.ArgumentParser) -> None:
                            help="a folder of files that the sources include")
     of_design.add_argument("--free", action="append", default=[], metavar="MODULE",
                            help="leave out the body of this module: its outputs are free values")
+    of_design.add_argument("--assert", action="append", default=[], type=Path, metavar="FILE", dest="asserts",
+                           help="put the assertions of this file before the end of the module of --module")
+    of_design.add_argument("--module", metavar="MODULE", default="", help="the module of --assert")
     of_design.add_argument("--only", action="append", default=[], metavar="NAME",
                            help="search only this assertion or cover: its name, its position (b3), or a pattern with *")
+    of_design.add_argument("--since", type=Path, metavar="BUNDLE",
+                           help="begin with what this bundle of an earlier version has, say what changed, and fail "
+                                "for that alone; it is believed, so it has to come from a trusted place")
+    of_design.add_argument("--keep-open", action="store_true",
+                           help="with --since: do not search rows further whose old bound still holds")
     of_design.add_argument("--no-conditions", action="store_true",
                            help="do not ask whether the `if` around an assertion is ever true")
     of_design.add_argument("--no-wires", action="store_true", help="do not keep named wires for the page")
@@ -156,11 +191,13 @@ def _recheck(recheck: argparse.ArgumentParser) -> None:
     recheck.add_argument("-j", "--jobs", type=_whole(0, 4096), default=0, metavar="N",
                          help="checks at once (one per processor)")
     recheck.add_argument("--yosys", action="store_true",
-                         help="check too that Yosys makes the same circuit of the sources")
+                         help="check too that Yosys makes the same circuit of the sources, or one that does the same")
     recheck.add_argument("--sources", nargs="+", default=[], type=Path, metavar="FILE",
                          help="check too that the sources in the bundle are these files, and what they include")
     recheck.add_argument("-I", "--include", action="append", default=[], type=Path, metavar="FOLDER",
                          help="a folder of files that these sources include")
+    recheck.add_argument("--since", type=Path, metavar="BUNDLE",
+                         help="check this bundle of an earlier version too, say what changed, and fail for that alone")
     recheck.add_argument("--simulate", action="store_true",
                          help="play the runs, and random ones, in Icarus Verilog, which reads the sources itself")
     recheck.add_argument("--simulator", default="iverilog", metavar="PROGRAM", help="Icarus Verilog (iverilog)")

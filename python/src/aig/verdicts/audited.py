@@ -15,7 +15,7 @@ class Audited(NamedTuple):
     """A bundle as its auditor sees it.
 
     manifest    its manifest, with the notes and versions of the auditor
-    rows        its rows, without notes
+    rows        its rows, without notes and origins
     is_own      whether the sources are the auditor's files
     """
 
@@ -33,10 +33,10 @@ class Audited(NamedTuple):
 
 def audited(bundle: Bundle, aig: str, said: Simulated, is_own: bool) -> Audited:
     """What is shown of a bundle that `aig`, in this version, has checked."""
-    has_choice = any(bundle.manifest["options"].get(it) for it in ("defines", "free"))
+    has_choice = any(bundle.manifest["options"].get(it) for it in ("defines", "free", "asserts"))
     manifest = {**bundle.manifest, "versions": {"aig": aig}, "notes": [options_of(bundle)] if has_choice else [],
                 "simulated": said.facts()}
-    return Audited(bundle, manifest, [replace(row, notes=[]) for row in bundle.rows], is_own)
+    return Audited(bundle, manifest, [replace(row, notes=[], origin="") for row in bundle.rows], is_own)
 
 
 def options_of(bundle: Bundle) -> str:
@@ -44,5 +44,6 @@ def options_of(bundle: Bundle) -> str:
     options = bundle.manifest["options"]
     macros, free = (", ".join(options.get(it, [])) for it in ("defines", "free"))
     said = [f"as module {bundle.manifest['name']}", f"with the macros {macros}" if macros else "",
-            f"without the bodies of the modules {free}" if free else ""]
+            f"without the bodies of the modules {free}" if free else "",
+            f"with {', '.join(options['asserts'])} in module {options['module']}" if options.get("asserts") else ""]
     return f"the sources are read {', '.join(filter(None, said))}"

@@ -6,12 +6,11 @@ from __future__ import annotations
 import re
 from typing import Dict, Iterator, Sequence, Set, Tuple
 
-from .rtlil import Item, Module
+from .rtlil import Item, Module, has_mark, marked
 from .tree import Node, nodes
 
 _UPDATE = re.compile(r"      update (\\\S+) .*")
-_COMBINATIONAL = "  attribute \\always_comb 1"
-_LOCAL = "  attribute \\nosync 1"
+_LOCAL = f"  {marked('nosync')}"
 
 # The name of a block and that of a variable in it.
 Local = Tuple[str, str]
@@ -32,7 +31,7 @@ def hide(module: Module, known: Set[Local]) -> None:
     """Makes such a variable x after its process, where the process may keep its value. kept.py rejects what reads it."""
     hidden: Set[str] = set()
     for process in module.of("process"):
-        if _COMBINATIONAL in process.attributes:
+        if has_mark(process.attributes, "always_comb"):
             names = {it for it in _kept(process) if _local(it) in known}
             widths = module.widths() if names else {}
             process.lines = [_as_x(line, names, widths) for line in process.lines]

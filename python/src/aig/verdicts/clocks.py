@@ -5,9 +5,9 @@ from __future__ import annotations
 import re
 from typing import Any, Dict, Iterator, List, Set, Tuple
 
+from .netlist import clock_edges
 from .ranges import of_wire
 from .timing import Timing
-from .yosys import clock_edges
 
 _STATES = re.compile(r"\$([a-z]*(dff|latch)|sr|ff|mem|any|assert|assume|cover|live|fair|initstate)")
 

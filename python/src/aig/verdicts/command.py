@@ -1,4 +1,4 @@
-"""The commands `aig-verdicts run`, `demo`, `recheck` and `replay`."""
+"""The commands `aig-verdicts run`, `demo`, `recheck`, `compare` and `replay`."""
 
 from __future__ import annotations
 
@@ -14,31 +14,34 @@ from pathlib import Path
 from typing import Any, Callable, Collection, Dict, List, Optional, Sequence, Set
 
 from .._program import program
-from ..errors import AigError
+from ..errors import AigError, Crashed
 from .arguments import CIRCUITS, parser, with_verb
 from .audited import audited, options_of
 from .bundle import Bundle
 from .checked import CIRCUIT, Wrong
-from .cycles import cycles_of
+from .compare import against, compare, last_line, write
 from .decide import Bounds, Programs
 from .decisions import (
-    INTERRUPTED, NOT_COMPARED, REJECTED, SAME_CIRCUIT, UNREADABLE, Judged, asked, compared, exit_status, judge,
-    line_of_recheck, line_of_run,
+    INTERRUPTED, OPEN, REJECTED, UNREADABLE, Judged, asked, compared, exit_status, line_of_recheck, line_of_run,
 )
 from .demo import written
 from .design import Design, read_aiger
 from .folder import PAGE, pack, write_whole
 from .made import made
 from .manifest import as_json, rows_as_json
+from .matching import Version
 from .page import Page
 from .progress import Progress
-from .recheck import is_kept, is_older, recheck, same_design, same_sources
+from .recheck import Unanswered, is_kept, is_older, recheck, same_design, same_sources
 from .replay.command import replay
 from .replay.run import Bounds as PlayBounds, simulated
 from .row import Row
 from .runs import comes_back
 from .sections import Pictures
+from .sentences import NOT_COMPARED, short_runs
 from .session import STOPPED, Session
+from .sides import side_of, table_of
+from .since import Since, opened, since_of
 from .simulated import Simulated, of_facts
 from .solvers import writes_hints
 from .table import junit, open_notes, plain, text
@@ -63,8 +66,10 @@ def _design(words: argparse.Namespace, stop: Stop) -> Design:
             raise ToolFailed("one circuit at a time, and no Verilog beside it")
         return read_aiger(words.files[0])
     options = {"top": words.top, "defines": words.define, "conditions": not words.no_conditions,
-               "wires": not words.no_wires, "free": words.free}
-    return made(words.files, stop, options, words.include)
+               "wires": not words.no_wires, "free": words.free, "module": words.module}
+    if bool(words.asserts) != bool(words.module):
+        raise ToolFailed("--assert FILE needs --module M, and --module M needs --assert FILE")
+    return made(words.files, stop, options, words.include, words.asserts)
 
 
 def chosen(design: Design, names: Sequence[str]) -> Optional[Set[int]]:
@@ -85,22 +90,15 @@ def _is_named(word: str, position: int, name: str) -> bool:
     return word in (name, f"b{position}") or "*" in word and fnmatch.fnmatchcase(name, pattern)
 
 
-def _table(rows: Sequence[Row], circuit: bytes, simulated: Simulated = Simulated()) -> List[Judged]:
-    """The table, with the moments of runs where there are any."""
-    table = judge(rows, cycles_of(circuit).at) if any(row.by == "run" for row in rows) else judge(rows)
-    return simulated.beside(table)
-
-
 def _say_of_assumptions(alive: Row, circuit: bytes, read: Callable[[str], bytes]) -> None:
     """Says where nothing shows that the assumptions can be kept for ever: else rows would be about short runs alone."""
     if alive.by == "kept" and not comes_back(circuit, read(alive.files["witness"])):
-        _said(f"the assumptions are kept for {alive.frames} frames; whether for more is not known, so `holds` may be "
-              "about so many frames alone")
+        _said(short_runs(alive))
 
 
 def _page(to: Path, manifest: Dict[str, Any], rows: List[Row], read: Callable[[str], bytes], seconds: Dict[int, float],
           is_unfinished: bool, pictures: Optional[Pictures] = None) -> None:
-    table = _table(rows, read(CIRCUIT), of_facts(manifest.get("simulated", {})))
+    table = table_of(rows, read(CIRCUIT), of_facts(manifest.get("simulated", {})))
     page = Page(manifest, rows, table, read, seconds, is_unfinished, pictures)
     write_whole(to, page.html().encode("utf-8", "replace"))
 
@@ -136,9 +134,12 @@ def run(words: argparse.Namespace, stop: Stop) -> int:
     only = chosen(design, words.only)
     path = words.out or Path(f"{design.name}.verdicts")
     bounds = Bounds(words.frames, words.conflicts, words.seconds, words.megabytes, words.proof_megabytes)
+    named = opened(words.since, path)
     session = Session(design, path, bounds, programs, only, stop)
     with contextlib.closing(session):
         session.open(words.jobs)
+        since = since_of(named, str(words.since), session)
+        session.hints = since.hints(words.keep_open) if since else {}
         if not words.quiet:
             for wrong in session.rejected:
                 _said(f"an earlier row is not what it says, and is searched again: {wrong}")
@@ -148,7 +149,7 @@ def run(words: argparse.Namespace, stop: Stop) -> int:
         if not is_complete:  # what was done is written, whatever else the user presses
             for number in _SIGNALS:
                 signal.signal(number, signal.SIG_IGN)
-        return _results(words, session, is_complete, lost)
+        return _results(words, session, is_complete, lost, since)
 
 
 def _search(words: argparse.Namespace, session: Session) -> bool:
@@ -157,7 +158,12 @@ def _search(words: argparse.Namespace, session: Session) -> bool:
 
     def renew(is_unfinished: bool = True) -> None:
         folder, rows = session.folder, session.rows
-        _page(folder.path / PAGE, session.manifest(), rows, folder.read, session.seconds, is_unfinished, pictures)
+        try:
+            _page(folder.path / PAGE, session.manifest(), rows, folder.read, session.seconds, is_unfinished, pictures)
+        except (AigError, Crashed):
+            folder.remove(PAGE)  # it is about what was known before
+            if not is_unfinished:  # else the search goes on without a page
+                raise
 
     shown = {row.position for row in session.rows if row.kind in ("assert", "cover")}
     shown &= shown if session.only is None else set(session.only)
@@ -185,31 +191,41 @@ def _simulate(words: argparse.Namespace, session: Session, seconds: float) -> No
             bundle = Bundle(session.folder.path)
             bounds = PlayBounds(seconds, words.jobs)
             session.simulated = simulated(bundle, rows, words.simulator, bounds, session.stop)
-        except ToolFailed as error:
+        except (ToolFailed, Crashed) as error:
             session.simulated = Simulated(circuit=f"Not compared with a simulator: {error}")
         session.write(True)
 
 
-def _results(words: argparse.Namespace, session: Session, is_complete: bool, said: Collection[str]) -> int:
+def _say_notes(table: Sequence[Judged], said: Collection[str]) -> None:
+    """Says the notes on open rows, but for what was said."""
+    notes = [note for note in open_notes(table) if not note.endswith((STOPPED, *said))]
+    for note in notes[:MOST_NOTES]:
+        _said(note)
+    if len(notes) > MOST_NOTES:
+        _said(f"the page has {len(notes) - MOST_NOTES} more notes on rows that are open")
+
+
+def _results(words: argparse.Namespace, session: Session, is_complete: bool, said: Collection[str],
+             since: Optional[Since]) -> int:
     """Prints and writes what was found, and returns the exit status. What was said is not said again."""
-    table = _table(session.rows, session.design.circuit, session.simulated)
+    table = table_of(session.rows, session.design.circuit, session.simulated)
     if session.only is not None:
         table = [it for it in table if it.row.position in session.only]
+    changed = since.difference(table, session.only) if since and (since.is_asked or is_complete) else None
+    is_asked = since is not None and since.is_asked
     if words.junit:
-        write_whole(words.junit, junit(session.design.name, table, session.seconds).encode("utf-8", "replace"))
+        seconds = session.seconds
+        cases = changed.junit(seconds) if changed and is_asked else junit(session.design.name, table, seconds)
+        write_whole(words.junit, cases.encode("utf-8", "replace"))
     if words.zip:
         pack(session.folder.path, words.zip)
     if words.json:
         sys.stdout.write(as_json(session.manifest()).decode())
     else:
-        sys.stdout.write(text(table))
+        sys.stdout.write(text(table) + (f"\n{changed.text()}" if changed and is_asked else ""))
     sys.stdout.flush()
     if not words.quiet:
-        notes = [note for note in open_notes(table) if not note.endswith((STOPPED, *said))]
-        for note in notes[:MOST_NOTES]:
-            _said(note)
-        if len(notes) > MOST_NOTES:
-            _said(f"the page has {len(notes) - MOST_NOTES} more notes on rows that are open")
+        _say_notes(table, said)
         _say_of_assumptions(session.rows[0], session.design.circuit, session.folder.read)
         if not session.simulated.agrees:
             _said(session.simulated.circuit)
@@ -218,7 +234,12 @@ def _results(words: argparse.Namespace, session: Session, is_complete: bool, sai
         page = plain(str(session.folder.path / PAGE))
         said_last = line_of_run(table, bool(session.design.sources), session.simulated)
         print(f"{plain(said_last)}: {page}", file=sys.stderr)
-    return exit_status(table, session.asked) if is_complete else INTERRUPTED
+        if since and changed:
+            print(plain(since.last_line(changed)), file=sys.stderr)
+    if is_complete:
+        session.folder.forget_before()
+    status = changed.status if changed and is_asked else exit_status(table, session.asked)
+    return status if is_complete else INTERRUPTED
 
 
 def demo(_: argparse.Namespace, stop: Stop) -> int:
@@ -238,18 +259,22 @@ def again(words: argparse.Namespace, stop: Stop) -> int:
     bundle = recheck(words.bundle, say=say, jobs=words.jobs, stop=stop, most_bytes=words.megabytes << 20)
     if words.sources:
         same_sources(bundle, words.sources, words.include)
-    if words.yosys:
-        same_design(bundle, stop)
+    of_yosys = same_design(bundle, stop) if words.yosys else ""
     said = _simulated_again(words, bundle, stop)
-    on_page = said if said.by else Simulated(circuit=SAME_CIRCUIT if words.yosys else NOT_COMPARED)
+    on_page = said if said.by else Simulated(circuit=of_yosys or NOT_COMPARED)
     shown = audited(bundle, version(program(), stop), on_page, bool(words.sources))
-    table = _table(shown.rows, bundle.circuit(), said)
-    if words.page:
+    table = table_of(shown.rows, bundle.circuit(), said)
+    changed = against(words, side_of(Version.of(bundle), table, shown.read), of_yosys, stop) if words.since else None
+    if changed:
+        write(changed, words.page, words.junit, {})
+    elif words.page:
         _page(words.page, shown.manifest, shown.rows, shown.read, {}, False)
-    if words.junit:
+    if words.junit and not changed:
         write_whole(words.junit, junit(bundle.manifest["name"], table, {}).encode("utf-8", "replace"))
     if words.json:
         sys.stdout.write(as_json({**shown.manifest, "rows": rows_as_json(shown.rows)}).decode())
+    elif changed:
+        sys.stdout.write(changed.text())
     sys.stdout.flush()
     if bundle.manifest["sources"] and (words.sources or words.yosys or words.simulate):
         _said(options_of(bundle))
@@ -259,9 +284,11 @@ def again(words: argparse.Namespace, stop: Stop) -> int:
         _say_of_assumptions(bundle.rows[0], bundle.circuit(), bundle.summed)
     if not said.agrees:
         _said(said.circuit)
-    of_sources, count = compared(bool(bundle.manifest["sources"]), words.yosys, said), asked(bundle.manifest)
+    of_sources, count = compared(bool(bundle.manifest["sources"]), of_yosys, said), asked(bundle.manifest)
     print(plain(line_of_recheck(table, count, of_sources, bool(words.sources))), file=sys.stderr)
-    return exit_status(table, count)
+    if changed:
+        print(f"since {plain(str(words.since))}: {last_line(changed)}; {changed.basis}", file=sys.stderr)
+    return changed.status if changed else exit_status(table, count)
 
 
 def _simulated_again(words: argparse.Namespace, bundle: Bundle, stop: Stop) -> Simulated:
@@ -273,7 +300,8 @@ def _simulated_again(words: argparse.Namespace, bundle: Bundle, stop: Stop) -> S
 
 
 def _ended(call: Callable[[argparse.Namespace, Stop], int], words: argparse.Namespace, stop: Stop) -> int:
-    """The exit status of a call, whatever it raises."""
+    """The exit status of a call, whatever it raises. An `aig` that ended without an answer leaves things open; ^C at a
+    terminal ends it, too."""
     try:
         return call(words, stop)
     except (Stopped, KeyboardInterrupt):
@@ -285,8 +313,12 @@ def _ended(call: Callable[[argparse.Namespace, Stop], int], words: argparse.Name
     except OSError as error:
         _said(str(error))
         return UNREADABLE
+    except (Crashed, Unanswered) as error:
+        _said("stopped" if stop.stopped else str(error))
+        return INTERRUPTED if stop.stopped else OPEN
     except (ToolFailed, Wrong, AigError) as error:
-        _said(str(error))
+        for line in str(error).split("\n"):
+            _said(line)
         return REJECTED
 
 
@@ -301,14 +333,14 @@ def main(arguments: Optional[List[str]] = None) -> int:
         print(version(program(), stop))
         return 0
     if words.verb is None:
-        reader.error("run, demo, recheck or replay?")
+        reader.error("run, demo, recheck, compare or replay?")
     # A signal that was ignored at the start, as in the background of a shell, stays so.
     before = {number: signal.getsignal(number) for number in _SIGNALS}
     taken = [number for number, handler in before.items() if handler is not signal.SIG_IGN]
     for number in taken:
         signal.signal(number, stop)
     try:
-        return _ended({"run": run, "demo": demo, "recheck": again, "replay": replay}[words.verb], words, stop)
+        return _ended({"run": run, "demo": demo, "recheck": again, "compare": compare, "replay": replay}[words.verb], words, stop)
     finally:
         for number in taken:
             signal.signal(number, signal.SIG_IGN if stop.stopped else before[number])

@@ -12,7 +12,7 @@ from dataclasses import dataclass, field, replace
 from pathlib import Path
 from typing import Dict, Iterator, List, Optional
 
-from ..errors import AigError
+from ..errors import AigError, Crashed
 from .checked import Checked, Claim, Wrong
 from .hints import claim_of
 from .row import UNDECIDED
@@ -86,13 +86,31 @@ class Sent:
 
 
 @dataclass(frozen=True)
+class Hint:
+    """How the row was decided in an earlier version.
+
+    by         a key of WAYS
+    frames     of the run, the induction or the bound
+    files      by their roles. Runs and certificates have the names of the new circuit, and proofs are as they were
+    is_enough  whether a bound that still holds ends the search
+    """
+
+    by: str
+    frames: int
+    files: Dict[str, bytes] = field(default_factory=dict)
+    is_enough: bool = False
+
+
+@dataclass(frozen=True)
 class Task:
-    """What to decide: a property of a circuit, or -1: whether some run keeps all constraints."""
+    """What to decide: a property of a circuit, or -1: whether some run keeps all constraints. `hint` is what is known of
+    an earlier version."""
 
     circuit: Optional[Sent]
     position: int
     bounds: Bounds = Bounds()
     programs: Programs = Programs()
+    hint: Optional[Hint] = None
 
     @staticmethod
     def of(circuit: bytes, position: int, bounds: Bounds = Bounds(), programs: Programs = Programs()) -> Task:
@@ -110,6 +128,7 @@ class Found:
     files    what shows it, by role
     notes    what went wrong on the way: a crash, a bound that ended a question
     stopped  whether the user ended the search
+    origin   what of an earlier version it came from: one of ORIGINS, or nothing
     """
 
     position: int
@@ -121,6 +140,7 @@ class Found:
     seconds: float = 0.0
     stopped: bool = False
     checked: Optional[Checked] = None
+    origin: str = ""
 
     def __getstate__(self) -> Dict[str, object]:
         return {**vars(self), "checked": None}
@@ -138,7 +158,8 @@ class Found:
 
 
 def decide(task: Task, stop: Optional[Stop] = None) -> Found:
-    """Finds the verdict of a task. A crash of a tool, a full disk or a rejected file makes a note, and no exception.
+    """Finds the verdict of a task. A crash of a tool or of `aig`, a full disk or a rejected file makes a note, and no
+    exception.
     What is known when the search ends stays, also where the user stops it."""
     from .search import Search
 
@@ -164,7 +185,7 @@ def noted(found: Found) -> Iterator[None]:
         yield
     except Stopped:
         found.stopped = True
-    except (AigError, ToolFailed, Wrong, OSError, zlib.error, MemoryError) as error:
+    except (AigError, Crashed, ToolFailed, Wrong, OSError, zlib.error, MemoryError) as error:
         note = f"{type(error).__name__}: {(str(error).splitlines() or [''])[0]}"
         if note not in found.notes:
             found.notes.append(note)

@@ -1,15 +1,17 @@
-"""What checks mean: the word and the mark of each assertion and cover, the exit status, and the last line. These are
-functions of rows alone. A word that says something of a circuit needs a `Checked`, and only checked.py makes one. Who
-audits a `recheck` reads these two files."""
+"""What checks mean: the result and the mark of each assertion and cover, the exit status, and the last line. These are
+functions of rows alone. A result that says something of a circuit needs a `Checked`, and only checked.py makes one.
+sentences.py has the words. Who audits a `recheck` reads these three files."""
 
 from __future__ import annotations
 
 from dataclasses import dataclass, replace
-from typing import TYPE_CHECKING, Any, Callable, Dict, Final, List, Literal, NamedTuple, Optional, Sequence, Union
+from typing import TYPE_CHECKING, Any, Callable, Dict, List, Literal, NamedTuple, Optional, Sequence, Union
 
+from . import sentences
 from .checked import CONFIRMED, UNREACHABLE, Checked, Wrong, expect
 from .cycles import Moment
 from .row import LEFT_OUT, UNDECIDED, Row
+from .sentences import DISAGREES, NOT_COMPARED, NOT_SIMULATED, Remark
 
 if TYPE_CHECKING:
     from .simulated import Simulated
@@ -18,10 +20,6 @@ if TYPE_CHECKING:
 GOOD, OPEN, BAD = 0, 4, 5
 # Those without a table, and that of a run that was stopped.
 REJECTED, WRONG_ARGUMENTS, UNREADABLE, INTERRUPTED = 1, 2, 3, 130
-# The result of a row that a simulator denies.
-DISAGREES: Final = "disagrees"
-# What is said of the sources.
-SAME_CIRCUIT, NOT_COMPARED = "Yosys makes the same circuit of the sources", "Not compared with the sources"
 
 
 class Meaning(NamedTuple):
@@ -44,8 +42,6 @@ MEANINGS = {
     "holds": Meaning(GOOD, "✓", "good", ""),
     "reached": Meaning(GOOD, "✓", "good", ""),
 }
-# The words of a result, where they are others. Those of `bounded` have the frames after them.
-WORDS = {"never": "never reached"}
 Found = Literal["fails", "never", "bounded", "holds", "reached"]
 
 
@@ -94,9 +90,7 @@ class Judged:
 
     @property
     def words(self) -> str:
-        if self.result == "bounded":
-            return f"{'not reached' if self.row.kind == 'cover' else 'holds'} within {self.row.frames}"
-        return WORDS.get(self.result, self.result)
+        return sentences.words(self.result, self.row)
 
     @property
     def by(self) -> str:
@@ -105,9 +99,7 @@ class Judged:
     @property
     def way(self) -> str:
         """How it was found."""
-        frames = self.row.frames
-        shown = {"run": f"run of {frames}", "induction": f"induction of {frames}", "certificate": "invariant"}
-        return shown.get(self.row.by, "")
+        return sentences.way(self.row)
 
     @property
     def at(self) -> str:
@@ -128,6 +120,20 @@ class Judged:
     def junit(self) -> str:
         """What a CI server takes the row for: an element of JUnit, or nothing if it passes."""
         return MEANINGS[self.result].junit
+
+    @property
+    def remarks(self) -> List[Remark]:
+        """What has to be said beside the result."""
+        found = [Remark("Vacuous", self.why)] if self.result == "vacuous" else []
+        found += [Remark("", self.simulated, self.result == DISAGREES)] if self.simulated else []
+        return found + ([Remark("Perhaps vacuous", self.doubt, True)] if self.doubt else [])
+
+    def statement(self, is_constrained: bool) -> str:
+        """What its run or its proof shows, as sentences; nothing if it has none."""
+        if not self.row.by:
+            return ""
+        return sentences.of_run(self.row, self.moment) if self.row.by == "run" else sentences.of_proof(
+            self.row, is_constrained)
 
     def denied_by(self, said: str) -> Judged:
         """The same row, where a simulator denies it."""
@@ -150,22 +156,19 @@ class Judge:
         result = _alone(row, own)
         alive = self._alive.checked if self._alive is not None else None
         if alive is not None and alive.by == "alive" and result in ("holds", "never", "bounded"):
-            said = f"no run keeps the assumptions for {alive.frames} frames"
-            return Judged(row, Decided("vacuous", alive), said, self._alive)
+            return Judged(row, Decided("vacuous", alive), sentences.never_kept(alive.frames), self._alive)
         condition = self._conditions.get(row.position)
         if condition is not None and result in ("holds", "bounded"):
             asked = condition.checked
             if asked is not None and asked.line == UNREACHABLE:
-                said = "its condition is never true: nothing is asserted in any run"
-                return Judged(row, Decided("vacuous", asked), said, condition)
+                return Judged(row, Decided("vacuous", asked), sentences.NEVER_ASKED, condition)
             if asked is None or asked.line != CONFIRMED:
-                return Judged(row, Decided(result, own), doubt="whether its condition is ever true is not decided")
+                return Judged(row, Decided(result, own), doubt=sentences.PERHAPS_ASKED)
         return Judged(row, Decided(result, own))
 
     def waits_for(self, row: Row) -> List[Row]:
         """The rows that have a say in what this one means."""
-        rows = [row, self._alive, self._conditions.get(row.position)]
-        return [it for it in rows if it is not None]
+        return [it for it in (row, self._alive, self._conditions.get(row.position)) if it is not None]
 
 
 def _alone(row: Row, own: Checked) -> Found:
@@ -195,23 +198,14 @@ def exit_status(table: Sequence[Judged], count: int) -> int:
     return max([*missing, *(it.status for it in table)])
 
 
-DENIED = "denied by the simulator"
-_COUNTED = {
-    "assert": ("assertion", {"fails": "fail", DISAGREES: DENIED, "holds": "hold",
-                             "bounded": "hold for the frames searched", "vacuous": "vacuous", "undecided": "undecided", LEFT_OUT: LEFT_OUT}),
-    "cover": ("cover", {"reached": "reached", DISAGREES: DENIED, "never": "never reached",
-                        "bounded": "not reached within the bound", "vacuous": "vacuous", "undecided": "undecided", LEFT_OUT: LEFT_OUT}),
-}
-
-
 def summary(table: Sequence[Judged]) -> str:
     """One sentence."""
     parts = []
-    for kind, (noun, words) in _COUNTED.items():
+    for kind, (noun, words) in sentences.COUNTED.items():
         found = [it.result for it in table if it.row.kind == kind]
         if found:
             counts = [f"{found.count(result)} {word}" for result, word in words.items() if result in found]
-            parts.append(f"{len(found)} {noun}{'s' * (len(found) > 1)}: {', '.join(counts)}")
+            parts.append(f"{sentences.counted(len(found), noun)}: {', '.join(counts)}")
     return "; ".join(parts)
 
 
@@ -226,13 +220,13 @@ def checked(table: Sequence[Judged], count: int) -> str:
     return "all checked by aig" if done == count > 0 else f"{done} of {count} checked by aig"
 
 
-def compared(has_sources: bool, has_yosys: bool, said: Simulated) -> str:
-    """What the last line of `recheck` says of the sources."""
+def compared(has_sources: bool, made: str, said: Simulated) -> str:
+    """What the last line of `recheck` says of the sources, where `made` is what Yosys makes of them, if it was asked."""
     if not has_sources:
         return ""
-    yosys = f", and {SAME_CIRCUIT}" if has_yosys else ""
+    yosys = f", and {made}" if made else ""
     if not said.by:
-        return yosys or f"; {NOT_COMPARED[0].lower()}{NOT_COMPARED[1:]}"
+        return yosys or f"; {_inside(NOT_COMPARED)}"
     if not said.agrees or DISAGREES in (it.word for it in said.rows.values()):
         return f"{yosys}; ALARM: {said.by} disagrees, so the circuit may not be that of the sources"
     means = "which is no proof" if said.is_compared else "so nothing is said of the sources"
@@ -247,4 +241,9 @@ def line_of_recheck(table: Sequence[Judged], count: int, of_sources: str, are_ow
 
 def line_of_run(table: Sequence[Judged], has_sources: bool, said: Simulated) -> str:
     """The last line of `run`, without the page."""
-    return summary(table) + ("; not compared with a simulator" if has_sources and not said.by else "")
+    return summary(table) + (f"; {_inside(NOT_SIMULATED)}" if has_sources and not said.by else "")
+
+
+def _inside(sentence: str) -> str:
+    """A sentence that goes on another one."""
+    return sentence[0].lower() + sentence[1:]

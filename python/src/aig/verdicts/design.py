@@ -12,7 +12,8 @@ from typing import Any, Collection, Dict, Iterable, List, Optional, Sequence, Se
 from .._program import run as aig
 from ..entries import listed, readable
 
-from . import findings, names, yosys
+from . import findings, names, netlist, script, yosys
+from .assertions import copies
 from .labels import AS_BLOCKS
 from .lax import ranges_of_words
 from .ranges import Ranges
@@ -76,13 +77,14 @@ def _of_symbol(symbol: str) -> Tuple[str, str]:
 
 @dataclass
 class Design:
-    """A circuit and what its properties are."""
+    """A circuit and what its properties are. `translated` has the copies of sources that Yosys read in place of them."""
 
     name: str
     circuit: bytes
     assertions: List[Assertion]
     notes: List[str] = field(default_factory=list)
     sources: Dict[str, bytes] = field(default_factory=dict)
+    translated: Dict[str, bytes] = field(default_factory=dict)
     script: str = ""
     options: Dict[str, object] = field(default_factory=dict)
     timing: Optional[Timing] = None
@@ -101,27 +103,38 @@ def read_aiger(path: Path) -> Design:
 def read_verilog(
     sources: Sequence[Path], top: Optional[str], stop: Stop, defines: Sequence[str] = (), conditions: bool = True,
     wires: bool = True, yosys: str = "yosys", seconds: float = 600.0, include: Sequence[Path] = (), free: Sequence[str] = (),
+    asserts: Sequence[Path] = (), module: str = "",
 ) -> Design:
     """The circuit of a Verilog design. `include` has the folders of files that sources include, and `free` the modules whose
-    outputs are free values."""
+    outputs are free values. The files of `asserts` are put into a module."""
     top = top or None
     look_at_words(top, defines)
-    read = Sources(sources, include)
-    with tempfile.TemporaryDirectory(prefix="aig-verdicts-") as name:
-        folder = Path(name)
-        (folder / "sources").mkdir()
-        read.write(folder / "sources")
-        try:
-            made = _Made(folder, read, top, defines, conditions, wires, yosys, seconds, stop, free)
-        except ToolFailed as error:
-            raise ToolFailed(read.as_written(str(error))) from None
-    count = int(dict(line.split(" ", 1) for line in aig("info", files=[made.circuit]).decode().splitlines())["bad"])
-    if count != len(made.assertions):
-        raise ToolFailed(f"the circuit has {count} properties, and the design {len(made.assertions)}")
+    read = Sources([*sources, *asserts], include)
     options: Dict[str, object] = {"top": top or "", "defines": list(defines), "conditions": conditions, "wires": wires}
     if free:
         options["free"] = sorted(free)
-    return Design(made.top, made.circuit, made.assertions, made.notes, read.texts, made.script, options,
+    if asserts:
+        options.update(asserts=read.apart(asserts), module=module)
+
+    def made_of(translated: Dict[str, bytes]) -> _Made:
+        with tempfile.TemporaryDirectory(prefix="aig-verdicts-") as name:
+            folder = Path(name)
+            (folder / "sources").mkdir()
+            read.write(folder / "sources", translated)
+            return _Made(folder, read, top, defines, conditions, wires, yosys, seconds, stop, free)
+
+    try:
+        found = copies(read.texts, read.read, options)
+        made = made_of(found.texts)
+        if found.depend_on_clocks and not made.timing.is_cycle:
+            found = copies(read.texts, read.read, options, False)
+            made = made_of(found.texts)
+    except ToolFailed as error:
+        raise ToolFailed(read.as_written(str(error))) from None
+    count = int(dict(line.split(" ", 1) for line in aig("info", files=[made.circuit]).decode().splitlines())["bad"])
+    if count != len(made.assertions):
+        raise ToolFailed(f"the circuit has {count} properties, and the design {len(made.assertions)}")
+    return Design(made.top, made.circuit, made.assertions, made.notes, read.texts, found.texts, made.script, options,
                   made.timing)
 
 
@@ -167,8 +180,8 @@ def _check(cell: str, value: Dict[str, Any], known: Set[str]) -> _Check:
 
 def _checks(modules: Dict[str, Any], flat: Dict[str, Any], kinds: Collection[str]) -> Dict[str, _Check]:
     """The cells of these kinds in the flat module."""
-    known = {value["attributes"].get("src", "") for _, value in yosys.cells(modules) if value["type"] in kinds}
-    return {cell: _check(cell, value, known) for cell, value in yosys.cells(flat) if value["type"] in kinds}
+    known = {value["attributes"].get("src", "") for _, value in netlist.cells(modules) if value["type"] in kinds}
+    return {cell: _check(cell, value, known) for cell, value in netlist.cells(flat) if value["type"] in kinds}
 
 
 def _assumptions(modules: Dict[str, Any], flat: Dict[str, Any], order: Sequence[str]) -> List[str]:
@@ -200,27 +213,27 @@ class _Made:
         blocks = [AS_BLOCKS] * has_blocks
         findings.look_at_sources(runs)
         said = runs.prepare(free)
-        resets = yosys.resetting()
+        resets = script.resetting()
         runs.run(resets)
         said += runs.settle()
-        flatten = yosys.flattening()
+        flatten = script.flattening()
         runs.run(flatten)
         modules, flat = runs.modules("modules.json"), runs.modules("flat.json")
         findings.look(runs, modules, flat)
-        found = _checks(modules, flat, yosys.CHECKS)
+        found = _checks(modules, flat, netlist.CHECKS)
         if not found:
             raise ToolFailed("the design has no assertion and no cover")
-        self.top = yosys.top_of(modules)
-        one_clock = yosys.one_clock(flat)
+        self.top = netlist.top_of(modules)
+        one_clock = netlist.one_clock(flat)
         self.timing = timing(flat, one_clock)
         directed = runs.direct(flat)
-        second = yosys.making(one_clock, conditions, wires)
-        runs.make(second, flat[yosys.top_of(modules)])
+        second = script.making(one_clock, conditions, wires)
+        runs.make(second, flat[netlist.top_of(modules)])
         self.notes = said + findings.notes(runs, modules, flat, one_clock)
-        self.script = "\n".join([*blocks, *first, yosys.PREPARED, *resets, yosys.SETTLED, *flatten, *directed, *second,
-                                 yosys.NAMED, ""])
+        self.script = "\n".join([*blocks, *first, script.PREPARED, *resets, script.SETTLED, *flatten, *directed, *second,
+                                 script.NAMED, ""])
         order = runs.cells_in("order")
-        self._rows(found, order, yosys.checks(modules, self.top))
+        self._rows(found, order, netlist.checks(modules, self.top))
         self.notes[:0] = read.left_out()
         self._without_rows(read, found.values(), findings.live_places(modules))
         self.notes += [note for note in [untried(version(program, stop))] if note]

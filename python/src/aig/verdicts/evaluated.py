@@ -3,15 +3,17 @@ than the standard of Verilog."""
 
 from __future__ import annotations
 
-from typing import Callable, Iterator, List, Set
+from typing import Callable, Iterator, List, Sequence, Set
 
-from .contexts import TO_THE_RIGHT, grows, leaves, operators, roots
+from .contexts import COMPARISONS, TO_THE_RIGHT, grows, leaves, operators, roots
 from .lax import ranges
 from .scope import UNSIZED, Scope, declared, names, targets
 from .tree import Node
 
 _WILD_ITEMS = ("CONDZ", "CONDX")
 _WRITES = ("ASSIGN_EQ", "ASSIGN_LE")
+# Operands that have no sign for Yosys if they have none in the standard.
+_PLAIN = ("CONSTANT", "CONCAT", "REPLICATE", "IDENTIFIER")
 # Where an expression stands whose sign and width change nothing around it.
 _ALONE = ("CONCAT", "REPLICATE", "RANGE", "SELFSZ", "TO_SIGNED", "TO_UNSIGNED", "TERNARY", "SHIFT_LEFT", "SHIFT_SLEFT",
           "SHIFT_RIGHT", "SHIFT_SRIGHT")
@@ -42,9 +44,17 @@ def _has_signed_part(scope: Scope, function: Node) -> bool:
     for above, root in roots(function):
         parts = [it for it in leaves(root) if it.kind == "IDENTIFIER" and it.name in signed and ranges(it)]
         is_written = above.kind in _WRITES and root is above.parts[0]
-        if parts and not is_written and not _is_alone(scope, above, root):
+        if parts and not is_written and not _is_alone(scope, above, root) and not _has_no_sign(scope, above, root, parts):
             return True
     return False
+
+
+def _has_no_sign(scope: Scope, above: Node, root: Node, parts: Sequence[Node]) -> bool:
+    """Whether another operand of an expression or comparison has no sign: then the parts have none there, for Yosys too."""
+    sides = above.parts if above.kind in COMPARISONS else [root]
+    others = [it for side in sides for it in leaves(side) if not any(it is part for part in parts)]
+    is_power = any(it.kind == "POW" for side in sides for it in operators(side))
+    return not is_power and any(it.kind in _PLAIN and scope.signs.of(it) is False and not ranges(it) for it in others)
 
 
 def _is_alone(scope: Scope, above: Node, root: Node) -> bool:

@@ -12,11 +12,12 @@ from .lax import (
 )
 from .messages import nearest_place
 from .misread import SourceTree, used_modules
+from .netlist import cells, inputs_of
 from .sources import places
 from .tools import ToolFailed
 from .warnings import shown
 from .wiring import undriven
-from .yosys import Yosys, cells, inputs_of
+from .yosys import Yosys
 
 SEVERAL_CLOCKS = ("registers have several clocks or edges, or a clock that is computed or read as data: a frame is the time "
                   "between changes of clocks")

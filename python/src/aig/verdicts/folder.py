@@ -6,6 +6,7 @@ import errno
 import json
 import os
 import shlex
+import shutil
 import zipfile
 from contextlib import contextmanager, suppress
 from pathlib import Path
@@ -16,11 +17,15 @@ try:
 except ImportError:  # no Unix
     fcntl = None  # type: ignore[assignment]
 
-from .bundle import LOCK, MOST_BYTES, PLAIN_FILE, PlainFolder, Wrong, sum_of
+from .bundle import LOCK, MOST_BYTES, PLAIN_FILE, Bundle, PlainFolder, Wrong, sum_of
 from .manifest import MANIFEST, as_json
 from .row import Row
 
 PAGE, SCRIPT, TIMES = "index.html", "recheck.sh", "times.json"
+# The page of what changed since another version.
+CHANGES = "changes.html"
+# The folder of the results of other sources, until all rows of these are there.
+BEFORE = "before"
 # Of the same year in each .zip, so that the same files give the same bytes.
 _DATE = (1980, 1, 1, 0, 0, 0)
 
@@ -96,6 +101,34 @@ class Folder:
             (self.path / name).unlink()
         except FileNotFoundError:
             pass
+
+    def set_aside(self) -> None:
+        """Copies the results that are here into a folder, as another circuit comes. Results that are there already stay:
+        these here are of a run that was stopped."""
+        to = self.path / BEFORE
+        if to.exists() or to.is_symlink():
+            return
+        new = self.path / f".{BEFORE}.new"
+        shutil.rmtree(new, ignore_errors=True)
+        try:
+            old = Bundle(self.path, self._most)
+            (new / "sources").mkdir(parents=True)
+            for name in [MANIFEST, *old.sums]:
+                (new / name).write_bytes(old.read(name) if name == MANIFEST else old.summed(name))
+        except Wrong:
+            shutil.rmtree(new, ignore_errors=True)
+            return
+        new.rename(to)
+
+    def before(self) -> Optional[Bundle]:
+        """The results of other sources, if they are here."""
+        try:
+            return Bundle(self.path / BEFORE, self._most)
+        except Wrong:
+            return None
+
+    def forget_before(self) -> None:
+        shutil.rmtree(self.path / BEFORE, ignore_errors=True)
 
     def clean(self) -> None:
         """Removes the files of results that have no row any more."""

@@ -7,7 +7,7 @@ import re
 from typing import Any, Dict, Iterator, Set
 
 from .lax import place
-from .rtlil import Text
+from .rtlil import Text, has_mark
 
 _X = re.compile(r"      update (\S+) \d+'x+")
 _OF_CALL = re.compile(r"(?P<called>.*)\$func\$(?:sources/)?(?P<place>.*:\d+)\$\d+\.(?P<name>.*)")
@@ -24,7 +24,7 @@ def opened(design: Text) -> bool:
     """Takes out what makes such variables x, so that nothing drives what is read of them. Whether there are any."""
     has_any = False
     for module in design.modules:
-        marked = [wire for wire in module.of("wire") if "  attribute \\nosync 1" in wire.attributes]
+        marked = [wire for wire in module.of("wire") if has_mark(wire.attributes, "nosync")]
         names = {wire.name for wire in marked if wire.name.startswith("\\")}
         for process in module.of("process") if names else ():
             left = [line for line in process.lines if not _is_reset(line, names)]

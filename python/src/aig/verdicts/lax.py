@@ -7,7 +7,7 @@ from typing import Any, Dict, Iterable, Iterator, List, Optional, Sequence, Set,
 
 from . import tree
 from .ranges import Declared
-from .rtlil import Module, Text, bits, place_of, signals
+from .rtlil import Module, Text, bits, has_mark, place_of, signals, source_in
 from .tree import Node
 
 
@@ -187,23 +187,22 @@ def powers(cells: Iterable[Dict[str, Any]]) -> List[str]:
 def wired_outputs(module: Module) -> List[str]:
     """The places of instances with an output that a `wand` or `wor` resolves. Yosys keeps the value that the instance drives
     under the name of its port, where Verilog has one net with the resolved value."""
-    if not any(attribute.strip() in ("attribute \\wand 1", "attribute \\wor 1") for wire in module.of("wire") for attribute in wire.attributes):
+    if not any(has_mark(wire.attributes, kind) for wire in module.of("wire") for kind in ("wand", "wor")):
         return []
     return [cell.place for cell in module.of("cell") if not re.match(r"\$(?!paramod)", cell.words[1])
             and any("$auto$hierarchy.cc:" in signal for signal in cell.parts("connect").values())]
 
 
 _UNKNOWN_ITEM = re.compile(r"\s*case (?:.*[ ,{])?\d+'[01-]*[xz]")
-_SOURCE = re.compile(r' *attribute \\src "([^"]*)"')
 
 
 def unknown_items(design: Sequence[str]) -> List[str]:
     """The places of `case` statements with an x or z in an item, in the text of a design."""
     found, at = [], "?"
     for line in design:
-        source = _SOURCE.fullmatch(line)
+        source = source_in(line)
         if source:
-            at = place_of(source[1]) if not place_of(source[1]).endswith(":0") else at
+            at = place_of(source) if not place_of(source).endswith(":0") else at
         elif _UNKNOWN_ITEM.match(line):
             found.append(at)
     return found

@@ -6,7 +6,7 @@ from __future__ import annotations
 import re
 from typing import Collection, Dict, List, Set
 
-from .rtlil import Item, Module, Text, bits
+from .rtlil import Item, Module, Text, bits, has_mark
 from .sources import places as shown
 from .tools import ToolFailed
 
@@ -25,7 +25,7 @@ def open_boxes(design: Text, free: Collection[str]) -> List[str]:
     if missing:
         raise ToolFailed(f"the design has no module {min(missing)}")
     design.modules = [module for module in design.modules if module.name not in boxes]
-    if not any("attribute \\top 1" in module.attributes for module in design.modules):
+    if not any(has_mark(module.attributes, "top") for module in design.modules):
         raise ToolFailed("the design has no assertion and no cover: the top module has no body, or is left out")
     places: Dict[str, List[str]] = {}
     for module in design.modules:
@@ -43,7 +43,7 @@ def _why(name: str, free: Collection[str]) -> str:
 
 
 def _is_box(module: Module) -> bool:
-    return "attribute \\blackbox 1" in module.attributes
+    return has_mark(module.attributes, "blackbox")
 
 
 def _source_name(module: Module) -> str:

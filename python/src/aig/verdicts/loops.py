@@ -2,9 +2,10 @@
 
 from __future__ import annotations
 
-from typing import Iterator, NamedTuple, Optional
+from typing import Iterator, NamedTuple
 
 from .contexts import COMPARISONS, TO_THE_RIGHT, grows, leaves, operators, roots
+from .counted import types
 from .scope import UNSIZED, Scope, declared
 from .tree import Node
 
@@ -31,25 +32,23 @@ class _Counter(NamedTuple):
     keeps_sign: bool
 
 
-def _other_type(scope: Scope, loop: Node) -> Optional[_Counter]:
+def _of_other_type(scope: Scope, loop: Node) -> Iterator[_Counter]:
     """The variable of a loop, if the first value or the step has another width or sign."""
     first, step = loop.parts[0].parts[1], loop.parts[2].parts[1]
     name = loop.parts[0].parts[0].name
-    declaration = scope.declarations.get(name)
-    width = (scope.width_of_declaration(declaration) if declaration else UNSIZED) or UNSIZED
-    is_signed = declaration.is_signed if declaration else True
     others = [it for it in leaves(step) if it.name != name]
     signs = {scope.signs.of(first), *(scope.signs.of(it) for it in others)}
     widths = [scope.own_width(first), *map(scope.own_width, others)]
-    keeps_sign = False not in signs if is_signed else scope.signs.of(first) is False
-    return None if keeps_sign and max(widths) <= width else _Counter(name, width, is_signed, keeps_sign)
+    for width, is_signed in types(scope, name):
+        keeps_sign = False not in signs if is_signed else scope.signs.of(first) is False
+        if not keeps_sign or max(widths) > width:
+            yield _Counter(name, width, is_signed, keeps_sign)
 
 
 def odd_counters(scope: Scope) -> Iterator[str]:
     """Places in loops where the width or the sign of the loop's variable matters, which Yosys has forgotten."""
     for loop in scope.module.all():
-        counter = _other_type(scope, loop) if loop.kind in ("FOR", "GENFOR") else None
-        if counter is not None:
+        for counter in _of_other_type(scope, loop) if loop.kind in ("FOR", "GENFOR") else ():
             for above, root in roots(loop.parts[3]):
                 if _reads(counter, root) and not _is_harmless(scope, counter, above, root):
                     yield root.line

@@ -12,7 +12,7 @@ import re
 from dataclasses import dataclass
 from typing import Dict, Iterator, List
 
-from .rtlil import Item, Module, Text
+from .rtlil import Item, Module, Text, source_in
 from .tools import ToolFailed
 
 FLAVORS = ("assert", "assume", "cover", "live", "fair")
@@ -22,7 +22,6 @@ _PORTS = {"A", "EN", "TRG", "ARGS"}
 _OLD_PORTS = {"A", "EN"}
 _ALWAYS, _UNKNOWN = "1'1", "1'x"
 _ASSIGNED = re.compile(r"( *)assign (\S+) 1'([01])")
-_BEGIN = re.compile(r'  attribute \\src "(?:[^"|]*\|)*([^"|]*?:\d+)\.')
 _EVENT = re.compile(r"    sync (posedge|negedge|global)\b")
 
 
@@ -75,8 +74,7 @@ class _Check:
             raise _unknown(cell, f"the kind {flavor}")
         edges = _number(cell, parameters["TRG_WIDTH"])
         is_initial = _number(cell, parameters["TRG_ENABLE"]) == 1 and edges == 0
-        begin = next((match[1] for match in map(_BEGIN.match, cell.attributes) if match), "?:0")
-        return _Check(cell, flavor, ports["A"], ports["EN"], edges, is_initial, f"$formal${begin}${number}")
+        return _Check(cell, flavor, ports["A"], ports["EN"], edges, is_initial, f"$formal${cell.begin}${number}")
 
     def wire(self, ending: str) -> str:
         return f"{self.stem}_{ending}"
@@ -134,7 +132,7 @@ def _with_registers(lines: List[str], enabled: Dict[str, _Check]) -> Iterator[st
 
 def _declare(module: Module, check: _Check) -> None:
     """The wires of a check. Its registers are named after its place, as the names of signals are made of that."""
-    place = [line for line in check.cell.attributes if line.startswith("  attribute \\src ")]
+    place = [line for line in check.cell.attributes if source_in(line)]
     reads, enable = check.wire("CHECK"), check.wire("EN")
     for wire in [f"$0{reads}", f"$0{enable}"] * (check.assigned > 0) + [reads] * check.at_edges + [check.wire("START")] * check.is_initial:
         module.declare(wire, attributes=place)

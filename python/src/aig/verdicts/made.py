@@ -9,13 +9,16 @@ from .design import Design, read_verilog
 from .tools import Stop, ToolFailed
 
 
-def made(files: Sequence[Path], stop: Stop, options: Dict[str, Any], include: Sequence[Path] = ()) -> Design:
-    """The circuit of these sources. The options are those of MANIFEST.json: top, defines, conditions, wires, free."""
-    for file in files:
+def made(files: Sequence[Path], stop: Stop, options: Dict[str, Any], include: Sequence[Path] = (),
+         asserts: Sequence[Path] = ()) -> Design:
+    """The circuit of these sources. The options are those of MANIFEST.json: top, defines, conditions, wires, free, module.
+    The files `asserts` are put into the module."""
+    for file in [*files, *asserts]:
         file.open("rb").close()  # a source that is missing is an error of its own
     try:
         return read_verilog(files, options["top"], stop, options["defines"], options["conditions"], options["wires"],
-                            include=include, free=options.get("free", ()))
+                            include=include, free=options.get("free", ()), asserts=asserts,
+                            module=options.get("module", ""))
     except FileNotFoundError as error:
         if error.filename is None:
             raise

@@ -10,7 +10,7 @@ from typing import Any, Callable, Dict, List, Optional, Tuple
 from . import simulated, timing
 from .checked import ALIVE, CIRCUIT, CONSTRAINTS, WAYS, Claim, Command, Wrong, expect
 from .decisions import judge
-from .row import KINDS, LEFT_OUT, MOST_FRAMES, UNDECIDED, Row, name_of
+from .row import KINDS, LEFT_OUT, MOST_FRAMES, ORIGINS, UNDECIDED, Row, name_of
 
 __all__ = ["Wrong", "expect"]
 
@@ -94,10 +94,12 @@ def parsed(data: bytes) -> Dict[str, Any]:
     expect(type(made) is dict and made.get("format") in (FORMAT, OLDER), f"MANIFEST.json is not of {FORMAT!r}")
     for name in ("timing", "simulated"):  # an older version did not write them
         made.setdefault(name, {})
+    made.setdefault("translated", [])  # where Yosys read the sources themselves
     expect(set(made) == set(_PARTS), "MANIFEST.json has other parts")
     for name, is_right in _PARTS.items():
         expect(is_right(made[name]), f"{name} of MANIFEST.json")
     expect(bool(made["options"]) == bool(made["sources"]), "options of MANIFEST.json")
+    expect(set(made["translated"]) <= set(made["sources"]), "translated of MANIFEST.json")
     manifest: Dict[str, Any] = made
     return manifest
 
@@ -128,6 +130,7 @@ _PARTS: Dict[str, Callable[[Any], bool]] = {
     "bounds": lambda value: _table(value, int, float),
     "options": _options,
     "sources": _sources,
+    "translated": _sources,
     "notes": _texts,
     "versions": lambda value: _table(value, str),
     "sums": lambda value: _table(value, str) and all(PLAIN.fullmatch(it) for it in value),
@@ -137,7 +140,7 @@ _PARTS: Dict[str, Callable[[Any], bool]] = {
 }
 _TYPES = {
     "position": int, "kind": str, "name": str, "file": str, "first": int, "last": int, "of": int, "verdict": str,
-    "by": str, "frames": int, "files": dict, "notes": list,
+    "by": str, "frames": int, "files": dict, "notes": list, "origin": str,
 }
 
 
@@ -157,6 +160,7 @@ class Said:
     frames: int = 0
     files: Dict[str, str] = field(default_factory=dict)
     notes: List[str] = field(default_factory=list)
+    origin: str = ""
 
     @property
     def label(self) -> str:
@@ -172,7 +176,7 @@ class Said:
         """The row, which has no verdict before its claim is checked."""
         claim = self.claim() if self.by or self.verdict == ALIVE else None
         return Row(self.position, self.kind, self.name, self.file, self.first, self.last, self.of,
-                   self.verdict == LEFT_OUT, claim, self.notes)
+                   self.verdict == LEFT_OUT, claim, self.notes, self.origin)
 
 
 def row_of(value: Any) -> Row:
@@ -187,6 +191,7 @@ def row_of(value: Any) -> Row:
     expect(row.kind in KINDS and row.by in WAYS and row.position >= CONSTRAINTS, "a row of an unknown kind")
     expect((row.position == CONSTRAINTS) == (row.kind == "constraints"), f"kind of {row.label}")
     expect(_texts(row.notes), f"notes of {row.label}")
+    expect(row.origin in ("", *ORIGINS), f"origin of {row.label}")
     _numbers(row)
     _files(row)
     _verdict(row)
@@ -232,4 +237,5 @@ def files_of(manifest: Dict[str, Any], rows: List[Row]) -> List[str]:
     """The files that a bundle has to have, in a fixed order."""
     named = [name for row in rows if row.claim is not None for name in row.claim.files.values()]
     sources = [f"sources/{name}" for name in manifest["sources"]]
+    sources += [f"translated/{name}" for name in manifest["translated"]]
     return [CIRCUIT, *named, *sources, *[SCRIPT_OF_YOSYS] * bool(sources)]

@@ -3,194 +3,18 @@ each place, and the message says how to write it instead."""
 
 from __future__ import annotations
 
-from typing import Callable, Collection, Dict, Iterator, List, NamedTuple, Optional, Sequence, Set, Tuple
+from typing import Callable, Collection, Iterator, List, NamedTuple, Optional, Sequence, Set, Tuple
 
-from . import evaluated, loops, named_types, written
-from .contexts import grows
-from .lax import addresses, ranges
-from .scope import CALLS, EDGES, UNSIZED, Scope, declared, targets
-from .tree import Node, modules, nodes
-
-_FILES = ("$readmemh", "$readmemb")
+from . import counted, evaluated, given, loops, memories, named_types, order, written
+from .scope import Scope
+from .tree import modules, nodes
 
 
-def late_before_blocking(scope: Scope) -> Iterator[str]:
-    """Blocking assignments after a nonblocking one of the same variable, in one block. In a loop, each is after the
-    other."""
-    for block in scope.blocks():
-        late: Set[str] = set()
-        loops = [it for it in block.all() if it.kind in ("FOR", "WHILE", "REPEAT")]
-        for part in [block, *loops]:
-            for write in scope.writes(part):
-                if write.is_late:
-                    late.add(write.name)
-                elif write.name in late:
-                    yield write.place
+class Rule(NamedTuple):
+    """What to look for in a module, and what to say of it."""
 
-
-def filled_before(scope: Scope) -> Iterator[str]:
-    """Files that are read into a memory after an assignment to its words: `m[k] = 0` in a loop, then `$readmemh`."""
-    filled: Set[str] = set()
-    for block in scope.blocks():
-        for node in block.all() if block.kind == "INITIAL" else ():
-            if node.kind == "TCALL" and node.name in _FILES and any(it.name in filled for it in node.parts[1:2]):
-                yield node.line
-            elif node.kind in ("ASSIGN_EQ", "ASSIGN_LE"):
-                filled |= {it.name for it in targets(node.parts[0])}
-
-
-def negative_addresses(scope: Scope) -> Iterator[str]:
-    """Memories that have words at negative addresses."""
-    for node in scope.module.all():
-        if node.kind == "MEMORY":
-            bounds = [scope.value(it) for dimension in addresses(node) for it in dimension.parts]
-            if any(it is not None and it < 0 for it in bounds):
-                yield node.line
-
-
-def inner_addresses(scope: Scope) -> Iterator[str]:
-    """Addresses of a memory of several dimensions where one but the first may be out of its range. Yosys then takes a
-    word of the next row."""
-    for node in scope.module.all():
-        declaration = scope.declarations.get(node.name) if node.kind == "IDENTIFIER" else None
-        if declaration and declaration.kind == "MEMORY":
-            for index, dimension in list(zip(ranges(node), addresses(declaration)))[1:]:
-                if not scope.is_constant(index) and not _is_inside(scope, index.parts[-1], dimension):
-                    yield node.line
-
-
-def _is_inside(scope: Scope, index: Node, dimension: Node) -> bool:
-    least, most = scope.bounds(index)
-    ends = [scope.value(it) for it in dimension.parts]
-    known = [it for it in ends if it is not None]
-    if len(known) != len(ends) or least is None or most is None:
-        return False
-    first, last = (0, known[0] - 1) if len(known) == 1 else (min(known), max(known))
-    return first <= least and most <= last
-
-
-def lost_results(scope: Scope) -> Iterator[str]:
-    """`inout` arguments of tasks and functions: Yosys copies them in, and never out."""
-    for subroutine in scope.subroutines.values():
-        yield from (it.line for it in subroutine.parts if it.kind == "WIRE" and it.is_input and it.is_output)
-
-
-def narrow_arguments(scope: Scope) -> Iterator[str]:
-    """Constant expressions that a function or task gets. Yosys computes them in their own width: of `f(~2'd1)` the
-    input is 2, and not 6."""
-    for call in scope.module.all():
-        if call.kind in CALLS and not call.name.startswith("$"):
-            yield from (it.line for it in call.parts if scope.is_narrow(it, UNSIZED))
-
-
-def narrow_items(scope: Scope) -> Iterator[str]:
-    """Items of a `case` that are constant expressions, and narrower than its selector or another item."""
-    for case in scope.module.all():
-        if case.kind == "CASE":
-            items = [it for item in case.parts[1:] for it in item.parts if it.kind not in ("BLOCK", "DEFAULT")]
-            width = max(scope.own_width(it) for it in [case.parts[0], *items])
-            yield from (it.line for it in items if scope.is_narrow(it, width))
-
-
-def given_parameters(each: Sequence[Scope]) -> Iterator[Tuple[Scope, Node, Node]]:
-    """The values that instances give to parameters, each with the scope of the instance and the declaration."""
-    declared = {scope.module.name: [it for it in scope.module.parts if it.kind == "PARAMETER"] for scope in each}
-    for scope in each:
-        for cell in scope.module.all():
-            if cell.kind == "CELL":
-                parameters = declared.get(cell.parts[0].name, [])
-                for position, value in enumerate(it for it in cell.parts if it.kind == "PARASET"):
-                    found = [it for it in parameters if it.name == value.name] or parameters[position:position + 1]
-                    yield from ((scope, value.parts[0], it) for it in found)
-
-
-def narrow_parameters(each: Sequence[Scope]) -> Iterator[str]:
-    """Constant expressions for a parameter with a wider range."""
-    for scope, value, parameter in given_parameters(each):
-        if ranges(parameter) and scope.is_narrow(value, scope.width(ranges(parameter)[0]) or UNSIZED):
-            yield value.line
-
-
-def _connections(each: Sequence[Scope]) -> Iterator[Tuple[Scope, Node, Optional[int]]]:
-    """What instances connect to ports, each with the scope of the instance and the width of the port."""
-    widths = {scope.module.name: [(it.name, scope.width_of_declaration(it)) for it in scope.module.parts
-                                  if it.kind == "WIRE" and (it.is_input or it.is_output)] for scope in each}
-    for scope in each:
-        for cell in scope.module.all():
-            ports = widths.get(cell.parts[0].name, []) if cell.kind == "CELL" else []
-            for position, given in enumerate(it for it in cell.parts if it.kind == "ARGUMENT"):
-                named = [it for it in ports if it[0] == given.name] if given.name else ports[position:position + 1]
-                yield from ((scope, given.parts[0], width) for _, width in named if given.parts)
-
-
-def narrow_connections(each: Sequence[Scope]) -> Iterator[str]:
-    """Expressions at an input port that is wider than they are. Yosys computes them in their own width: the carry of
-    `a + b` is lost."""
-    for scope, value, width in _connections(each):
-        is_narrow = width is not None and scope.own_width(value) < width
-        if is_narrow and grows(value, scope.signs.of(value)) and not scope.fits(value):
-            yield value.line
-
-
-def untyped_parameters(each: Sequence[Scope]) -> Iterator[str]:
-    """Values without sign for a parameter that is declared `signed` and has no range. They become signed, and not so in
-    Yosys."""
-    for scope in each:
-        own = (it for it in scope.module.all() if it.kind in ("PARAMETER", "LOCALPARAM") and it.is_signed and it.parts)
-        yield from (it.line for it in own if not ranges(it) and scope.sign_of_constant(it.parts[0]) is False)
-    for scope, value, parameter in given_parameters(each):
-        if parameter.is_signed and not ranges(parameter) and scope.signs.of(value) is not True:
-            yield value.line
-
-
-# -- what is read in one of several ways
-
-
-def races(scope: Scope) -> Iterator[str]:
-    """Variables that a clocked block writes at once, and another one reads at the same edge, also through wires."""
-    clocked = [_Clocked(scope, it) for it in scope.module.all() if it.kind == "ALWAYS" and _edges(it)]
-    reads = [(_read(it), {to.name for to in targets(it.parts[0])}) for it in scope.module.all() if it.kind == "ASSIGN"]
-    for it in scope.module.all():
-        if it.kind == "ALWAYS" and not _edges(it):
-            written = {write.name for write in scope.writes(it)}
-            reads.append((_read(it) - written, written))
-    for block in clocked:
-        for write in block.at_once:
-            reached = _reached({write.name}, reads)
-            if any(other is not block and other.edges & block.edges and reached & other.read for other in clocked):
-                yield write.place
-
-
-class _Clocked:
-    """A clocked block: its edges, what it writes at once, and what it reads and does not write."""
-
-    def __init__(self, scope: Scope, block: Node):
-        own = declared(block)
-        writes = list(scope.writes(block))
-        self.edges = _edges(block)
-        self.at_once = [it for it in writes if not it.is_late and it.name not in own]
-        self.read = _read(block) - own - {it.name for it in writes}
-
-
-def _edges(block: Node) -> Set[Tuple[str, str]]:
-    return {(it.kind, it.parts[0].name) for it in block.parts if it.kind in EDGES}
-
-
-def _read(node: Node) -> Set[str]:
-    """The names that a statement reads."""
-    written = {id(to) for it in node.all() if it.kind.startswith("ASSIGN") and it.parts for to in targets(it.parts[0])}
-    return {it.name for it in node.all() if it.kind == "IDENTIFIER" and id(it) not in written}
-
-
-def _reached(names: Set[str], reads: Sequence[Tuple[Set[str], Set[str]]]) -> Set[str]:
-    """The names that depend on these by wires."""
-    reached, size = set(names), 0
-    while len(reached) > size:
-        size = len(reached)
-        for read, written in reads:
-            if reached & read:
-                reached |= written
-    return reached
+    finds: Callable[[Scope], Iterator[str]]
+    said: str
 
 
 def numbered_upwards(scope: Scope) -> Iterator[str]:
@@ -202,26 +26,16 @@ def numbered_upwards(scope: Scope) -> Iterator[str]:
                 yield node.line
 
 
-# -- all of them
-
-
-class Rule(NamedTuple):
-    """What to look for in a module, and what to say of it."""
-
-    finds: Callable[[Scope], Iterator[str]]
-    said: str
-
-
 _REJECTED = (
-    Rule(lost_results,
+    Rule(given.lost_results,
          "a task has an `inout` argument, and Yosys leaves out what it gives back: make it an input and an output"),
-    Rule(narrow_arguments,
+    Rule(given.narrow_arguments,
          "a function or task gets a constant expression that is narrower than 32 bits, and Yosys leaves out the width"
          " of its input: name the value, as with a `wire`"),
-    Rule(narrow_items,
+    Rule(given.narrow_items,
          "an item of a `case` is a constant expression that is narrower than the selector or another item, and Yosys "
          "leaves out their width: write the value, or name it"),
-    Rule(late_before_blocking,
+    Rule(order.late_before_blocking,
          "a block writes a variable with <= and then with =. The value of <= counts in the end, and Yosys takes the "
          "last one: use one of the two for each variable"),
     Rule(loops.changed_counters,
@@ -251,7 +65,7 @@ _REJECTED = (
          "Yosys stops there: write that variable alone"),
     Rule(evaluated.endless,
          "a function calls itself, and gets no constant: Yosys would unfold it without end"),
-    Rule(filled_before,
+    Rule(memories.filled_before,
          "a file is read into a memory after its words got values, and Yosys keeps these: read the file first"),
     Rule(evaluated.wildcards,
          "a function with a `casez` or `casex` gets constants, and Yosys compares its wildcards as if they were "
@@ -284,9 +98,9 @@ _REJECTED = (
     Rule(named_types.negative_enums,
          "an `enum` without a type has a negative value, and Yosys reads it as one without sign: write `enum logic "
          "signed [n:0]`"),
-    Rule(negative_addresses,
+    Rule(memories.negative_addresses,
          "a memory has negative addresses, and Yosys reads other words: let the addresses begin with 0"),
-    Rule(inner_addresses,
+    Rule(memories.inner_addresses,
          "an address of a memory of several dimensions may be out of its range, and Yosys then takes a word of "
          "another row: use an index whose width fits, as `i[1:0]`"),
 )
@@ -294,10 +108,12 @@ _UNTYPED = ("a parameter that is `signed` without a range gets a value without s
             "does not make it so: declare the range of the parameter")
 _CONNECTED = ("an expression is narrower than the input port that gets it, and Yosys leaves out the width of the port: "
               "give the port a `wire` of its width")
+_COUNTED = ("a loop's variable may get a value that its width or sign cannot hold, and Yosys counts on without them: declare "
+            "it as `integer`, or give it a first value and a step of its width")
 _NARROW = ("a parameter gets a constant expression that is narrower than the parameter, and Yosys leaves out its "
            "width: give the value a name with that width, as with a `localparam`")
 _NOTED = (
-    Rule(races,
+    Rule(order.races,
          "a clocked block writes a variable with = that another block reads at the same edge. Verilog does not say "
          "which of them comes first, and the circuit reads the old value"),
     Rule(numbered_upwards,
@@ -315,8 +131,8 @@ class SourceTree:
     def misread(self) -> Iterator[Tuple[List[str], str]]:
         """The places of what is read in another way, and a message."""
         yield from self._found(_REJECTED)
-        for finds, said in ((untyped_parameters, _UNTYPED), (narrow_parameters, _NARROW),
-                            (narrow_connections, _CONNECTED)):
+        for finds, said in ((given.untyped_parameters, _UNTYPED), (given.narrow_parameters, _NARROW),
+                            (given.narrow_connections, _CONNECTED), (counted.other_values, _COUNTED)):
             found = list(finds(self._scopes))
             if found:
                 yield found, said

@@ -6,47 +6,22 @@ from typing import Any, Callable, Dict, List, Optional, Sequence
 
 import aig
 
-from .decisions import DISAGREES, MEANINGS, Judged, summary
+from .decisions import MEANINGS, Judged, summary
 from .row import Row
 from .runs import comes_back
+from .sections import Pictures, Sections, Sources, anchor, marked, place, size, verdict
+from .sentences import GROUPS, NOT_PROVED, NOT_SIMULATED, PROVED, UNPROVED, counted, is_proved, of_assumptions
 from .simulated import of_facts
-from .sections import Pictures, Sections, Sources, anchor, counted, place, size, verdict
 from .style import STYLE
 from .svg import STYLE as WAVE, escape
 
 _LEGEND = ("Thick lines are the values that suffice for it, and hatched boxes are x: any value will do. Numbers are "
            "hexadecimal. Their pale digits are x too: they are those of the run with 0 for each x.")
-GROUPS = (
-    ("fails", "Fails", f"A run of the design violates the assertion. In its waveform a frame is a clock. {_LEGEND}"),
-    ("never", "Never reached", "No run of any length does what the cover asks for."),
-    (DISAGREES, "Denied", "In a simulator of the sources this does not happen. Until somebody has looked at both sides, "
-     "there is no verdict."),
-    ("vacuous", "Vacuous", "Nothing violates the assertion, but only because nothing is asked of any run. Most often "
-     "an assumption or a condition is wrong."),
-    ("undecided", "Undecided", "No verdict. The notes say what ended the search."),
-    ("bounded", "Within a bound", "No run of so many frames does it. Of longer runs nothing is known."),
-    ("holds", "Holds", "No run of any length violates the assertion."),
-    ("reached", "Reached", f"A run does what the cover asks for. {_LEGEND}"),
-)
+# What the groups whose rows have waveforms say of these.
+LEGENDS = {"fails": ("In its waveform a frame is a clock.", _LEGEND), "reached": (_LEGEND,)}
 # The groups that fold if they have more than three rows.
 FOLDED = ("holds", "reached")
 POLICY = "default-src 'none'; style-src 'unsafe-inline'; base-uri 'none'; form-action 'none'"
-PROVED = """\
-<p><b>Checked by a verified program.</b> Each verdict on this page is a line that <code>aig</code> printed about
-<code>circuit.aig</code>. Each function of <code>aig</code> is proved to meet its contract, so no solver, model checker
-or script has to be trusted for these lines. Anybody checks all of them again, with <code>aig</code> alone:
-<code>sh recheck.sh</code> or <code>aig-verdicts recheck FOLDER</code>.</p>
-"""
-UNPROVED = """\
-<p class=warn><b>Checked by a program that is not proved.</b> Each verdict on this page is a line that <code>aig</code>
-printed about <code>circuit.aig</code>. That <code>aig</code> was built without its proofs: have a proved one check all
-lines again, by <code>sh recheck.sh</code> or <code>aig-verdicts recheck FOLDER</code>.</p>
-"""
-NOT_PROVED = """\
-<p><b>Not proved.</b> That the circuit is the design's rests on Yosys; so do the names and the places of assertions.
-This page, its waveforms and the grouping into vacuous and not are made by a tested program in Python. Assumptions are
-taken as they are written.</p>
-"""
 
 
 class Page:
@@ -62,7 +37,7 @@ class Page:
                  pictures: Optional[Pictures] = None):
         self.manifest, self.rows, self.read = manifest, rows, read
         self.seconds, self.unfinished, self.pictures = seconds, unfinished, pictures
-        groups = [key for key, _, _ in GROUPS]
+        groups = list(GROUPS)
         self.summary = summary(table)
         shown = [it for it in table if it.result in groups]  # the summary alone counts what was left out
         self.table = sorted(shown, key=lambda it: (groups.index(it.result), not it.doubt))
@@ -87,8 +62,8 @@ class Page:
         for it in self.table:
             counts[it.result] = counts.get(it.result, 0) + 1
         chips = (f'<li class="{MEANINGS[key].look}"><a href="#{key}"><b>{MEANINGS[key].mark} {counts[key]}</b>'
-                 f'{title.lower()}</a></li>'
-                 for key, title, _ in GROUPS if key in counts)
+                 f'{group.title.lower()}</a></li>'
+                 for key, group in GROUPS.items() if key in counts)
         return f'<ul class="sum">{"".join(chips)}</ul>'
 
     def _notes(self) -> str:
@@ -105,12 +80,8 @@ class Page:
         facts = self.facts
         names = {"inputs": "input", "latches": "latch", "gates": "gate", "constraints": "assumption"}
         inputs, latches, gates, assumptions = (counted(facts[key], name) for key, name in names.items())
-        runs = [row for row in self.rows if row.by in ("run", "kept")]
-        kept = ""
-        if facts["constraints"] and runs:
-            longest = max(runs, key=lambda row: row.frames)
-            kept = (f" A run of {counted(longest.frames, 'frame')} keeps the assumptions: "
-                    f"<code>{escape(longest.files['witness'])}</code>.{self._for_ever(runs)}")
+        said = of_assumptions(self.rows, self._comes_back) if facts["constraints"] else []
+        kept = "".join(f" {marked(sentence)}" for sentence in said)
         known = escape(str(self.manifest["sums"].get("circuit.aig", ""))[:16])
         return (f"<p class=sub>Circuit of {inputs}, {latches} and {gates}, {assumptions}.{kept} SHA-256 "
                 f'<code>{known}</code>… <a href="#believe">What to believe</a></p>')
@@ -120,18 +91,11 @@ class Page:
         said = of_facts(self.manifest.get("simulated", {}))
         if not self.manifest.get("sources"):
             return ""
-        text = said.circuit or "Not compared with a simulator"
+        text = said.circuit or NOT_SIMULATED
         return f"<p class={'sub' if said.agrees else 'warn'}>{escape(text)}.</p>"
 
-    def _for_ever(self, runs: Sequence[Row]) -> str:
-        """Whether the assumptions can be kept for ever, as far as their own run shows it."""
-        kept = next((row for row in runs if row.by == "kept"), None)
-        if kept is None:
-            return ""
-        file = kept.files["witness"]
-        if comes_back(self.circuit.file, self.read(file)):
-            return f" <code>{escape(file)}</code> comes back to a state, so they can be kept for ever."
-        return " <b>Whether a run keeps them for ever is not known.</b>"
+    def _comes_back(self, row: Row) -> bool:
+        return comes_back(self.circuit.file, self.read(row.files["witness"]))
 
     # -- the table
 
@@ -158,7 +122,7 @@ class Page:
     def _groups(self) -> str:
         sections = Sections(self.circuit, self.sources, self.read, self.pictures)
         found: List[str] = []
-        for key, title, words in GROUPS:
+        for key, group in GROUPS.items():
             members = [it for it in self.table if it.result == key]
             if members:
                 folded = [it for it in members if not it.doubt] if key in FOLDED and len(members) > 3 else []
@@ -166,12 +130,14 @@ class Page:
                 if folded:
                     rows = "".join(map(sections.section, folded))
                     body += f"<details><summary>{counted(len(folded), 'row')}</summary>{rows}</details>"
-                found.append(f"<h2 id={key}>{title}</h2><p class=sub>{words}</p>{body}")
+                words = " ".join([group.sentence, *LEGENDS.get(key, ())])
+                found.append(f"<h2 id={key}>{group.title}</h2><p class=sub>{words}</p>{body}")
         return "".join(found)
 
     def _believe(self) -> str:
-        is_proved = "not proved" not in str(self.manifest["versions"].get("aig", ""))
-        return f"<h2 id=believe>What to believe</h2>\n{PROVED if is_proved else UNPROVED}{NOT_PROVED}"
+        proved = is_proved(str(self.manifest["versions"].get("aig", "")))
+        said = f"<p>{marked(PROVED)}</p>" if proved else f"<p class=warn>{marked(UNPROVED)}</p>"
+        return f"<h2 id=believe>What to believe</h2>\n{said}\n<p>{marked(NOT_PROVED)}</p>\n"
 
     def _programs(self) -> str:
         versions = "".join(f"<li><code>{escape(str(it))}</code></li>" for it in self.manifest["versions"].values())

@@ -8,7 +8,7 @@ from dataclasses import dataclass, field
 from typing import Dict, Iterator, List, Sequence, Tuple
 
 from .left_out import read_wires
-from .rtlil import Item, Module, bits, joined, signals
+from .rtlil import Item, Module, bits, joined, marked, signals
 from .tools import ToolFailed
 
 _SELECTOR = re.compile(r"( *)switch (\d+'[01xz]*)")
@@ -26,7 +26,7 @@ def _keep_the_order_of_items(module: Module) -> None:
     """Of the items of a `parallel_case` that match at once the first one counts, as in a simulation. Yosys may take another
     one, and drops an item that is empty."""
     for process in module.of("process"):
-        process.lines = [line for line in process.lines if line.strip() != "attribute \\parallel_case 1"]
+        process.lines = [line for line in process.lines if line.strip() != marked("parallel_case")]
 
 
 def _open_constant_selectors(module: Module) -> None:

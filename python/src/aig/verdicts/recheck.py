@@ -11,13 +11,15 @@ from typing import Callable, List, Optional, Sequence
 
 from .._program import program
 from ..entries import listed, readable
-from ..errors import AigError
+from ..errors import AigError, Crashed
 from .bundle import MOST_BYTES, Bundle
 from .checked import CIRCUIT, CONSTRAINTS, Checked, Claim, Wrong, check, expect, sum_of
 from .design import Design, properties, symbol
+from .equal import do_the_same
 from .made import made
 from .manifest import OLDER, SCRIPT_OF_YOSYS, check_results
 from .row import Row, has_constraints
+from .sentences import EQUAL_CIRCUIT, SAME_CIRCUIT
 from .sources import Sources, places
 from .tools import Stop, ToolFailed, ask, version
 from .versions import yosys_of
@@ -25,6 +27,10 @@ from .versions import yosys_of
 Read = Callable[[str], bytes]
 # What is compared by name between two circuits, in this order.
 _COMPARED = {"i": "inputs", "o": "outputs", "b": "properties", "c": "constraints", "l": "registers"}
+
+
+class Unanswered(Wrong):
+    """`aig` ended without an answer: nothing is known to be right, and nothing to be wrong."""
 
 
 def check_row(row: Row, circuit: bytes, read: Read, stop: Stop) -> Optional[Checked]:
@@ -35,11 +41,11 @@ def check_row(row: Row, circuit: bytes, read: Read, stop: Stop) -> Optional[Chec
 
 
 def check_claim(claim: Claim, circuit: bytes, read: Read, stop: Stop) -> Checked:
-    """The check of a claim. A Wrong says what is wrong, also where `aig` ends without an answer."""
+    """The check of a claim. A Wrong says what is wrong, or that `aig` ended without an answer."""
     try:
         return check(claim, circuit, read, stop)
-    except RuntimeError as error:
-        raise Wrong(f"{claim.label}: {error}") from None
+    except Crashed as error:
+        raise Unanswered(f"{claim.label}: {error}") from None
 
 
 def _properties(circuit: bytes, stop: Stop) -> List[str]:
@@ -92,7 +98,7 @@ def recheck(path: Path, sums: bool = True, say: Callable[[Row], None] = lambda _
         expect(is_kept(bundle.rows[0], circuit, stop), "no run shows that the assumptions can be kept")
     read, known = bundle.summed if sums else bundle.read, sum_of(circuit)
     for name in bundle.sums:
-        if name.startswith("sources/") or name == SCRIPT_OF_YOSYS:
+        if name.startswith(("sources/", "translated/")) or name == SCRIPT_OF_YOSYS:
             read(name)
     with ThreadPoolExecutor(jobs or os.cpu_count() or 1) as pool:
         checks = [pool.submit(check_row, row, circuit, read, stop) for row in bundle.rows]
@@ -100,6 +106,8 @@ def recheck(path: Path, sums: bool = True, say: Callable[[Row], None] = lambda _
             for row, check in zip(bundle.rows, checks):
                 try:
                     _take(row, check.result(), known)
+                except Unanswered:
+                    raise
                 except Wrong as error:
                     raise Wrong(f"{error}{_of_another_version(row, bundle, stop)}") from None
                 if row.by:
@@ -130,29 +138,35 @@ def same_sources(bundle: Bundle, files: Sequence[Path], include: Sequence[Path])
     expect(not other, f"{places(other)}: the bundle has another text than your file")
 
 
-def same_design(bundle: Bundle, stop: Stop = Stop()) -> None:
-    """Whether Yosys makes the same circuit of the sources again, with its rows at the same places. Another version of
-    Yosys may say that an assertion begins on another line."""
-    again = _made_again(bundle, stop)
+def same_design(bundle: Bundle, stop: Stop = Stop()) -> str:
+    """That Yosys makes the same circuit of the sources again, or one that does the same: what is said of it. Its rows are
+    at the same places. Another version of Yosys may say that an assertion begins on another line."""
+    again, circuit = _made_again(bundle, stop), bundle.circuit()
     old, new = (yosys_of(it) for it in (bundle.manifest["versions"].get("yosys", ""), version("yosys", stop)))
     other = "" if old == new else f"; the bundle says that {old} made it, and this is {new}"
-    if again.circuit != bundle.circuit():
-        difference = _difference(bundle.circuit(), again.circuit, stop)
+    is_same = again.circuit == circuit
+    if not is_same and not do_the_same(circuit, again.circuit, stop):
+        difference = _difference(circuit, again.circuit, stop)
         raise Wrong(f"Yosys makes another circuit of the sources: {difference}{other}")
+    translated = {name: bundle.summed(f"translated/{name}") for name in bundle.manifest["translated"]}
+    expect(again.translated == translated, "the translation of the assertions is another one")
     places = {it.position: it for it in again.assertions}
     for row in bundle.rows[1:]:
         here = places[row.position]
-        is_same = (here.kind, here.name, here.file, here.last) == (row.kind, row.name, row.file, row.last)
-        expect(is_same and (here.first == row.first or bool(other)),
+        is_there = (here.kind, here.name, here.file, here.last) == (row.kind, row.name, row.file, row.last)
+        expect(is_there and (here.first == row.first or bool(other)),
                f"{row.label} is at another place: {here.file}:{here.first}-{here.last}, and "
                f"{row.file}:{row.first}-{row.last} in the bundle{other}")
+    return SAME_CIRCUIT if is_same else EQUAL_CIRCUIT
 
 
 def _made_again(bundle: Bundle, stop: Stop) -> Design:
     """What Yosys makes of the sources. The script in the bundle is not run: it could do anything."""
     options = bundle.manifest["options"]
-    expect(set(options) - {"free"} == {"top", "defines", "conditions", "wires"} and type(options["top"]) is str
-           and type(options["defines"]) is list and type(options.get("free", [])) is list
+    expect(set(options) - {"free", "asserts", "module"} == {"top", "defines", "conditions", "wires"}
+           and type(options["top"]) is str and type(options["defines"]) is list
+           and type(options.get("free", [])) is list and type(options.get("asserts", [])) is list
+           and type(options.get("module", "")) is str and ("asserts" in options) == ("module" in options)
            and all(type(options[it]) is bool for it in ("conditions", "wires")),
            "the bundle has no sources" if not options else "options of MANIFEST.json")
     with tempfile.TemporaryDirectory(prefix="aig-verdicts-") as folder:
@@ -160,9 +174,10 @@ def _made_again(bundle: Bundle, stop: Stop) -> Design:
         for name in bundle.manifest["sources"]:
             paths.append(Path(folder, name))
             paths[-1].write_bytes(bundle.summed(f"sources/{name}"))
-        expect(bool(paths), "the bundle has no sources")
+        asserts = [path for path in paths if path.name in options.get("asserts", [])]
+        expect(len(asserts) < len(paths), "the bundle has no sources")
         try:
-            return made(paths, stop, options)
+            return made([path for path in paths if path not in asserts], stop, options, asserts=asserts)
         except ToolFailed as error:
             raise ToolFailed(str(error).replace(f"{folder}/", "sources/")) from None
 

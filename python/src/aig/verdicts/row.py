@@ -14,6 +14,8 @@ UNDECIDED: Final = "undecided"
 LEFT_OUT: Final = "left out"
 # The frames of the longest run, induction or bound.
 MOST_FRAMES = 65536
+# What of an earlier version a verdict came from: `aig` has checked it on this circuit.
+ORIGINS = ("old proof", "old run", "old certificate", "old depth", "old bound")
 # How the file of each role ends. A proof with hints ends in lrat.
 ENDINGS = {
     "witness": "wit", "shorter": "shorter.drat", "base": "base.drat", "step": "step.drat", "certificate": "cert.aag",
@@ -41,6 +43,7 @@ class Row:
     kind   `assert`, `cover`, `condition` (the `if` of an assertion), or `constraints` for the row of all assumptions
     of     for a condition, the position of its assertion
     claim  what a bundle says, and nobody believes. Of the constraints: that there are none, which needs no files
+    origin what of an earlier version the verdict came from: one of ORIGINS, or nothing
     """
 
     position: int
@@ -53,6 +56,7 @@ class Row:
     is_left_out: bool = False
     claim: Optional[Claim] = None
     notes: List[str] = field(default_factory=list)
+    origin: str = ""
     _checked: Optional[Checked] = None
 
     @property
@@ -67,7 +71,7 @@ class Row:
 
     def forget(self) -> None:
         """Lets go of the verdict, and of all that was about it."""
-        self._checked, self.claim, self.is_left_out, self.notes = None, None, False, []
+        self._checked, self.claim, self.is_left_out, self.notes, self.origin = None, None, False, [], ""
 
     @property
     def verdict(self) -> str:

@@ -12,12 +12,29 @@ _RANGE = re.compile(r"\[(\d+)(?::(\d+))?\]")
 _ESCAPE = re.compile(r"\\([0-7]{1,3}|.)", re.DOTALL)
 _SOURCE = re.compile(r' *attribute \\src "(.*)"')
 _PLACE = re.compile(r"(?:sources/)?(.*):(\d+)\.\d+-(\d+)\.\d+")
+_BEGIN = re.compile(r"(.*:\d+)\.")
 
 
 def place_of(source: str) -> str:
     """The file and the last line of an attribute `src`, which may name several places."""
     match = _PLACE.fullmatch(source.split("|")[-1])
     return f"{match[1]}:{match[3]}" if match else "?"
+
+
+def source_in(line: str) -> str:
+    """What an attribute `src` names; nothing if the line is none."""
+    match = _SOURCE.fullmatch(line)
+    return match[1] if match else ""
+
+
+def marked(name: str) -> str:
+    """The line of an attribute that is 1, without the blanks before it."""
+    return f"attribute \\{name} 1"
+
+
+def has_mark(attributes: Sequence[str], name: str) -> bool:
+    """Whether one of these attributes is 1."""
+    return any(line.strip() == marked(name) for line in attributes)
 
 
 def signals(text: str) -> List[str]:
@@ -56,6 +73,12 @@ class Item:
     def place(self) -> str:
         return place_above(self.attributes)
 
+    @property
+    def begin(self) -> str:
+        """The file and the first line of its last place, as Yosys has them."""
+        found = (_BEGIN.match(source_in(line).split("|")[-1]) for line in self.attributes)
+        return next((match[1] for match in found if match), "?:0")
+
     def parts(self, word: str) -> Dict[str, str]:
         """The ports of a cell (`connect`), or its parameters (`parameter`)."""
         found = {}
@@ -68,7 +91,7 @@ class Item:
 
 def place_above(attributes: Sequence[str]) -> str:
     """The place that some lines of attributes name."""
-    return next((place_of(match[1]) for match in map(_SOURCE.fullmatch, attributes) if match), "?")
+    return next((place_of(source) for source in map(source_in, attributes) if source), "?")
 
 
 @dataclass

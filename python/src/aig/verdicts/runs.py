@@ -8,7 +8,7 @@ from typing import Dict, Iterable, List, NamedTuple, Sequence, Set, Tuple
 
 from .._program import run as call
 from ..circuit import Circuit
-from ..errors import OutOfMemory
+from ..errors import Crashed, OutOfMemory
 from . import explained
 from .explained import Line
 from .signals import Names, Place, Signal, labels
@@ -21,10 +21,10 @@ MOST_TRACE, MOST_WHY = 1 << 28, 1 << 26
 @lru_cache(maxsize=1)
 def comes_back(circuit: bytes, witness: bytes) -> bool:
     """Whether a run that keeps the assumptions comes back to a state. Then the inputs in between can go on for ever. A
-    state with an x is several."""
+    state with an x is several. Where `aig` has no answer, nothing is known."""
     try:
         said = call("check", "--trace", files=[circuit, witness], good=(0, 1), most=MOST_TRACE)
-    except OutOfMemory:
+    except (OutOfMemory, Crashed):
         return False
     states = [state for state in (line.split(b" ")[0] for line in said.split(b"\n")[:-2]) if b"x" not in state]
     return len(set(states)) < len(states)

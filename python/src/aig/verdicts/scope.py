@@ -50,7 +50,11 @@ class Scope:
     def __init__(self, module: Node):
         self.module = module
         self.subroutines = {it.name: it for it in module.all() if it.kind in ("TASK", "FUNCTION")}
-        self.declarations = {it.name: it for it in module.all() if it.kind in ("WIRE", "MEMORY") and it.name}
+        self.variables: Dict[str, List[Node]] = {}  # those of a name, also of blocks, tasks and functions
+        for it in module.all():
+            if it.kind in ("WIRE", "MEMORY") and it.name:
+                self.variables.setdefault(it.name, []).append(it)
+        self.declarations = {name: each[-1] for name, each in self.variables.items()}
         self.signs = Signs(list(module.all()))
         constants = [it for it in module.all() if it.kind in ("PARAMETER", "LOCALPARAM") and it.parts]
         self._declared_parameters = {it.name: it for it in constants}

@@ -1,4 +1,4 @@
-"""How a verdict is found: one frame, then what ABC knows at once, then runs and inductions of growing length, then ABC
+"""How a verdict is found: what an earlier version had, one frame, then what ABC knows at once, then runs and inductions of growing length, then ABC
 with its whole limit. A formula has only what the property and the constraints read. Each answer is a claim that `aig`
 confirmed about the circuit, and its proofs are those of the search."""
 
@@ -13,6 +13,7 @@ from .checked import ALIVE, Wrong
 from .decide import Found, Task
 from .hints import claim_of
 from .questions import NO_TIME, Answer, Confirmed, Questions, why
+from .reuse import reused
 from .row import MOST_FRAMES, has_constraints
 from .tools import Stop, Stopped, ToolFailed, soon
 
@@ -82,6 +83,8 @@ class Search:
         return self.answer(self.ask.confirm(claim_of(self.task.position, by, frames, files), files))
 
     def search(self) -> None:
+        if reused(self, self.task.hint):
+            return
         if self.task.position < 0:
             self.alive()
             return
@@ -133,6 +136,13 @@ class Search:
         if said.proof is not None:
             self.known, self.base = frames, said.proof
         return said
+
+    def take_base(self, frames: int, proof: bytes) -> None:
+        """Takes a proof of an earlier version that there is no run of so many frames. An error says why it is none."""
+        files = {"base": proof}
+        self.ask.plain(claim_of(self.task.position, "bound", frames, files), files)
+        if frames > self.known:
+            self.known, self.base = frames, proof
 
     def run_of(self, witness: bytes) -> bool:
         """The shortest run that the solver finds, with a proof that there is no shorter one. It begins with a run that

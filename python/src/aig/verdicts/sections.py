@@ -7,10 +7,11 @@ from typing import Callable, Dict, Hashable, List, NamedTuple, Optional, Sequenc
 
 import aig
 
+from .decisions import MEANINGS, Judged
 from .explained import Line
-from .decisions import DISAGREES, MEANINGS, Judged
 from .row import Row
 from .runs import Story, Told, story
+from .sentences import Remark, counted, fact, how, mark
 from .svg import escape, parts, shortened
 
 # Pictures have so many bytes of a page, and none is made of a run with more letters. The lines of `why` below those that
@@ -30,9 +31,14 @@ def size(count: int) -> str:
     return f"{count / 1000:.1f} kB" if count < 10**6 else f"{count / 10**6:.1f} MB"
 
 
-def counted(count: object, name: str) -> str:
-    """A number of things."""
-    return f"{count} {name}" if count == 1 else f"{count} {name}{'es' if name.endswith('ch') else 's'}"
+def marked(sentence: str) -> str:
+    """A sentence as HTML: `..` is code, and **..** is bold."""
+    return re.sub(r"\*\*(.*?)\*\*", r"<b>\1</b>", re.sub("`(.*?)`", r"<code>\1</code>", escape(sentence)))
+
+
+def paragraph(remark: Remark) -> str:
+    head = f"<b>{remark.head}:</b> " if remark.head else ""
+    return f"<p{' class=warn' * remark.is_warning}>{head}{escape(remark.text)}.</p>"
 
 
 def verdict(it: Judged, more: str = "") -> str:
@@ -124,16 +130,13 @@ class Sections:
             f'<code>b{row.position}</code></span><span class="sub name">{escape(place(row))}</span></header>',
             self._sources.snippet(row),
         ]
-        if it.result == "vacuous":
-            found.append(f"<p><b>Vacuous:</b> {escape(it.why)}.</p>")
-        if it.simulated:
-            found.append(f"<p{' class=warn' if it.result == DISAGREES else ''}>{escape(it.simulated)}.</p>")
-        if it.doubt:
-            found.append(f"<p class=warn><b>Perhaps vacuous:</b> {escape(it.doubt)}.</p>")
+        found += map(paragraph, it.remarks)
         if row.by == "run":
-            found.append(self._run(it))
+            found.append(f"{self._picture(it)}<p>{marked(it.statement(self._constrained))}</p>")
         elif row.by:
-            found.append(self._proof(row))
+            found.append(f"<p>{marked(it.statement(self._constrained))}</p><p>{marked(how(row, self._sizes(row)))}</p>")
+        if row.origin:
+            found.append(f"<p class=sub>Found by an {escape(row.origin)}, which <code>aig</code> checked here.</p>")
         if row.notes:
             found.append(f"<p>Notes: {'; '.join(escape(note) for note in row.notes)}.</p>")
         if row.by == "run":
@@ -144,24 +147,6 @@ class Sections:
         return f'<section id="{anchor(row)}" class="{it.look}">{"".join(found)}</section>'
 
     # -- a run
-
-    def _run(self, it: Judged) -> str:
-        """The waveform of a run, and why."""
-        row, seen = it.row, it.row.frames - 1
-        said = "The cover is reached" if row.kind == "cover" else "The assertion fails"
-        if it.moment is None:
-            when = f"{said}, as frame {seen} of the run shows, whatever the x are."
-        elif it.moment.number == seen:
-            when = f"{said} {it.at}, whatever the x are."
-        else:
-            when = (f"{said} {it.at}, whatever the x are: the clock's edge at its end samples these values, and the "
-                    f"property is 1 at frame {seen}.")
-        shorter = "<b>A shorter run may exist.</b>"
-        if row.frames == 1:
-            shorter = ""
-        elif "shorter" in row.files:
-            shorter = f"No run of {counted(row.frames - 1, 'frame')} does: that is checked too."
-        return f"{self._picture(it)}<p>{when} {shorter}</p>"
 
     def _picture(self, it: Judged) -> str:
         row = it.row
@@ -174,7 +159,7 @@ class Sections:
                 self._pictures[key] = drawn
                 self._room -= drawn.room
                 return drawn.html
-        return ("<p>The page has no more room for pictures: "
+        return ("<p>The page has no picture of this run: "
                 f"<code>aig wave --witness circuit.aig {file}</code> makes a waveform, and "
                 f"<code>aig why --witness circuit.aig {file}</code> says why.</p>")
 
@@ -183,10 +168,9 @@ class Sections:
         told = self._story(row)
         if told is None:
             return None
-        mark = "reached" if row.kind == "cover" else "fails"
         title = f"run of {counted(row.frames, 'frame')} to {row.name}"
-        marked = told.run.frames - 1 if it.moment is None else it.moment.number
-        names, waves = parts(told.lanes, told.run.frames, marked, title, mark)
+        frame = told.run.frames - 1 if it.moment is None else it.moment.number
+        names, waves = parts(told.lanes, told.run.frames, frame, title, mark(row))
         why = because(it, told.why)
         more = ""
         if told.left:
@@ -199,53 +183,28 @@ class Sections:
     def _story(self, row: Row) -> Optional[Story]:
         try:
             return story(self._told, self._read(row.files["witness"]), self._sources.text(row))
-        except aig.OutOfMemory:
+        except (aig.OutOfMemory, aig.Crashed):
             self._room -= MOST_PICTURES // 4  # it took a while
             return None
 
     # -- a proof
 
-    def _proof(self, row: Row) -> str:
-        runs = "run that begins as the resets allow" + (" and keeps all assumptions" if self._constrained else "")
-        what = f"property <code>b{row.position}</code> of <code>circuit.aig</code>"
-        if row.by == "bound":
-            said = (f"In no {runs} is {what} 1 within the first {counted(row.frames, 'frame')}. "
-                    "Longer runs were not decided.")
-        else:
-            said = f"In no {runs}, of any length, is {what} ever 1."
-        meaning = "where the cover happens" if row.kind == "cover" else "where the assertion is violated"
-        return f"<p>{said} It is 1 {meaning}.</p><p>{self._how(row)}</p>"
+    def _sizes(self, row: Row) -> Dict[str, str]:
+        """How large each file of a proof is. Of a certificate, how many parts it has."""
+        return {role: self._parts(self._read(name)) if role == "certificate" else size(len(self._read(name)))
+                for role, name in row.files.items()}
 
-    def _how(self, row: Row) -> str:
-        if row.by == "induction":
-            base, step = self._size(row, "base"), self._size(row, "step")
-            if row.frames == 1:
-                return (f"By induction: it is 1 at no start (proof of {base}), and after no step from a frame where it "
-                        f"was 0 (proof of {step}).")
-            return (f"By induction of {row.frames} frames: it is 1 in the first {row.frames} frames of no run (proof "
-                    f"of {base}), and never right after {row.frames} frames in which it was 0 (proof of {step}).")
-        if row.by == "certificate":
-            facts = aig.Circuit(self._read(row.files["certificate"])).info()
-            return (f"By an invariant: a certificate of {counted(facts['bad'], 'claim')} over "
-                    f"{counted(facts['inputs'], 'latch')} ({counted(facts['gates'], 'gate')}), and a proof of "
-                    f"{self._size(row, 'proof')} that it is right.")
-        ended = f"No induction of up to {counted(row.frames, 'frame')} and no invariant was found."
-        return f"Proof of {self._size(row, 'base')}. {'The notes say what ended the search.' if row.notes else ended}"
-
-    def _size(self, row: Row, role: str) -> str:
-        return size(len(self._read(row.files[role])))
+    def _parts(self, certificate: bytes) -> str:
+        facts = aig.Circuit(certificate).info()
+        return (f"{counted(facts['bad'], 'claim')} over {counted(facts['inputs'], 'latch')} "
+                f"({counted(facts['gates'], 'gate')})")
 
 
 def because(it: Judged, lines: Sequence[Line]) -> List[str]:
     """The lines of `why`. The first one says which way: that a property is 1 means that its assertion fails."""
-    said = "is reached" if it.row.kind == "cover" else "fails"
-    seen = it.row.frames - 1
-    moment = f" {it.at}" if it.moment else ""
-    if it.moment is None or it.moment.number != seen:
-        moment += f", seen at frame {seen}"
     asked = [line for line in lines[:1] if line.is_asked]
     causes = asked[0].because if asked else " ".join(map(str, lines[0].kept))
-    return [f"{it.row.name} {said}{moment}: {causes}", *(line.text for line in lines[len(asked):])]
+    return [f"{fact(it.row, it.moment)}: {causes}", *(line.text for line in lines[len(asked):])]
 
 
 def _why(lines: Sequence[str]) -> str:

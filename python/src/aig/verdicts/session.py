@@ -16,7 +16,7 @@ from typing import Any, Callable, Collection, Dict, List, Optional, Tuple, Union
 from .._program import program
 from .bundle import MOST_BYTES, Bundle
 from .checked import ALIVE, CIRCUIT, CONSTRAINTS, Checked, Claim, Wrong, sum_of
-from .decide import Bounds, Found, Programs, Sent, Task
+from .decide import Bounds, Found, Hint, Programs, Sent, Task
 from .design import Design
 from .folder import TIMES, Folder
 from .hints import by_name
@@ -57,6 +57,7 @@ class Session:
         self.rows += [Row(it.position, it.kind, it.name, it.file, it.first, it.last, it.of,
                           only is not None and it.position not in only) for it in design.assertions]
         self.seconds: Dict[int, float] = {}
+        self.hints: Dict[int, Hint] = {}  # what is known of an earlier version, by position
         self.rejected: List[str] = []
         self.versions = self._versions()
         self.folder = Folder(path, max(MOST_BYTES, bounds.proof_megabytes << 20 or sys.maxsize))
@@ -93,12 +94,15 @@ class Session:
         """Writes the circuit and the sources. Earlier rows about the same circuit stay if `aig` confirms them."""
         self._take_over(self._earlier(), jobs)
         if not self.folder.has(CIRCUIT, self.design.circuit):
+            self.folder.set_aside()
             self.folder.remove("MANIFEST.json")  # it would be about another circuit
         self.folder.put(CIRCUIT, self.design.circuit)
         if self.design.script:
             self.folder.put(SCRIPT_OF_YOSYS, self.design.script.encode())
         for name, text in self.design.sources.items():
             self.folder.put(f"sources/{name}", text)
+        for name, text in self.design.translated.items():
+            self.folder.put(f"translated/{name}", text)
         self.write(True)
         self.folder.clean()
 
@@ -113,6 +117,10 @@ class Session:
         self._goes_further = not self._searched_so_far(old.manifest)
         self.seconds = self._earlier_seconds()
         return {row.position: row for row in old.rows}
+
+    def goes_further_than(self, manifest: Dict[str, Any]) -> bool:
+        """Whether this search may find more than that of another bundle."""
+        return not self._searched_so_far(manifest) or self.bounds.frames > Bounds(**manifest["bounds"]).frames
 
     def _searched_so_far(self, manifest: Dict[str, Any]) -> bool:
         """Whether the earlier run had the same search and programs, and bounds that are no smaller. Hints find no
@@ -138,13 +146,14 @@ class Session:
         kept = [(row, earlier[row.position]) for row in self.rows if row.position in earlier]
         kept = [(row, old) for row, old in kept if (old.kind, old.name) == (row.kind, row.name)]
         claims = [(row, old.claim, old.notes) for row, old in kept if old.claim is not None and old.claim.by]
+        origins = {old.position: old.origin for _, old in kept}
         with ThreadPoolExecutor(jobs or os.cpu_count() or 1) as pool:
             for (row, _, notes), said in zip(claims, pool.map(self._again, claims)):
                 if isinstance(said, str):
                     self.rejected.append(said)
                     continue
                 row.take(said, self._sum)
-                row.notes = notes
+                row.notes, row.origin = notes, origins[row.position]
         self.stop.look()
 
     def _again(self, earlier: Tuple[Row, Claim, List[str]]) -> Union[Checked, str]:
@@ -176,7 +185,9 @@ class Session:
         return hinted.checked
 
     def manifest(self) -> Dict[str, Any]:
+        translated = {"translated": list(self.design.translated)} if self.design.translated else {}
         return {
+            **translated,
             "format": FORMAT, "name": self.design.name, "notes": self.design.notes, "bounds": asdict(self.bounds),
             "options": self.design.options, "sources": list(self.design.sources), "rows": rows_as_json(self.rows),
             "versions": self.versions, "sums": self.folder.sums,
@@ -214,7 +225,7 @@ class Session:
             row.take(checked, self._sum)
         elif row.position == CONSTRAINTS and found.verdict == ALIVE:
             row.claim = Claim(row.position, "", found.frames)
-        row.notes = found.notes
+        row.notes, row.origin = found.notes, found.origin
         self.write()
 
     def _forget(self, row: Row) -> None:
@@ -251,7 +262,8 @@ class Session:
             with Workers(self.design.circuit, path, self.stop, executor, count, share) as workers:
                 try:
                     for row in rows:
-                        left[workers.submit(Task(None, row.position, self.bounds, self.programs))] = row
+                        hint = self.hints.get(row.position)
+                        left[workers.submit(Task(None, row.position, self.bounds, self.programs, hint))] = row
                     return self._collect(left, progress, LAST_SECONDS + GRACE if executor is None else 0.0)
                 finally:
                     if left:

@@ -6,7 +6,8 @@ from __future__ import annotations
 from dataclasses import replace
 from typing import Any, Dict, List, NamedTuple, Sequence
 
-from .decisions import DISAGREES, Judged
+from .decisions import Judged
+from .sentences import DISAGREES
 
 AGREES = "agrees"
 # What is before the name of the simulator if values are the same.

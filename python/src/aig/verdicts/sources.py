@@ -5,7 +5,7 @@ from __future__ import annotations
 
 import re
 from pathlib import Path
-from typing import Dict, Iterator, List, Match, Optional, Pattern, Sequence, Set, Tuple
+from typing import Dict, Iterator, List, Mapping, Match, Optional, Pattern, Sequence, Set, Tuple
 
 from .tools import ToolFailed
 
@@ -21,7 +21,6 @@ _USE = re.compile(r"`(\w+)")
 # A delay comes after these; after a name `#` has parameters.
 _DELAY = re.compile(r"(?:[;=)\]:]|\b(?:begin|end|else|always|initial|assign|wire|and|or|not|buf|nand|nor|xor|xnor)\b)\s*#(?!\s*\(\s*parameter\b)\s*[\w`(.]")
 _LIST = re.compile(r"\balways\s*@\s*(?:\((?![^;]*?\b(?:posedge|negedge)\b)\s*[^*\s][^;]*?\)|\w)")
-_BIND = re.compile(r"\bbind\b")
 _MACROS_IN_MACROS = 4  # so deep
 NEWLINE = "\n"
 _DEFINITION = re.compile(r"[A-Za-z_][A-Za-z0-9_]*(=[A-Za-z0-9_'.+-]*)?")
@@ -98,6 +97,12 @@ class Sources:
             self._waiting.append((path, name, has_directives))
         return self._names[at]
 
+    def apart(self, paths: Sequence[Path]) -> List[str]:
+        """The names of files that are not read by themselves from now on."""
+        names = [self._names[path.resolve()] for path in paths]
+        self.read = [name for name in self.read if name not in names]
+        return names
+
     def _plain(self, path: Path, text: bytes) -> Tuple[bytes, Set[str]]:
         """A source with plain names in its directives, and the names of the files that these mean."""
         used: Set[str] = set()
@@ -149,9 +154,7 @@ class Sources:
     def left_out(self) -> List[str]:
         """What Yosys reads in another way than a simulator, without a word."""
         notes = []
-        delays, lists, binds = self.places(_DELAY), self.places(_LIST), self.places(_BIND)
-        if binds:
-            notes.append(f"{places(binds)}: `bind` is left out, with the assumptions and assertions of its module")
+        delays, lists = self.places(_DELAY), self.places(_LIST)
         if delays:
             notes.append(f"{places(delays)}: delays are left out: all assignments of an `initial` or `always` block happen at once, and the last one of a register counts")
         if lists:
@@ -164,6 +167,7 @@ class Sources:
         place = re.compile(rf"(?<![\w./-])(?:sources/)?({names})(:\d+)(?:\.\d+(?:-\d+\.\d+)?)?")
         return place.sub(lambda it: f"{self._paths[it[1]]}{it[2]}", message)
 
-    def write(self, folder: Path) -> None:
-        for name, text in self.texts.items():
+    def write(self, folder: Path, translated: Mapping[str, bytes]) -> None:
+        """Writes the sources, and in place of some of them their translated copies."""
+        for name, text in {**self.texts, **translated}.items():
             (folder / name).write_bytes(text)

@@ -3,9 +3,11 @@
 from __future__ import annotations
 
 import re
-from typing import Dict, List, Sequence, Tuple
+from typing import Dict, List, NamedTuple, Sequence, Tuple
 
-from .decisions import DISAGREES, Judged
+from .decisions import Judged
+from .row import Row
+from .sentences import DISAGREES
 from .svg import escape, visible
 
 # The widest column; a longer name moves the rest of its own line alone.
@@ -28,7 +30,9 @@ def cells(it: Judged) -> List[str]:
     row = it.row
     place = f"{row.file}:{row.last}" if row.file else ""
     denial = it.simulated if it.result == DISAGREES else it.denied
+    origin = f"by the {row.origin}" if row.origin else ""
     shown = "; ".join(part for part in (it.by or it.why, it.doubt, denial) if part)
+    shown = ", ".join(part for part in (shown, origin) if part)
     return [row.label, place, row.kind, row.name, it.words, shown, " ".join(row.files.values())]
 
 
@@ -49,10 +53,30 @@ def open_notes(table: Sequence[Judged]) -> List[str]:
             for note, of in names.items()]
 
 
+class Case(NamedTuple):
+    """A row as JUnit has it.
+
+    tag     what a CI server takes it for: an element of JUnit, or nothing if it passes
+    words   the verdict
+    detail  what shows it
+    """
+
+    row: Row
+    tag: str
+    words: str
+    detail: str
+    seconds: float
+
+
 def junit(name: str, table: Sequence[Judged], seconds: Dict[int, float]) -> str:
     """A failing, vacuous or never reached one is a failure; one that is known for some frames alone or was left out is
     skipped; one that is undecided is an error."""
     cases = [_case(name, it, seconds.get(it.row.position, 0.0)) for it in table]
+    return suite(name, cases, seconds)
+
+
+def suite(name: str, cases: Sequence[Tuple[str, str]], seconds: Dict[int, float]) -> str:
+    """The cases with their counts, as one file."""
     counts = {tag: sum(found == tag for found, _ in cases) for tag in ("failure", "error", "skipped")}
     heading = (f'tests="{len(cases)}" failures="{counts["failure"]}" errors="{counts["error"]}" '
                f'skipped="{counts["skipped"]}" time="{sum(seconds.values()):.1f}"')
@@ -62,13 +86,17 @@ def junit(name: str, table: Sequence[Judged], seconds: Dict[int, float]) -> str:
 
 
 def _case(name: str, it: Judged, seconds: float) -> Tuple[str, str]:
+    row = it.row
+    parts = [it.by, it.why, it.doubt, it.denied, it.simulated, *row.notes, *row.files.values()]
+    return element(name, Case(row, it.junit, it.words, "\n".join(part for part in parts if part), seconds))
+
+
+def element(name: str, it: Case) -> Tuple[str, str]:
     """What a CI server takes the row for, and its element."""
-    row, tag = it.row, it.junit
+    row, tag, detail, seconds = it.row, it.tag, it.detail, it.seconds
     attributes = f'classname="{_xml(name)}.{row.kind}" name="{_xml(row.name)}" time="{seconds:.1f}"'
     if row.file:
         attributes += f' file="{_xml(row.file)}" line="{row.last}"'
-    parts = [it.by, it.why, it.doubt, it.denied, it.simulated, *row.notes, *row.files.values()]
-    detail = "\n".join(part for part in parts if part)
     if tag:
         inner = f'<{tag} message="{_xml(it.words)}">{_xml(detail)}</{tag}>'
     else:

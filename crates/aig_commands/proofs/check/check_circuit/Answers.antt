@@ -3,6 +3,7 @@ use Rattle.aig_command.specs.declared.run_fault.RunFault.TheVariants as run_faul
 use Rattle.aig_command.proofs.Files.{answered}
 use Rattle.aig_bytes.specs.Flow.{flow}
 use Rattle.aig_commands.specs.Check.{Checks, verdict_text}
+use Rattle.aig_commands.proofs.Printed.{none_printed, verdict_printed}
 use Rattle.aig_commands.proofs.Replays.{shows_so}
 use Rattle.aig_commands.proofs.check.check_circuit.Goals as goal
 use Rattle.aig_command.proofs.Written.{got_all, got_none, got_part}
@@ -42,3 +43,18 @@ returns-in-Err-clause-output g c = λ failed.
         refl,
       ),
     )
+
+pub returns-in-Ok-clause-printed : goal.returns-in-Ok-clause-printed
+returns-in-Ok-clause-printed g c = λ printed.
+    let (w, spelled, admitted, shown) = c.in_ok-verdict.ensures.verdict in
+    let is = verdict_printed g.W.Write.written g.W.Write.failures c.args.out.now c.write_verdict.new.out c.in_ok-verdict.verdict _ c.in-Ok.ensures printed in
+    (w, spelled, c.in_ok-verdict.ensures.confirmed is w spelled)
+
+pub returns-in-Err-clause-printed : goal.returns-in-Err-clause-printed
+returns-in-Err-clause-printed g c = λ printed.
+    let (w, spelled, admitted, shown) = c.in_ok-verdict.ensures.verdict in
+    let is = verdict_printed g.W.Write.written g.W.Write.failures c.args.out.now c.write_verdict.new.out c.in_ok-verdict.verdict _ c.in-Err.ensures printed in
+    (w, spelled, c.in_ok-verdict.ensures.confirmed is w spelled)
+
+pub returns-in_err-verdict-clause-printed : goal.returns-in_err-verdict-clause-printed
+returns-in_err-verdict-clause-printed g c = λ printed. absurd (none_printed (g.W.Write.written c.args.out.now) _ _ printed)

@@ -2,8 +2,8 @@ use Rattle.std.specs.Prelude.{IfSome}
 use Rattle.aig_command.specs.Command.{OfFile}
 use Rattle.aig_files.specs.declared.part.Part.TheVariants as parts
 use Rattle.aig_command.specs.declared.run_fault.RunFault.TheVariants as run_faults
-use Rattle.aig_commands.specs.CheckAlive.{ChecksRun}
-use Rattle.aig_program.specs.Ends.{AreAlive, Ends, end_of_alive, seen}
+use Rattle.aig_commands.specs.CheckAlive.{AreAlive, ChecksRun}
+use Rattle.aig_program.specs.Ends.{Ends, end_of_alive, seen}
 use Rattle.aig_program.proofs.Endings.{alive_end, ends_unread, no_end, nothing, of_any, of_whole, ok_whole, slice_whole}
 use Rattle.aig_program.proofs.alive.check_alive.Goals as goal
 

@@ -2,7 +2,8 @@ use Rattle.std.specs.Prelude.{IfSome}
 use Rattle.aig_command.specs.Command.{OfFile}
 use Rattle.aig_files.specs.declared.part.Part.TheVariants as parts
 use Rattle.aig_command.specs.declared.run_fault.RunFault.TheVariants as run_faults
-use Rattle.aig_program.specs.Ends.{AreConfirmed, ChecksWitness, Ends, end_of_verdict, seen}
+use Rattle.aig_commands.specs.Check.{AreConfirmed}
+use Rattle.aig_program.specs.Ends.{ChecksWitness, Ends, end_of_verdict, seen}
 use Rattle.aig_program.proofs.Endings.{confirmed_end, ends_unread, no_end, nothing, of_any, of_whole, ok_whole, slice_whole}
 use Rattle.aig_program.proofs.witnesses.check.Goals as goal
 

@@ -32,6 +32,8 @@ def replay(words: argparse.Namespace, stop: Stop) -> int:
     except NotReplayed as error:
         print(plain(f"not replayed: {error}"))
         return Word.NOT_REPLAYED.status
+    if playing.translated:
+        print(plain(f"concurrent assertions are played as they were translated: {', '.join(playing.translated)}"))
     if words.to:
         words.to.mkdir(parents=True, exist_ok=True)
     outcomes: List[Outcome] = []

@@ -7,6 +7,7 @@ from bisect import bisect_right
 from typing import Tuple
 
 _LINE = re.compile(r'^`line (\d+) "([^"\n]*)" \d\n', re.MULTILINE)
+_INCLUDE = re.compile(r'(`include\s*"[^"\n]*")')
 _QUIET = re.compile(r'//[^\n]*|/\*.*?\*/|"(?:\\.|[^"\\\n])*"', re.DOTALL)
 
 
@@ -42,6 +43,7 @@ def numbered(name: str, text: str) -> str:
             depth = 0
         if not is_inside and not plain.lstrip().startswith("`"):
             depth = max(depth, 0) + sum(map(plain.count, "([{")) - sum(map(plain.count, ")]}"))
-        lines.append(line)
+        parts = [it for it in _INCLUDE.split(line) if it.strip()] if "`include" in plain else [line]
+        lines.append(f'\n`line {number} "{name}" 0\n'.join(parts))  # an `include` is on a line of its own
         is_inside = plain.rstrip().endswith(("\\", "/"))
     return "\n".join(lines)

@@ -8,9 +8,10 @@ import shlex
 from dataclasses import replace
 from itertools import product
 from pathlib import Path
-from typing import Iterator, List, Optional, Sequence, Set
+from typing import Dict, Iterator, List, Optional, Sequence, Set
 
 from ...circuit import Circuit
+from ..assertions import copies
 from ..bundle import Bundle
 from ..folder import write_whole
 from ..manifest import SCRIPT_OF_YOSYS
@@ -18,7 +19,7 @@ from ..row import Row
 from ..sources import look_at_words
 from ..table import plain
 from ..timing import Timing, of_facts
-from ..tools import Stop
+from ..tools import Stop, ToolFailed
 from .adapted import BEFORE, Adapted
 from .allowed import look_at_files, read_by_themselves
 from .boxes import without_bodies
@@ -60,7 +61,9 @@ class Replay:
         self._circuit = Circuit(bundle.circuit())
         self._timing = self._timing_of(script, "\n".join(sources.values()))
         look_at_files(sources)
-        names = read_by_themselves(sources)
+        names = [it for it in read_by_themselves(sources) if it not in bundle.manifest["options"].get("asserts", [])]
+        self.translated = self._translated(sources, names)
+        sources.update(self.translated)
         simulator.data = {name: text.encode("latin-1") for name, text in sources.items() if name not in names}
         defines = ["FORMAL", "YOSYS", *defines]
         text = simulator.preprocessed(sources, names, defines)
@@ -74,6 +77,16 @@ class Replay:
         self._assumptions = assumptions(constraints, self._checks) if all(constraints) else []
         self._sides = Sides(self._circuit, self._source, self._timing, simulator)
         self._steps = adapted.steps
+
+    def _translated(self, sources: Dict[str, str], names: Sequence[str]) -> Dict[str, str]:
+        """The copies of sources with concurrent assertions, which the simulator does not read. Those in the bundle could be
+        anything, so they are made again."""
+        texts = {name: text.encode("latin-1") for name, text in sources.items()}
+        try:
+            found = copies(texts, names, self._bundle.manifest["options"], self._timing.is_cycle)
+        except (ToolFailed, KeyError) as error:
+            raise NotReplayed(str(error)) from None
+        return {name: text.decode("latin-1") for name, text in found.texts.items()}
 
     def _timing_of(self, script: str, text: str) -> Timing:
         facts = self._bundle.manifest["timing"]

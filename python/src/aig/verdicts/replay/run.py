@@ -7,9 +7,8 @@ from concurrent.futures import ThreadPoolExecutor
 from typing import List, NamedTuple, Optional, Sequence
 
 from ..bundle import Bundle
-from ..decisions import DISAGREES
 from ..row import Row
-from ..sections import counted
+from ..sentences import DISAGREES, counted, happens
 from ..simulated import AGREES, AS_IN, Said, Simulated
 from ..sources import places
 from ..tools import Clock, Stop
@@ -75,7 +74,9 @@ def _of_circuit(outcomes: Sequence[Outcome], against: Optional[Outcome], name: s
     if not values:
         return f"Nothing of the circuit could be compared in {name}"
     unknown = unknown_there(sum(it.unknown for it in played))
-    return f"{max(it.signals for it in played):,} signals, {values:,} values{AS_IN}{name}{unknown}{_left(played, replay)}"
+    translated = "; concurrent assertions as they were translated" if replay.translated else ""
+    return (f"{max(it.signals for it in played):,} signals, {values:,} values{AS_IN}{name}{unknown}"
+            f"{_left(played, replay)}{translated}")
 
 
 def _left(played: Sequence[Outcome], replay: Replay) -> str:
@@ -89,6 +90,5 @@ def _left(played: Sequence[Outcome], replay: Replay) -> str:
 
 def _said(told: Outcome, row: Row, name: str) -> Said:
     if told.word is Word.AGREES:
-        happens = "the cover is reached" if row.kind == "cover" else "the assertion fails"
-        return Said(AGREES, f"Played in {name}: {happens} there, too")
+        return Said(AGREES, f"Played in {name}: {happens(row)} there, too")
     return Said(DISAGREES if told.word is Word.DISAGREES else "open", told.said(name))

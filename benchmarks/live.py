@@ -1,0 +1,71 @@
+#!/usr/bin/env python3
+"""Measures edits and questions of a bench that the library for C keeps open, beside the lines of a script of
+`aig bench` and of the C++ program, and prints a table in Markdown: live.py PROGRAM LIBRARY, a folder with libaig.a.
+
+A line of a script is read, done and answered: its time is that of the whole process, without that of an empty script. A
+call has no text. A time is processor time, the least of --times runs, which take turns."""
+
+import argparse
+import os
+import tempfile
+
+from measure import (BENCHMARKS, EDITED_FRAMES, REPOSITORY, Job, Programs, empty, head, load, machine, printed, row,
+                     supervised, write)
+
+# one gate, and copies of a cipher of 960 gates
+TINY, CIPHERS = ("circuit", "random", 1, 1, 1, 1), ((10, 16, 6), (104, 16, 6))
+EDITS, QUESTIONS = 1_000_000, 1_000_000
+
+
+def loads():
+    """The name of each load, its circuit, rows and script, how many lines that has, and how `live.c` calls one."""
+    tiny = [load(*TINY), load("zeros", 1, 1)]
+    yield "input of one gate, as it is", *tiny, write("same", "s 0 0 0\n" * EDITS), EDITS, "edit"
+    yield "input of one gate, another", *tiny, write("turns", "s 0 0 1\ns 0 0 0\n" * (EDITS // 2)), EDITS, "edit"
+    for cipher in CIPHERS:
+        files = [load("cipher", *cipher), load("zeros", cipher[0] * cipher[1], EDITED_FRAMES)]
+        for name in ("late", "bits"):
+            script = load("edits", name, *cipher, EDITED_FRAMES, 2_000)
+            yield f"{name}, sparse, {960 * cipher[0]:,} gates", *files, script, 2_000, "edit"
+    files = [load("circuit", "random", 1000, 1000, 1000, 10_000), load("stimulus", 1000, 64)]
+    yield "question, 10,000 gates", *files, load("values", 64, 12_000, QUESTIONS), QUESTIONS, "question"
+
+
+def built(library):
+    """The program that makes the calls."""
+    program = os.path.abspath("live")
+    supervised.run(["cc", "-O2", "-std=c99", f"-I{REPOSITORY}/include", f"-I{REPOSITORY}/tests/calls",
+                    f"{BENCHMARKS}/live.c", f"{library}/libaig.a", "-o", program], check=True)
+    return program
+
+
+def table(programs, live, times):
+    head("An edit and a question, in nanoseconds of processor time.", "load", "a line: C++", "a line: aig bench", "a call",
+         "in an array")
+    for name, circuit, rows, script, count, kind in loads():
+        files = [circuit, rows]
+        job = Job(name, "", 1, lambda: ["bench", *files, script], lambda: ["bench", *files, empty()], count)
+        lines = [seconds / count * 1e9 for seconds in job.measured(programs, times)[0]]
+        calls = printed(times, [live, *files, script])
+        row(name, *(f"{it:,.0f}" for it in (*lines, calls[kind], calls[f"{kind}_of_an_array"])))
+
+
+def main():
+    parser = argparse.ArgumentParser(description=__doc__, formatter_class=argparse.RawDescriptionHelpFormatter)
+    parser.add_argument("program", metavar="PROGRAM", help="the program aig that is measured")
+    parser.add_argument("library", metavar="LIBRARY", help="the folder of libaig.a")
+    parser.add_argument("--room", metavar="FOLDER", help="the folder of what is made, for the next call")
+    parser.add_argument("--times", type=int, default=5, metavar="N", help="how many runs of each (5)")
+    chosen = parser.parse_args()
+    programs, library = Programs(os.path.abspath(chosen.program)), os.path.abspath(chosen.library)
+    with tempfile.TemporaryDirectory() as own:
+        room = os.path.abspath(chosen.room or own)
+        os.makedirs(room, exist_ok=True)
+        os.chdir(room)
+        machine(programs, chosen)
+        table(programs, built(library), chosen.times)
+        os.chdir("/")
+
+
+if __name__ == "__main__":
+    main()

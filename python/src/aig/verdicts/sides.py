@@ -1,0 +1,87 @@
+"""The two sides of a comparison: what is known of each version of a design. One is a bundle that `aig` has checked, the
+rows of a run, or a baseline, which is taken at its word."""
+
+from __future__ import annotations
+
+from typing import Callable, List, NamedTuple, Sequence
+
+from .bundle import Bundle
+from .changes import Known
+from .checked import CIRCUIT, CONFIRMED, Wrong, expect, sum_of
+from .cycles import cycles_of
+from .decisions import BAD, MEANINGS, Judge, Judged, judge
+from .matching import Version
+from .recheck import check_row
+from .row import Row
+from .sentences import in_words
+from .simulated import Simulated, of_facts
+from .tools import Stop
+
+# The results by their words. Those of a bound have the frames after them.
+_RESULTS = {in_words(result): result for result in MEANINGS}
+# Where the other side comes from.
+CHECKED = "aig checked both bundles; that the old one is of the version before is believed"
+BASELINE = ("the baseline is believed, but for what failed in it, which aig checked: it has to come from a place that "
+            "nobody else can write, as the main branch")
+
+
+class Side(NamedTuple):
+    """A version, what is known of each of its assertions and covers, and its files."""
+
+    version: Version
+    known: Sequence[Known]
+    read: Callable[[str], bytes]
+
+
+def table_of(rows: Sequence[Row], circuit: bytes, simulated: Simulated = Simulated()) -> List[Judged]:
+    """The table, with the moments of runs where there are any."""
+    table = judge(rows, cycles_of(circuit).at) if any(row.by == "run" for row in rows) else judge(rows)
+    return simulated.beside(table)
+
+
+def checked_side(bundle: Bundle, simulated: Simulated) -> Side:
+    """A bundle whose rows `aig` has checked."""
+    return side_of(Version.of(bundle), table_of(bundle.rows, bundle.circuit(), simulated), bundle.summed)
+
+
+def side_of(version: Version, table: Sequence[Judged], read: Callable[[str], bytes]) -> Side:
+    return Side(version, [Known.of(it) for it in table], read)
+
+
+def baseline_of(bundle: Bundle, stop: Stop) -> Side:
+    """A bundle at its word. What failed there may hide that it fails now, so `aig` checks that."""
+    circuit, known = bundle.circuit(), []
+    for row, value in zip(bundle.rows, bundle.manifest["rows"]):
+        if row.kind in ("assert", "cover"):
+            if MEANINGS[_result(row, value.get("result"))].status == BAD:
+                checked = check_row(row, circuit, bundle.summed, stop)
+                expect(checked is not None, f"nothing shows the verdict of {row.label}")
+                if checked is not None:
+                    row.take(checked, sum_of(circuit))
+            known.append(_believed(bundle, row, value.get("result")))
+    return Side(Version.of(bundle), known, bundle.summed)
+
+
+def _result(row: Row, words: object) -> str:
+    """The result in the words of a table."""
+    kind = "not reached" if row.kind == "cover" else "holds"
+    if row.claim is not None and row.claim.by == "bound" and words == f"{kind} within {row.claim.frames}":
+        return "bounded"
+    expect(type(words) is str and words in _RESULTS, f"result of {row.label}")
+    return _RESULTS[str(words)]
+
+
+def _believed(bundle: Bundle, row: Row, words: str) -> Known:
+    """What a baseline says of a row."""
+    result = _result(row, words)
+    if row.checked is not None:
+        judged, = of_facts(bundle.manifest["simulated"]).beside([Judge([row]).of(row)])
+        known = Known.of(judged)
+        expect(known.result == result or not known.fails, f"result of {row.label}")
+        return known
+    condition = next((it for it in bundle.rows if it.of == row.position), None)
+    asked = condition.claim if condition is not None else None
+    is_sure = condition is None or result not in ("holds", "bounded") or asked is not None and asked.line == CONFIRMED
+    frames = row.claim.frames if row.claim is not None else 0
+    simulated = of_facts(bundle.manifest["simulated"])
+    return Known(row, result, words, frames, is_sure and simulated.agrees)
