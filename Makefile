@@ -8,12 +8,13 @@
 #   make lib        builds the library for C without its proofs, as build/lib/libaig.a and libaig.so
 #   make install    installs the program and the library that the gate proved, else those of build with a warning; and
 #                   aig-explain and aig-verdicts
-#   make wheel      writes the wheel of the Python package with that program into build
+#   make wheel      writes the wheel of the Python package with that program and library into build
 #   make dist       packs a release of a commit whose gate has passed, into build/dist
 #   make clean      removes build/aig, build/aig_tests, build/lib and build/dist
 #
 # `make install` takes PREFIX and DESTDIR. Like `make bench` and `make wheel` it takes PROGRAM, for another program than
-# the one that it would choose; and LIBRARY, for another folder of libaig.a and libaig.so, or for none: `LIBRARY=`.
+# the one that it would choose. Both `make install` and `make wheel` take LIBRARY, for another folder of libaig.a and
+# libaig.so, or for none: `LIBRARY=`.
 
 PREFIX ?= /usr/local
 PROGRAM ?= $(shell tools/gate.py program)
@@ -86,9 +87,10 @@ install: $(PROGRAM) $(addsuffix /libaig.a,$(LIBRARY))
 	cp --parents include/aig.h python/README.md benchmarks/README.md crates/*/README.md $(SPECS) "$(DOCUMENTS)"
 	chmod -R u=rwX,go=rX "$(DOCUMENTS)"
 
-wheel: $(PROGRAM)
+wheel: $(PROGRAM) $(addsuffix /libaig.a,$(LIBRARY))
 	@[ "$(PROGRAM)" != build/aig ] || echo "make wheel: warning: nothing of this program is proved" >&2
-	@python/make_wheel.py build "$(PROGRAM)"
+	@mkdir -p build
+	@python/make_wheel.py build "$(PROGRAM)" $(if $(LIBRARY),"$(LIBRARY)/libaig.so")
 
 dist:
 	@tools/pack.py

@@ -88,9 +88,9 @@ def measure(question, writer, solver, proof, times):
     accepted(other, VERIFIED)
     mine, theirs = best(times, ours, other)
     memory = [f"{resident([*map(str, words)]) / 1e6:.0f} MB" for words in (other, ours)]
-    length = f"{os.path.getsize(proof) / 1e6:.2f} MB"
-    row(question.name, writer, milliseconds(solver) if solver else "", length, other[0], milliseconds(theirs),
-        milliseconds(mine), f"{mine / theirs:.2f}", f"{mine / solver:.2f}" if solver else "", *memory)
+    row(question.name, f"{writer}: {milliseconds(solver)}" if solver else writer,
+        f"{os.path.getsize(proof) / 1e6:.2f} MB", f"{other[0]}: {milliseconds(theirs)}", milliseconds(mine),
+        f"{mine / theirs:.2f}", ", ".join(memory))
 
 
 def solved(question, writer, times):
@@ -122,19 +122,18 @@ def cooked(aig, holes, drat2lrat):
 
 def table(programs, times, chosen):
     aig = programs.get("aig")
-    head("Checking proofs beside other checkers (processor time; greatest resident size).", "formula", "proof by",
-         "solver", "proof", "checker", "checker's time", "aig", "aig / checker", "aig / solver", "memory: checker",
-         "memory: aig")
+    head("Checking proofs beside other checkers (processor time; greatest resident size).", "formula", "solver",
+         "proof", "checker", "aig", "aig / checker", "memory: checker, aig")
     writers = [it for it in WRITERS if shutil.which(it.split(" ")[0])]
     for name, make in questions(aig):
-        if chosen not in name:
+        if not any(it in name for it in chosen):
             continue
         circuit, place, frames = make()
         question = Question(aig, name, circuit, place, frames)
         for writer in writers:
             measure(question, writer, *solved(question, writer, times), times)
     for holes in HOLES:
-        if chosen in f"pigeons, {holes} holes":
+        if any(it in f"pigeons, {holes} holes" for it in chosen):
             question, proofs = cooked(aig, holes, programs.get("drat2lrat"))
             for writer, proof in zip(("Cook", "Cook, drat2lrat"), proofs):
                 measure(question, writer, None, proof, times)
@@ -145,7 +144,7 @@ def main():
     parser.add_argument("program", metavar="PROGRAM", help="the program aig that is measured")
     parser.add_argument("--room", metavar="FOLDER", help="the folder of what is made, for the next call")
     parser.add_argument("--times", type=int, default=3, metavar="N", help="how many runs of each (3)")
-    parser.add_argument("--rows", default="", metavar="TEXT", help="the formulas whose names hold this")
+    parser.add_argument("--rows", nargs="+", default=[""], metavar="TEXT", help="the formulas with such names")
     chosen = parser.parse_args()
     missing = [it for it in ("yosys", "cadical", "drat-trim", "lrat-check", "c++") if not shutil.which(it)]
     if missing:

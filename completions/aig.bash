@@ -2,23 +2,24 @@
 # tools/make_completions.py writes aig.bash: its tables from the program's help, all else from aig.bash.in.
 
 _aig() {
-    local commands="toaig info select unroll sim wave bench shell check witness reduce why cnf refute strengthen help"
+    local commands="toaig info select cut unroll sim wave bench shell check witness reduce why cnf refute strengthen help"
     local -A options=(
-        [toaig]="--to --progress --help"
-        [info]="--names --json --progress --help"
-        [select]="--to --from --as --property --names --progress --help"
-        [unroll]="--frames --to --map --progress --help"
-        [sim]="--progress --help"
-        [wave]="--witness --progress --help"
-        [bench]="--circuit-out --stimulus-out --progress --help"
-        [shell]="--witness --progress --help"
-        [check]="--trace --properties --property --alive --frames --progress --help"
-        [witness]="--model --frames --step --certificate --alive --property --progress --help"
-        [reduce]="--progress --help"
-        [why]="--of --frame --depth --witness --json --progress --help"
-        [cnf]="--frames --property --step --certificate --alive --progress --help"
-        [refute]="--frames --property --step --certificate --alive --progress --help"
-        [strengthen]="--to --certificate --property --progress --help"
+        [toaig]="--to --help"
+        [info]="--names --json --help"
+        [select]="--to --from --as --property --names --help"
+        [cut]="--to --cuts --help"
+        [unroll]="--frames --to --map --help"
+        [sim]="--help"
+        [wave]="--witness --help"
+        [bench]="--circuit-out --stimulus-out --help"
+        [shell]="--witness --help"
+        [check]="--trace --properties --property --alive --frames --help"
+        [witness]="--model --frames --step --certificate --alive --property --help"
+        [reduce]="--help"
+        [why]="--of --frame --depth --witness --json --help"
+        [cnf]="--frames --property --step --certificate --alive --help"
+        [refute]="--frames --property --step --certificate --alive --help"
+        [strengthen]="--to --certificate --property --help"
     )
     # What the value of an option is: one of these words, a file, or a number.
     local -A values=(
@@ -28,6 +29,8 @@ _aig() {
         ["select --as"]="bad outputs"
         ["select --property"]="number"
         ["select --names"]="file"
+        ["cut --to"]="aag aig"
+        ["cut --cuts"]="file"
         ["unroll --frames"]="number"
         ["unroll --to"]="aag aig"
         ["unroll --map"]="file"
@@ -53,17 +56,13 @@ _aig() {
         ["strengthen --certificate"]="file"
         ["strengthen --property"]="number"
     )
-    local first=1 words=("") joins="" i
+    local words=("") joins="" i
     COMPREPLY=()
 
-    # The command, which --progress may precede.
-    while ((COMP_CWORD > first)) && [[ ${COMP_WORDS[first]} == --progress ]]; do
-        ((first++))
-    done
-    local command=${COMP_WORDS[first]}
+    local command=${COMP_WORDS[1]}
 
     # The words after the command. Bash splits `--to=aag` at `=`, if `=` is in COMP_WORDBREAKS.
-    for ((i = first + 1; i <= COMP_CWORD; i++)); do
+    for ((i = 2; i <= COMP_CWORD; i++)); do
         if [[ ${COMP_WORDS[i]} == = && ${words[-1]} == --* ]]; then
             words[-1]+="="
             joins=yes
@@ -94,8 +93,8 @@ _aig() {
         word=${word#*=}
     fi
     local value=${values["$command $option"]-}
-    if ((COMP_CWORD == first)); then
-        _aig_reply "" -W "$commands --progress --help --version" -- "$command"
+    if ((COMP_CWORD == 1)); then
+        _aig_reply "" -W "$commands --help --version" -- "$command"
     elif [[ $command == help ]]; then
         _aig_reply "" -W "$commands" -- "$word"
     elif [[ $value == file ]]; then

@@ -65,6 +65,10 @@ uint8_t aig_names(const uint8_t *circuit, size_t circuit_length, uint8_t *room, 
 uint8_t aig_unroll(const uint8_t *circuit, size_t circuit_length, uint32_t frames, bool binary, uint8_t *room,
                    size_t room_length, size_t *length);
 
+/* `aig cut`: the circuit in which the parts that a text names may be anything, as text or in the binary format. */
+uint8_t aig_cut(const uint8_t *circuit, size_t circuit_length, const uint8_t *cuts, size_t cuts_length, bool binary,
+                uint8_t *room, size_t room_length, size_t *length);
+
 /* `aig strengthen`: the circuit, strengthened by a certificate for the property, as text or in the binary format. */
 uint8_t aig_strengthen(const uint8_t *circuit, size_t circuit_length, const uint8_t *certificate,
                        size_t certificate_length, uint32_t property, bool binary, uint8_t *room, size_t room_length,
@@ -262,7 +266,8 @@ uint8_t aig_live_value(struct aig_live *bench, uint32_t frame, uint32_t literal,
 /* A cell: a literal at a frame. */
 struct aig_cell { uint32_t frame, literal; };
 
-/* The values of cells, each in the place of its cell: 0, 1, 2, or 16 and the number of the fault. */
+/* The values of cells, each in the place of its cell: 0, 1, 2, or 16 and the number of the fault. Places after the last
+ * one stay as they are. */
 uint8_t aig_live_values(struct aig_live *bench, const struct aig_cell *cells, size_t cells_length, uint8_t *values,
                         size_t values_length);
 

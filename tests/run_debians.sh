@@ -1,23 +1,25 @@
 #!/bin/sh
 # Runs what needs Yosys with the Yosys, ABC, cadical, Icarus Verilog and Python of other versions of Debian. In each version:
-# the tour of README.md, designs with known truth, bundles, the commands of docs/FLOW.md and other parts of run_tools.py,
-# COUNT random programs (500), and whether this Yosys makes the circuit of the shipped bundle, or one with the same names
+# the tour of README.md, designs with known truth, bundles, run_tools.py with the commands of docs/FLOW.md, COUNT random
+# programs (500), and whether this Yosys makes the circuit of the shipped bundle, or one that does the same
 # (debians/suite.sh). Each version also makes bundles, and checks those of the others. Then the package and the wheel are
 # installed as README says, each where nothing else is, and README and FLOW are typed there (debians/installed.sh).
 #
-# It makes folders of each version below FOLDER (1 GB), and the next call uses them again. It is no part of the gate, and
-# needs root, debootstrap, unshare, dpkg-deb and a mirror of Debian (MIRROR, else that of debootstrap). STEPS names some of
-# the steps alone: suite, exchanged, package, wheel; or peers, which runs benchmarks/peers.py with the options PEERS. Debian 12
-# has no drat-trim for it.
+# It makes folders of each version below FOLDER (4 GB), and the next call uses them again. It is no part of the gate.
+# It needs root, debootstrap, unshare, dpkg-deb and a mirror of Debian (MIRROR, else that of debootstrap). STEPS names
+# some of the steps alone, as "designs package"; made only makes the folders, and peers runs benchmarks/peers.py with
+# the options PEERS. Debian 12 has no drat-trim for it.
 #
 # usage: run_debians.sh PROGRAM FOLDER SUITE ..     as: run_debians.sh build/aig /var/tmp/debians bookworm trixie sid
 set -eu
 repository=$(cd "$(dirname "$0")/.." && pwd)
 program=$(realpath "$1") folder=$(realpath -m "$2")
 shift 2
-steps=${STEPS:-suite exchanged package wheel}
+all="tour designs bundles replay tools recheck random"
+steps=${STEPS:-$all exchanged package wheel pipx}
 mirror=${MIRROR:-}
-tools="yosys cadical cryptominisat z3 python3 python3-click iverilog g++"
+tools="yosys cadical cryptominisat picosat minisat z3 python3 python3-click python3-distributed iverilog g++ gtkwave
+    xvfb xauth chromium"
 failed=0
 mkdir -p "$folder/exchanged"
 
@@ -28,6 +30,7 @@ plain() {
     debootstrap --variant=minbase "$1" "$folder/$1.plain" $mirror > "$folder/$1.plain.log" 2>&1
     # a mirror may have an older sid than its lists allow
     echo 'Acquire::Check-Valid-Until "false";' > "$folder/$1.plain/etc/apt/apt.conf.d/90older"
+    echo force-unsafe-io > "$folder/$1.plain/etc/dpkg/dpkg.cfg.d/unsafe"  # nobody needs these folders after a crash
     chroot "$folder/$1.plain" apt-get update >> "$folder/$1.plain.log" 2>&1
     touch "$folder/$1.plain/made"
 }
@@ -56,11 +59,12 @@ is_step() {
 }
 
 for suite; do
-    is_step suite || is_step exchanged || is_step peers || continue
+    parts=$(for step in $all; do ! is_step $step || echo $step; done)
+    [ -n "$parts" ] || is_step made || is_step exchanged || is_step peers || continue
     made "$suite"
     said=$(chroot "$folder/$suite" sh -c 'yosys -V; iverilog -V; python3 -V; echo cadical $(cadical --version)' 2> /dev/null)
     echo "== $suite: $(echo "$said" | grep -E '^(Yosys|Icarus Verilog version|Python|cadical)' | tr '\n' ' ')"
-    ! is_step suite || within "$folder/$suite" suite.sh "${COUNT:-500}"
+    [ -z "$parts" ] || within "$folder/$suite" suite.sh "${COUNT:-500}" $parts
     ! is_step exchanged || within "$folder/$suite" exchanged.sh make "$suite"
     ! is_step peers || within "$folder/$suite" peers.sh ${PEERS:-}
 done
@@ -70,13 +74,13 @@ if is_step exchanged; then
         within "$folder/$suite" exchanged.sh check "$suite"
     done
 fi
-if is_step package || is_step wheel; then
+if is_step package || is_step wheel || is_step pipx; then
     rm -rf "$folder/release"
     mkdir "$folder/release"
     "$repository/tests/debians/release.py" "$program" "$folder/release"
 fi
 for suite; do
-    for way in package wheel; do
+    for way in package wheel pipx; do
         if is_step $way; then
             echo "== $suite: the $way, where nothing else is installed"
             plain "$suite"

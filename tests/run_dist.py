@@ -33,6 +33,9 @@ SECONDS = 1_764_000_000
 STATE = {"commit": "a" * 40, "clean": "yes", "sources": "b" * 64}
 SUMS = {"program": "c" * 64, "archive": "e" * 64, "shared": "f" * 64}
 RECORD = {**STATE, **SUMS}
+# the arguments of examples/live.c, and what it says
+LIVE = ("two_gates.aag", "two_gates.stim", "8")
+LIVE_SAYS = "set: 0, 2 evaluated, 2 changed\n8 is 1 at 2 of 2 frames\n"
 
 
 def need(*commands):
@@ -53,7 +56,7 @@ def release(program, folder):
 
 
 def look_for_library(library, tally, way, root):
-    """Checks the installed library for C: a program is built with it, as pkg-config says, and runs."""
+    """Checks the installed library for C: programs are built with it, as pkg-config says, and run."""
     if library is None or not shutil.which("cc"):
         leave_out(way, "there is no library, or no cc")
         return
@@ -66,11 +69,12 @@ def look_for_library(library, tally, way, root):
                                          text=True, check=False).stdout.split()
                           for words in (("--modversion",), ("--cflags", "--libs")))
         tally.compare(f"{way}: the version of aig.pc", version, [make_wheel.VERSION])
-    supervised.run(["cc", f"{REPOSITORY}/examples/verdict.c", *asked, "-o", f"{way}_verdict"], check=True)
-    files = [f"{REPOSITORY}/examples/wraps.{kind}" for kind in ("aag", "wit")]
-    done = supervised.run([f"./{way}_verdict", *files], env={**os.environ, "LD_LIBRARY_PATH": f"{root}/lib"},
-                          capture_output=True, text=True, check=False)
-    tally.compare(f"{way}: a program in C", (done.returncode, done.stdout), (0, "confirmed\n"))
+    examples = f"{root}/share/doc/aig/examples"
+    for name, words, wanted in (("verdict", ("wraps.aag", "wraps.wit"), "confirmed\n"), ("live", LIVE, LIVE_SAYS)):
+        supervised.run(["cc", f"{examples}/{name}.c", *asked, "-o", f"{way}_{name}"], check=True)
+        done = supervised.run([os.path.abspath(f"{way}_{name}"), *words], cwd=examples, capture_output=True, text=True,
+                              env={**os.environ, "LD_LIBRARY_PATH": f"{root}/lib"}, check=False)
+        tally.compare(f"{way}: {name}.c", (done.returncode, done.stdout), (0, wanted))
 
 
 def look_for_verdicts(program, tally, way, root):
@@ -172,11 +176,14 @@ def package(program, tally, _):
 def in_environment(program, name, given, tally):
     """Installs the Python package into an environment of its own, without a network, and runs its tests there."""
     supervised.run([sys.executable, "-m", "venv", name], check=True, timeout=SCRIPT_SECONDS)
-    settings = {**os.environ, "AIG_PROGRAM": program.path}
+    library = shared(program)
+    settings = {**os.environ, "AIG_PROGRAM": program.path, "AIG_LIBRARY": library or ""}
     pip = supervised.run([f"{name}/bin/pip", "install", "-q", "--no-index", "--disable-pip-version-check", given],
                          env=settings, capture_output=True, text=True, check=False, timeout=SCRIPT_SECONDS)
     tally.compare(f"{name}: pip", (pip.returncode, pip.stderr), (0, ""))
     tally.check(f"{name}: the program", contents(f"{name}/bin/aig") == contents(program.path))
+    libraries = [contents(it) for it in glob.glob(f"{name}/lib/python*/site-packages/aig/libaig.so")]
+    tally.check(f"{name}: the library", libraries == ([contents(library)] if library else []))
     command = supervised.run([f"{name}/bin/aig-verdicts", "--version"], stdin=DEVNULL, capture_output=True,
                              timeout=runs.SECONDS, check=False)
     version = f"aig {pack.version_of(program.path)}".encode()
@@ -188,27 +195,35 @@ def in_environment(program, name, given, tally):
     tally.compare(f"{name}: the design of the demo", contents(f"demo_{name}/queue.v"), contents(f"{runs.EXAMPLES}/queue.v"))
     tally.check(f"{name}: a demo without Yosys", command.returncode == 1 and b"no program yosys" in command.stderr, command)
     words = [f"{name}/bin/python", f"{REPOSITORY}/python/tests/run_package.py", "--installed"]
-    settings = {setting: text for setting, text in os.environ.items() if setting != "AIG_PROGRAM"}
-    for part in ("names", "verdicts", "bench"):
+    settings = {setting: text for setting, text in os.environ.items() if setting not in ("AIG_PROGRAM", "AIG_LIBRARY")}
+    parts = ("names", "verdicts", "bench", "libraries", *(["live"] if library else []))
+    for part in parts:
         words += ["--part", part]
     ran = supervised.run([*words, program.path], env=settings, capture_output=True, text=True, check=False,
                          timeout=SCRIPT_SECONDS)
-    tally.check(f"{name}: its tests", ran.returncode == 0 and ran.stdout.count(" 0 failed") == 3, ran)
+    tally.check(f"{name}: its tests", ran.returncode == 0 and ran.stdout.count(" 0 failed") == len(parts), ran)
+
+
+def shared(program):
+    """The shared library of the program, or nothing."""
+    folder = made(program).library
+    return folder and f"{folder}/libaig.so"
 
 
 def wheel(program, tally, _):
     """The wheel of the Python package is the same bytes each time and has the program's version. `pip install --no-index`
-    takes it, and the folder python/, into fresh environments; parts of run_package.py pass there on the program that
-    pip installed."""
+    takes it, and the folder python/, into fresh environments; parts of run_package.py pass there on the program and the
+    library that pip installed."""
     need("objdump")
     for module in ("venv", "ensurepip"):
         if importlib.util.find_spec(module) is None:
             raise LeftOut(f"Python has no {module}")
     for folder in ("one", "two", "pure"):
         os.mkdir(folder)
-    name = make_wheel.make("one", program.path)
+    given = program.path, shared(program)
+    name = make_wheel.make("one", *given)
     tally.compare("wheel: a second one is the same", contents(f"one/{name}"),
-                  contents(f"two/{make_wheel.make('two', program.path)}"))
+                  contents(f"two/{make_wheel.make('two', *given)}"))
     tally.compare("wheel: without a program", make_wheel.make("pure"), f"aig-{make_wheel.VERSION}-py3-none-any.whl")
     tally.compare("wheel: its version", make_wheel.VERSION, pack.version_of(program.path))
     in_environment(program, "of_wheel", os.path.abspath(f"one/{name}"), tally)

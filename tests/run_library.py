@@ -174,9 +174,9 @@ def called(library, name, arguments, room):
 def as_program(program, tally, _):
     """Each call gives what the command prints, or its message, and takes a room as large as the text."""
     library = ctypes.CDLL(f"{folder_of(program)}/libaig.so")
-    names = ("wraps.aag", "wraps.wit", "wraps.stim", "wraps.drat", "wraps.model", "ring.aag", "ring.cert.aag",
-             "ring.drat", "counter.aag", "counter.aig", "counter.stim", "counter.script", "fifo.aag", "cyclic.aag",
-             "delay.aag", "delay.cert.aag")
+    names = ("wraps.aag", "wraps.cuts", "wraps.wit", "wraps.stim", "wraps.drat", "wraps.model", "ring.aag",
+             "ring.cert.aag", "ring.drat", "counter.aag", "counter.aig", "counter.stim", "counter.script", "fifo.aag",
+             "cyclic.aag", "delay.aag", "delay.cert.aag")
     file = {name: contents(f"{EXAMPLES}/{name}") for name in names}
     asked = {"s.model": b"s SATISFIABLE\nv 1 2 0\n", "not.wit": b"1\nb0\n00\n1\n.\n", "empty": b"",
              "always": b"aag 1 0 1 0 0 1\n2 2 1\n2\n", "dead": b"aag 0 0 0 0 0 1 1\n0\n0\n"}
@@ -224,6 +224,9 @@ CALLS = [
     ("unroll --frames 3 --to aag counter.aag", "aig_unroll", ["counter.aag", 3, False]),
     ("unroll --frames 2 --to aig counter.aag", "aig_unroll", ["counter.aag", 2, True]),
     ("unroll --frames 70000 --to aig counter.aag", "aig_unroll", ["counter.aag", 70000, True]),
+    ("cut --to aag --cuts wraps.cuts wraps.aag", "aig_cut", ["wraps.aag", "wraps.cuts", False]),
+    ("cut --to aig --cuts wraps.cuts wraps.aag", "aig_cut", ["wraps.aag", "wraps.cuts", True]),
+    ("cut --to aag --cuts wraps.stim wraps.aag", "aig_cut", ["wraps.aag", "wraps.stim", False]),
     ("strengthen --to aag --certificate ring.cert.aag ring.aag", "aig_strengthen",
      ["ring.aag", "ring.cert.aag", 0, False]),
     ("strengthen --to aig --certificate delay.cert.aag delay.aag", "aig_strengthen",

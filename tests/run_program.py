@@ -12,6 +12,7 @@ from program.certificates import certificates
 from program.check import check
 from program.cnf import cnf
 from program.completions import completions
+from program.cut import cut
 from program.definitions import definitions
 from program.descriptors import descriptors
 from program.helps import helps
@@ -25,7 +26,6 @@ from program.names import names
 from program.needs import needs
 from program.owners import owners
 from program.pages import pages
-from program.progress import progress
 from program.proofs import proofs
 from program.properties import properties
 from program.reduce import reduce
@@ -47,12 +47,12 @@ from program.words import words
 
 PARTS = {"bench": bench, "kept": kept, "owners": owners, "descriptors": descriptors, "words": words, "sim": sim,
          "wave": wave, "check": check, "replays": replays, "toaig": toaig, "unroll": unroll, "cnf": cnf,
-         "info": info, "select": select, "witness": witness, "refute": refute, "proofs": proofs,
+         "info": info, "select": select, "cut": cut, "witness": witness, "refute": refute, "proofs": proofs,
          "large_proofs": large_proofs, "definitions": definitions, "certificates": certificates,
          "strengthened": strengthened_texts, "properties": properties, "names": names, "ample": ample,
          "reduce": reduce, "why": why, "causes": causes,
          "json_lines": json_lines, "help": helps,
-         "pages": pages, "completions": completions, "needs": needs, "talks": talks, "progress": progress,
+         "pages": pages, "completions": completions, "needs": needs, "talks": talks,
          "terminals": terminals,
          "shell": shell, "large_session": large_session,
          "large_saves": large_saves, "same_files": same_files}

@@ -42,7 +42,7 @@ POINTER = re.compile(r"`(\w+)/(\w+)`")
 README = ROOT / "README.md"
 CODE = re.compile(r"\d+(?=\s+lines\s+of\s+code\b)")
 # The functions between the clauses and the system, each with its file.
-BETWEEN = (("aig/src/main.rt", "main"), ("aig/src/main.rt", "run"), ("aig/src/main.rt", "run_on"),
+BETWEEN = (("aig/src/main.rt", "main"), ("aig/src/main.rt", "run"), ("aig/src/main.rt", "run_command"),
            ("aig_files/src/files.rt", "open"))
 WIDTH = 120
 

@@ -8,6 +8,8 @@ docs/floors.svg, with crates.txt.
   libraries either, and no file of its src/ names such a module of std.
 - ARCHITECTURE.md has a table with a row for each floor and, below it, one for each crate. Its last column has the
   libraries of the repository on which the crate stands, without those on which these stand.
+- A name of a type has one meaning in a crate and the crates that it stands on. `tools/two_meanings.txt` has the names of
+  which that is not true yet; it may only shrink.
 - The picture has the floors, the crates, these edges, and the longest chain by its lines of src and proofs, in
   thousands (tools/draw_floors.py).
 
@@ -26,6 +28,8 @@ from sources.specs import ROOT
 LIST = ROOT / "crates.txt"
 PAGE = ROOT / "docs" / "ARCHITECTURE.md"
 PICTURE = ROOT / "docs" / "floors.svg"
+TWO_MEANINGS = ROOT / "tools" / "two_meanings.txt"
+_TYPE = re.compile(r"(?m)^\s*(?:pub(?:\([^)]*\))?\s+)?(?:struct|enum|trait|type|union)\s+([A-Z]\w*)")
 TABLE = "| crate | holds | stands on |"
 END = "."
 
@@ -109,6 +113,28 @@ def wrong_floor(floor, libraries):
                 yield f"crates.txt: {name} knows {word}, which its floor does not"
 
 
+def with_two_meanings(libraries):
+    """Returns the names of types that a crate has twice, or shares with one on which it stands."""
+    crates = collections.defaultdict(list)
+    for name in libraries:
+        for path in (ROOT / "crates" / name / "src").rglob("*.rt"):
+            for match in _TYPE.finditer(re.sub(r"//.*", "", path.read_text(encoding="utf-8"))):
+                crates[match[1]].append(name)
+    stand_on = {name: below(name, libraries) for name in libraries}
+    return {word for word, found in crates.items()
+            if len(set(found)) < len(found) or any(one in stand_on[other] for one in found for other in found)}
+
+
+def wrong_meanings(libraries):
+    """Yields what tools/two_meanings.txt says wrong."""
+    known = set(TWO_MEANINGS.read_text(encoding="utf-8").split())
+    found = with_two_meanings(libraries)
+    for word in sorted(found - known):
+        yield f"{word} names two types, in one crate or in one that stands on the other: give one of them another name"
+    for word in sorted(known - found):
+        yield f"tools/two_meanings.txt: {word} has one meaning now: take it out"
+
+
 def table(all_floors, libraries, held):
     """Returns the lines of the table, where it is known what each crate holds."""
     lines = [TABLE, "|---|---|---|"]
@@ -153,7 +179,7 @@ def main():
         PAGE.write_text("\n".join([*before, *new, *after]), encoding="utf-8")
         PICTURE.write_text(picture, encoding="utf-8")
         old = new
-    wrong = [*wrong_list(all_floors, libraries)]
+    wrong = [*wrong_list(all_floors, libraries), *wrong_meanings(libraries)]
     wrong += [f"docs/ARCHITECTURE.md does not say what {name} holds" for name in libraries if not held.get(name)]
     for line in wrong:
         print(line)

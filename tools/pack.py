@@ -1,6 +1,6 @@
 #!/usr/bin/env python3
 """Packs a release into build/dist: an archive and a Debian package, which have what `make install` installs, the wheel
-of the Python package with the program, and their sums in SHA256SUMS.
+of the Python package with program and library, and their sums in SHA256SUMS.
 
 It refuses unless the tree is clean and the gate has passed this commit. Program and library are those that the gate
 proved. The same commit, program and library give the same files, byte for byte."""
@@ -132,7 +132,7 @@ def pack(made, provenance, seconds, folder):
     names = [make_archive(made, provenance, seconds, folder)]
     if shutil.which("dpkg-deb"):
         names.append(make_package(made, provenance, seconds, folder))
-    names.append(make_wheel.make(folder, made.program))
+    names.append(make_wheel.make(folder, made.program, made.library and f"{made.library}/libaig.so"))
     with open(f"{folder}/SHA256SUMS", "w", encoding="utf-8") as file:
         file.writelines(f"{gate.sum_of(f'{folder}/{name}')}  {name}\n" for name in names)
     return [*names, "SHA256SUMS"]

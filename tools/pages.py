@@ -28,7 +28,7 @@ MARK = re.compile(r" *(?:-|\d+\.) ")
 AUDITED = tuple(ROOT / "python" / "src" / "aig" / "verdicts" / name
                 for name in ("checked.py", "decisions.py", "sentences.py"))
 NAMES_AUDITED = ("docs/VERDICTS.md", "docs/PROVED.md")
-MOST_AUDITED = 250
+MOST_AUDITED = 270
 
 
 def blocks(text):

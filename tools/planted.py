@@ -18,7 +18,7 @@ each why:
 
 Only the first shows by itself that the body is wrong.
 
-Each exported call has one: it fails where one has none, but for those that it lists itself.
+Each exported call has one: it fails where one has none, but for those in without_bug.txt.
 
 It tries those of the gate (crates/NAME/planted) and with --more all others too (crates/NAME/planted/more), over what
 `rt ci` or `rt check` left of the libraries below a crate; where there is nothing, they are built first.
@@ -73,19 +73,8 @@ FALSE, UNPROVED, LIMIT, ANSWER, NAME = KINDS
 # The words of a planted bug that say what it stands for, beside the functions that it changes.
 STANDS_FOR = ("guards", "mistake", "relation", "law")
 
-# Exported calls without a planted bug: they have no other value to return, or their contracts allow what a bug would do.
-WITHOUT = {
-    "aig_bytes": "Count::zero Count::one_more",
-    "aig_parts": "List::new List::with_capacity",
-    "aig_base": "Circuit::facts Circuit::symbols",
-    "aig_bench": "Bench::circuit Bench::stimulus",
-    "aig_causes": "Explainer::new Explanation::asked Line::causes",
-    "aig_signals": "SectionNaming::new",
-    "aig_prompt": "Table::new",
-    "aig_sat": "Refutation::new Refutation::add_variables Refutation::delete",
-    "aig_why": "Run::new",
-    "aig_files": "Shown::new Shown::flush StandardOutput::flush Terminal::runtime Tracked::new",
-}
+# The exported calls without a planted bug, a line for each crate. They are not in a sum: they refuse nothing.
+WITHOUT = ROOT / "tools" / "without_bug.txt"
 
 # What the prover says of an answer that names something which is not there.
 NAMES = r"has no field|is not in scope|has no `|was not admitted"
@@ -407,8 +396,14 @@ def about(path):
     return " ".join(lines[:first]), [line for line in lines if line.startswith(tuple(f"{it}: " for it in STANDS_FOR))]
 
 
+def without_bug():
+    """Returns the exported calls of each crate that need no planted bug."""
+    lines = [line.split(": ") for line in WITHOUT.read_text().splitlines() if not line.startswith("#")]
+    return {name: calls.split() for name, calls in lines}
+
+
 def uncovered():
-    """Yields the exported calls with a clause that no planted bug changes or guards, and that are not in WITHOUT. A
+    """Yields the exported calls with a clause that no planted bug changes or guards, and that are not in without_bug.txt. A
     method of a trait is tried at the implementations, and a law has no code."""
     rooms = ("planted", "planted/more")
     paths = [path for room in rooms for path in ROOT.glob(f"crates/*/{room}/*.edit")]
@@ -425,7 +420,7 @@ def uncovered():
                 continue
             tried_here = any(it.split("::")[-1] == name and (not owner or it.split("::")[-2].startswith(owner[0]))
                              for it in changed)
-            if not tried_here and export.name not in guarded and export.name not in WITHOUT.get(crate.name, "").split():
+            if not tried_here and export.name not in guarded and export.name not in without_bug().get(crate.name, []):
                 yield f"{crate.name}::{export.name}"
 
 

@@ -4,6 +4,7 @@
 #include "certificate.hpp"
 #include "checker.hpp"
 #include "formula.hpp"
+#include "live.hpp"
 #include "proof.hpp"
 #include "reader.hpp"
 #include "refutation.hpp"
@@ -98,15 +99,17 @@ static void simulate(char** paths, Output& out) {
     Simulator(read_circuit(circuit), out).run(stimulus);
 }
 
-static void bench(char** paths, Output& out, bool tells_touched) {
+static void bench(const char* word, char** paths, Output& out) {
     out.part = "script";
     Source circuit(paths[0], "circuit"), stimulus(paths[1], "stimulus"), script(paths[2], "script");
     Circuit whole = read_circuit(circuit);
     Array<char> rows(stimulus.size() + Source::block);
     stimulus.take_rest(rows);
     Workbench workbench(std::move(whole), rows, out);
+    if (strcmp(word, "live") == 0) return time_calls(workbench, paths[2]);
     workbench.run(script);
-    if (tells_touched) fprintf(stderr, "%llu\n", static_cast<unsigned long long>(workbench.evaluated()));
+    if (strcmp(word, "touched") == 0)
+        fprintf(stderr, "%llu\n", static_cast<unsigned long long>(workbench.evaluated()));
 }
 
 static void run(int count, char** words, Output& out) {
@@ -121,8 +124,8 @@ static void run(int count, char** words, Output& out) {
         refute(words + 2, out);
     else if (count == 4 && strcmp(word, "sim") == 0)
         simulate(words + 2, out);
-    else if (count == 5 && (strcmp(word, "bench") == 0 || strcmp(word, "touched") == 0))
-        bench(words + 2, out, strcmp(word, "touched") == 0);
+    else if (count == 5 && (strcmp(word, "bench") == 0 || strcmp(word, "touched") == 0 || strcmp(word, "live") == 0))
+        bench(word, words + 2, out);
     else
         throw Refusal{"usage", 2};
 }

@@ -44,14 +44,30 @@ public:
     // How many gates the edits evaluated.
     uint64_t evaluated() const { return events.evaluated; }
 
+    // The number of a refusal; 0: none.
+    using Fault = int;
+
+    Fault set_bit(uint32_t frame, uint32_t position, Code code) {
+        if (frame >= cells.size()) return 6;
+        if (position >= circuit.inputs.size()) return 7;
+        events.put(cells[frame].data(), circuit.inputs[position] >> 1, code);
+        renew(frame);
+        return 0;
+    }
+
+    // The letter of a literal at a frame.
+    Fault ask(uint32_t frame, uint32_t literal, char& letter) const {
+        Fault fault = fault_of(literal);
+        if (fault == 0 && frame >= cells.size()) fault = 6;
+        if (fault == 0) letter = character(cells[frame].data(), literal);
+        return fault;
+    }
+
 private:
     static constexpr size_t most_frames = 65'536;
     static constexpr uint64_t most_cells = 67'108'864;
     // What defines a variable; a latch is told by its position behind the others.
     enum Role : uint32_t { undefined, constant, is_input, is_gate, first_latch };
-    // The number of a refusal; 0: none.
-    using Fault = int;
-
     Circuit circuit;
     Events events;
     // The gates in an order for new frames; after a rewire it is made anew when it is next wanted.
@@ -181,21 +197,12 @@ private:
     }
 
     void answer_value(uint32_t frame, uint32_t literal) {
-        Fault fault = fault_of(literal);
-        if (fault == 0 && frame >= cells.size()) fault = 6;
-        if (fault != 0) return reply(fault);
+        char letter;
+        if (Fault fault = ask(frame, literal, letter)) return reply(fault);
         char* to = out.room(2);
-        to[0] = character(cells[frame].data(), literal);
+        to[0] = letter;
         to[1] = '\n';
         out.advance(to + 2);
-    }
-
-    Fault set_bit(uint32_t frame, uint32_t position, Code code) {
-        if (frame >= cells.size()) return 6;
-        if (position >= circuit.inputs.size()) return 7;
-        events.put(cells[frame].data(), circuit.inputs[position] >> 1, code);
-        renew(frame);
-        return 0;
     }
 
     Fault rewire(uint32_t literal, uint32_t rhs0, uint32_t rhs1) {

@@ -14,11 +14,11 @@ import shutil
 import sys
 import tempfile
 from collections import Counter
-from concurrent.futures import ThreadPoolExecutor
+from concurrent.futures import ProcessPoolExecutor
 from pathlib import Path
 
 HERE = Path(__file__).resolve().parent
-sys.path[:0] = [str(HERE), str(HERE.parent.parent / "tests")]
+sys.path[:0] = [str(HERE), str(HERE.parent / "src"), str(HERE.parent.parent / "tests")]
 from random_programs.judge import Outcome, judged  # noqa: E402
 from random_programs.program import program  # noqa: E402
 from random_programs.shrink import shrunk  # noqa: E402
@@ -71,7 +71,7 @@ def main():
         print(f"random Verilog: {len(seeds)} programs left out: there is no {', '.join(missing)}")
         return 0
     kinds, outcomes = Counter(), Counter()
-    with ThreadPoolExecutor(chosen.jobs) as pool:
+    with ProcessPoolExecutor(chosen.jobs) as pool:
         for seed, said in zip(seeds, pool.map(judgement, seeds)):
             outcomes[said.outcome] += 1
             kinds[said.key] += 1

@@ -9,7 +9,7 @@ from pathlib import Path
 PYTHON = Path(__file__).resolve().parent.parent
 sys.path[:0] = [str(PYTHON.parent / "tests"), str(PYTHON / "src"), str(PYTHON / "tests")]
 from bundles import (  # noqa: E402
-    attacks, checking, comparing, crashing, deciding, denying, dying, emptied, ends, equal, folding, hinted, judging,
+    attacks, checking, comparing, cores, crashing, deciding, denying, dying, emptied, ends, equal, folding, hinted, judging,
     late, lots, lying, many, remaking, replaying, reusing, searches, tampering, zips,
 )
 from library import runs  # noqa: E402
@@ -32,7 +32,7 @@ PARTS = {part.__name__.rstrip("_"): on_program(part) for part in (
     searches.found, searches.tools, searches.abc, searches.words, searches.demo,
     hinted.form, hinted.hints, hinted.later, hinted.failures,
     attacks.folders_of_others, attacks.sizes, attacks.outputs,
-    ends.stops, ends.folders, ends.yosys, ends.bounds, ends.executors, judging.judging,
+    ends.stops, ends.total, ends.waits, ends.folders, ends.yosys, ends.bounds, ends.executors, judging.judging,
     many.many, many.taken_over, lying.lies, checking.checking, late.dead, late.late, emptied.emptied, dying.dying,
     dying.memory, crashing.crashing, denying.denying, lots.lots,
     deciding.right, deciding.harms, deciding.lines, deciding.ends_of_aig, deciding.again, deciding.commands,
@@ -40,7 +40,10 @@ PARTS = {part.__name__.rstrip("_"): on_program(part) for part in (
     deciding.kinds,
     equal.equal, remaking.remaking, replaying.replaying,
     comparing.changed, comparing.hiding, comparing.moved, comparing.compares,
-    reusing.reusing, reusing.lying_baselines, reusing.refused,
+    reusing.reusing, reusing.stopped_in_its_folder, reusing.open_rows, reusing.lying_baselines, reusing.refused,
+    cores.needs, cores.unneeded, cores.afterwards, cores.minimal, cores.contradictions, cores.forged, cores.follows,
+    cores.reading, cores.counting,
+    cores.garbled, cores.since, cores.failing,
 )}
 
 if __name__ == "__main__":

@@ -5,10 +5,12 @@ Yosys are skipped, and say so, where there is none. The verdicts on whole design
 usage: run_circuit.py [PROGRAM]"""
 
 import os
+import re
 import shutil
 import sys
 import tempfile
 import unittest
+import unittest.mock
 from pathlib import Path
 
 HERE = Path(__file__).resolve().parent
@@ -17,7 +19,8 @@ os.environ["AIG_PROGRAM"] = os.path.abspath(sys.argv[1] if len(sys.argv) > 1 els
 
 from aig.verdicts import names, netlist, tree, warnings  # noqa: E402
 from aig.verdicts.cycles import cycles_of  # noqa: E402
-from aig.verdicts.design import read_verilog  # noqa: E402
+from aig.verdicts.design import Reading, read_verilog  # noqa: E402
+from aig.verdicts.file_lists import listed  # noqa: E402
 from aig.verdicts.places import with_place  # noqa: E402
 from aig.verdicts.scope import Scope  # noqa: E402
 from aig.verdicts.sources import Sources, look_at_words, plain_name  # noqa: E402
@@ -258,22 +261,58 @@ class OfLabels(unittest.TestCase):
             self.assertEqual(as_blocks("a.v", text, {("a.v", 1, "x")}), text)
 
 
+class OfLists(unittest.TestCase):
+    """Lists of files, as simulators have them."""
+
+    def test_read(self):
+        with tempfile.TemporaryDirectory() as name, unittest.mock.patch.dict(os.environ, {"RTL": "rtl"}):
+            folder = Path(name)
+            (folder / "in").mkdir()
+            (folder / "in/b.f").write_text("b.v // +define+NONE\n")
+            (folder / "in/c.f").write_text("c.v\n")
+            main = folder / "main.f"
+            for text, wanted in (
+                ("a.v\n  d.sv -v lib.v\n", (["a.v", "d.sv", "lib.v"], [], [])),
+                ("# none\n// none.v\n/* none.v\n*/ a.v /**/\n", (["a.v"], [], [])),
+                ("+incdir+x+y -Iz +define+A=1+B -DC=2 -sv", ([], ["x", "y", "z"], ["A=1", "B", "C=2"])),
+                ('"a b.v" $RTL/a.v ${RTL}/b.v $(RTL)/c.v +define+T="1 2"', (["a b.v", "rtl/a.v", "rtl/b.v", "rtl/c.v"], [], ["T=1 2"])),
+                (f"-F {folder}/in/b.f", ([f"{folder}/in/b.v"], [], [])), (f"-f {folder}/in/c.f a.v", (["c.v", "a.v"], [], [])),
+            ):
+                main.write_text(text)
+                found = listed([main])
+                self.assertEqual(([str(it) for it in found.files], [str(it) for it in found.include], found.define), wanted, text)
+
+    def test_refused(self):
+        with tempfile.TemporaryDirectory() as name:
+            path = Path(name) / "main.f"
+            for text, said in (("a.v\n-y lib", "main.f:2: -y is no option"), ("+libext+.v", "main.f:1: +libext+.v is no option"),
+                               ("a.v\n\n-f", "main.f:3: -f names no file"), ("$NO_SUCH_NAME/a.v", "main.f:1: the environment has no"),
+                               (f"-f {path}", "perhaps it names itself"), ('a.v\n"b.v\n', "main.f:2: a text in quotes")):
+                path.write_text(text)
+                with self.assertRaisesRegex(ToolFailed, re.escape(said)):
+                    listed([path])
+            with self.assertRaises(FileNotFoundError):
+                listed([Path(name) / "none.f"])
+
+
 class OfNames(unittest.TestCase):
     def test_shown(self):
+        own = {"$past$sources/x.v:25$3$1": "past_q", "u0.$past$sources/x.v:25$3$1": "u0.past_q"}
         for wire, name in (
-            ("$past$sources/x.v:25$3$1", "past_25"), ("$flatten\\u0.$past$sources/x.v:25$3$1", "u0.past_25"),
-            ("$formal$sources/x.v:30$2_CHECK", "value_30"), ("$formal$sources/x.v:30$2_EN", "when_30"),
+            ("$past$sources/x.v:25$3$1", "past_q"), ("$flatten\\u0.$past$sources/x.v:25$3$1", "u0.past_q"),
+            ("$0$past$sources/x.v:25$3$1[0:0]$7", "past_q_next"), ("$past$sources/x.v:26$3$1", ""),
             ("$auto$clk2fflogic.cc:74:sample_control_edge$\\clk#sampled$1", "clk_before"),
             ("$auto$clk2fflogic.cc:86:sample_data$$0\\q[1:0]#sampled$1", "q_next_before"),
             ("$auto$clk2fflogic.cc:86:sample_data${4'0000\\a[3:0]}#sampled$1", ""), ("$auto$rtlil.cc:1:Not$3", ""),
             ("\\plain", "plain"), ("$0\\q[1:0]", "q_next"),
         ):
-            self.assertEqual(names.shown_name(wire), name, wire)
+            self.assertEqual(names.shown_name(wire, own), name, wire)
 
     def test_hidden(self):
+        own = {"$formal$s/x.v:3$1_EN": "when_0", "$formal$s/x.v:3$2_EN": "when_0", "$past$s/x.v:9$1$0": "past_q"}
         listed = "wire 2 0 clk\nwire 4 0 $formal$s/x.v:3$1_EN\nwire 6 0 $formal$s/x.v:3$2_EN\nwire 8 0 $past$s/x.v:9$1$0\nwire 10 1 $past$s/x.v:9$1$0\nwire 12 0 $x$7\nwire 14 1 $x$7\n"
-        self.assertEqual(names.hidden_names(listed + "wire 16 1 $q$8\n", {"$x$7": [12, 12]}, {("$q$8", 1): "q_kept[3]"}), {
-            16: "q_kept[3]", 4: "when_3", 6: "when_3_2", 8: "past_9[0]", 10: "past_9[1]", 12: "x_12[0]", 14: "x_12[1]"})
+        self.assertEqual(names.hidden_names(listed + "wire 16 1 $q$8\n", {"$x$7": [12, 12]}, {("$q$8", 1): "q_kept[3]"}, own), {
+            16: "q_kept[3]", 4: "when_0", 6: "when_0_2", 8: "past_q[0]", 10: "past_q[1]", 12: "x_12[0]", 14: "x_12[1]"})
 
 
 def cell(kind, connections, **parameters):
@@ -317,7 +356,7 @@ class OfClocks(unittest.TestCase):
 @unittest.skipUnless(shutil.which("yosys"), "there is no yosys")
 class WithYosys(Folder):
     def read(self, text, name="x.v", **settings):
-        return read_verilog([self.made(name, text)], settings.pop("top", None), Stop(), **settings)
+        return read_verilog([self.made(name, text)], Reading(**settings), Stop())
 
     def test_hostile_names(self):
         """Neither a path nor a name in a source is a command."""
@@ -488,7 +527,7 @@ class WithYosys(Folder):
         words = [f"{it.letter} {it.name}" for it in found if it.letter in "ilo"]
         self.assertEqual(words, [
             "i clk", "i a[4]", "i a[5]", "i b[4]", "i b[3]", "i b[2]", "i one",
-            "l q[3] u.q[3]", "l q[4] u.q[4]", "l k[0][6]", "l k[1][6]", "l n[2][1]", "l n[2][0]", "l n[3][1]", "l n[3][0]", "l w[0][1]", "l w[1][1]", "l past_4[0]", "l past_4[1]", "l past_4[2]", "l value_4", "l when_4",
+            "l q[3] u.q[3]", "l q[4] u.q[4]", "l k[0][6]", "l k[1][6]", "l n[2][1]", "l n[2][0]", "l n[3][1]", "l n[3][0]", "l w[0][1]", "l w[1][1]", "l past_1[0]", "l past_1[1]", "l past_1[2]", "l value_1", "l when_1",
             "o q[3]", "o q[4]", "o low[-2]", "o low[-1]", "o u.c", "o u.d[1]", "o u.d[0]"])
         text = "module m(input c, input e, input [2:3] d, output reg [2:3] q); always @(posedge c) q <= d; reg r; always @(posedge e) r <= q[2]; always @* x: assert (!r); endmodule"
         words = [it.name for it in aig.Circuit(self.read(text).circuit).entries if it.letter == "l"]
@@ -516,6 +555,21 @@ class WithYosys(Folder):
         self.assertLessEqual({"n[2]", "n[3]", "q", "both", "lt"}, set(found["o"]))
         self.assertEqual(sorted(found["c"]), ["u.lab", "x.v:8#0", "x.v:8#1"])
 
+    def test_a_comment_changes_no_byte(self):
+        """Where all assertions have labels: no name has a line, and Yosys sees the same order."""
+        text = """module m(input clk, input rst, input push, input pop, input [3:0] d, output [3:0] o);
+            reg [3:0] m [0:3]; reg [1:0] w = 0, r = 0; reg [2:0] n = 0; reg seen = 0; assign o = m[r];
+            always @(posedge clk) begin seen <= 1; if (rst) begin w <= 0; r <= 0; n <= 0; end else begin
+            if (push && n != 4) begin m[w] <= d; w <= w + 1; end if (pop && n != 0) r <= r + 1;
+            n <= n + (push && n != 4) - (pop && n != 0); end end
+            always @(posedge clk) begin if (seen && $past(rst)) cleared: assert (n == 0); am: assume (d != $past(d));
+            if (seen && !$past(rst)) full: assert ($past(n) != 4 || n == 4 || $past(pop));
+            two: assert ($past(n, 2) != 5); end
+            always @* same: assert (n[1:0] == w - r); endmodule"""
+        first = self.read(text, top="m").circuit
+        for lines in (1, 3, 90, 1000):
+            self.assertEqual(self.read("// A comment.\n" * lines + text, top="m").circuit, first, lines)
+
     def test_a_free_wire_has_its_name(self):
         """Also an output of a module without a body."""
         text = """module box(input i, output [3:2] o); endmodule
@@ -537,7 +591,7 @@ class WithYosys(Folder):
         found = {letter: [it.name for it in circuit.entries if it.letter == letter] for letter in "ilo"}
         self.assertEqual(found["i"], ["clk", "go", "v[0]", "v[1]"])
         self.assertEqual(found["l"], ["shown[0] mix[1] u.n[0]", "shown[1] u.n[1]", "mem[0][0]", "mem[0][1]", "mem[1][0]", "mem[1][1]",
-                                      "past_5[0]", "past_5[1]", "value_5", "when_5"])
+                                      "past_1[0]", "past_1[1]", "value_0", "when_0"])
         self.assertEqual(found["o"], ["shown[0]", "shown[1]", "g", "mix[0]", "mix[1]", "mix[2]", "mix[3]", "read[0]", "read[1]", "u.c", "u.d"])
 
 

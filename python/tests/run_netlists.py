@@ -346,6 +346,18 @@ class OfWiring(unittest.TestCase):
         self.assertEqual(wiring.loops([], warned, {"cells": cells, "netnames": wires}), ["x.v:2"])
         self.assertEqual([wiring.has_loop(warned), wiring.has_loop(warned[1:])], [True, False])
 
+    def test_z(self):
+        """Each z is an x then, also beside other bits; names and texts are as before."""
+        body = "  wire width 4 \\a'1z\n  cell $mux \\u\n    parameter \\P 1'z\n    connect \\A { 1'%s \\a'1z 3'01%s }\n    connect \\T \"1'z\"\n  end\n"
+        end = "  connect \\y 2'%sx\n"
+        for letters, was_there in (("zzz", True), ("1z1", True), ("xxx", False)):
+            text = body % tuple(letters[:2]) + end % letters[2]
+            design = module(text)
+            self.assertEqual([wiring.has_z(design.text()), wiring.free_z(design.modules[0])], [True, was_there], letters)
+            freed = letters.replace("z", "x")
+            self.assertEqual(design.text(), module(body % tuple(freed[:2]) + end % freed[2]).text())
+        self.assertFalse(wiring.has_z("connect \\a 4'01x-\n  wire \\z\n"))
+
 
 if __name__ == "__main__":
     found = unittest.TextTestRunner(verbosity=0).run(unittest.defaultTestLoader.loadTestsFromModule(sys.modules[__name__]))

@@ -10,7 +10,10 @@ that is killed after it printed a verdict (`killed`); `aig.prove` and `aig.certi
 induction, a right and a wrong certificate, and solvers that fail (`solvers`); the same without cadical (`small`);
 searches that a bound or another thread ends (`bounds`); verdicts beside the texts that they were (`texts`); programs in
 the place of ABC (`by_abc`); benches in the library beside those in a process, and calls that are wrong (`live`); where
-the library is looked for (`libraries`); two circuits side by side (`miters`); what notebooks show (`notebooks`); a bench whose
+the library is looked for, and libraries of other versions (`libraries`); benches by names, in the library and in a
+process: vectors (`vectors`), outputs that were set (`moved`), buffers (`buffers`, `numpy`), what the prompt answers too
+(`prompt`), and the notebook and the program of examples/ (`notebook`, `lift`); two circuits side by side (`miters`); what notebooks show
+(`notebooks`); a bench whose
 program is killed, no program, no memory, four threads, and a system without memory files (`failures`, `threads`,
 `folders`); and, where it is asked for, what mypy says of the package (`types`)."""
 
@@ -33,7 +36,7 @@ from library.supervised import SCRIPT_SECONDS  # noqa: E402
 if "--installed" not in sys.argv:
     sys.path.insert(0, str(PYTHON / "src"))
 import aig  # noqa: E402
-from package import answers, bench, by_abc, failures, live, miters, notebooks, replies, searches  # noqa: E402
+from package import answers, bench, by_abc, failures, live, miters, named, notebooks, replies, searches  # noqa: E402
 from package.common import CLAIMS_0, CLAIMS_1, CONFIRMED, PROOF_OF_0, STAYS  # noqa: E402
 from package.common import example, need, raised, running  # noqa: E402
 
@@ -225,7 +228,9 @@ PARTS = {
     "models": answers.models,
     "killed": answers.killed, "solvers": searches.solvers, "small": searches.small, "bounds": searches.bounds,
     "texts": searches.texts, "by_abc": by_abc.by_abc, "miters": miters.miters, "notebooks": notebooks.notebooks, "bench": bench.bench,
-    "live": live.live, "libraries": live.libraries, "replies": replies.replies,
+    "live": live.live, "libraries": live.libraries, "vectors": named.vectors, "moved": named.moved,
+    "buffers": named.buffers, "numpy": named.arrays_of_numpy, "prompt": named.prompt, "notebook": named.notebook, "lift": named.lift,
+    "replies": replies.replies,
     "failures": failures.failures, "threads": failures.threads, "folders": failures.folders, "types": types,
 }
 

@@ -19,7 +19,7 @@ from pathlib import Path
 HERE = Path(__file__).resolve().parent
 sys.path[:0] = [str(HERE), str(HERE.parent / "src")]
 import simulated  # noqa: E402
-from aig.verdicts.design import read_verilog  # noqa: E402
+from aig.verdicts.design import Reading, read_verilog  # noqa: E402
 from aig.verdicts.tools import Stop, ToolFailed  # noqa: E402
 
 PROBES = HERE / "designs" / "probes"
@@ -76,7 +76,7 @@ def read(path, text, probes, folder):
     files = [Path(folder, path.name), Path(folder, "probes.v")]
     files[0].write_text(text)
     files[1].write_text(top(probes))
-    return read_verilog(files, "probes", Stop())
+    return read_verilog(files, Reading("probes"), Stop())
 
 
 def compared(path, design, folder):

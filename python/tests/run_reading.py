@@ -1,6 +1,6 @@
 #!/usr/bin/env python3
 """What aig-verdicts rejects or changes of a source before Yosys makes a circuit of it, on small trees and texts, without
-Yosys: loops that Yosys counts in another way (`loops`), comparisons that are wider than a bit (`comparisons`), and parts
+Yosys: loops that Yosys counts in another way (`loops`), places where their variables have another value (`places`), comparisons that are wider than a bit (`comparisons`), and parts
 of signed variables in functions that get constants (`signed_parts`). run_probes.py compares circuits with a simulator."""
 
 import re
@@ -9,7 +9,7 @@ from pathlib import Path
 
 PYTHON = Path(__file__).resolve().parent.parent
 sys.path[:0] = [str(PYTHON / "src"), str(PYTHON.parent / "tests")]
-from aig.verdicts import comparisons, counted, evaluated, rtlil, tree  # noqa: E402
+from aig.verdicts import comparisons, counted, evaluated, loops, registers, rtlil, tree  # noqa: E402
 from aig.verdicts.scope import Scope  # noqa: E402
 from library import runs  # noqa: E402
 
@@ -52,7 +52,7 @@ LOOPS = (
 )
 
 
-def loops(_, tally, __):
+def counts(_, tally, __):
     for width, signed, first, condition, step, is_right in LOOPS:
         def side(text):
             kind, other = text.split()
@@ -64,6 +64,85 @@ def loops(_, tally, __):
         scope = Scope(node("MODULE", k, n, p, node("ALWAYS", loop), name="m"))
         found = list(counted.other_values([scope]))
         tally.compare(f"{width} {signed} {first} {condition} {step}", found, [] if is_right else ["a.v:3"])
+
+
+def k_and(kind, *others):
+    return node(kind, named("k"), *[number(it) if it[0].isdigit() else named(it) for it in others])
+
+
+def written(width, value):
+    return node("ASSIGN_EQ", named(f"y{width}"), value)
+
+
+def in_braces(value):
+    return written(40, node("CONCAT", value))
+
+
+def as_index(value):
+    return written(40, named("u", node("RANGE", value)))
+
+
+def chosen(selector):
+    return node("CASE", named(selector), node("COND", named("k"), node("BLOCK")))
+
+
+def s_and_d(value):
+    return node("ADD", node("ADD", value, named("s")), named("d"))
+
+
+# The width and the sign of k, the head of its loop as above, a statement of the body, and whether Yosys and Icarus Verilog
+# have one value in it. s, d and n have signs and 8, 32 and 4 bits; u has none and 8. The variable j of another loop, of 3
+# bits, has none as well.
+UP, DOWN = ("LT 6", "ADD 1"), ("GE 0", "SUB 1")
+PLACES = (
+    ("u[k + 2], byte", 8, True, "0", *UP, as_index(k_and("ADD", "2")), True),
+    ("u[k + 2], byte", 8, True, "5", *DOWN, as_index(k_and("ADD", "2")), True),
+    ("u[~k], reg [2:0]", 3, False, "0", *UP, as_index(k_and("BIT_NOT")), False),
+    ("u[k >> 1], reg [31:0]", 32, False, "0", *UP, as_index(k_and("SHIFT_RIGHT", "1")), True),
+    ("{k}, reg [2:0]", 3, False, "0", *UP, in_braces(named("k")), False),
+    ("{k}, reg [2:0], exact", 3, False, "3'd0", "LT 6", "ADD 3'd1", in_braces(named("k")), True),
+    ("{k + s + d}, reg [2:0]", 3, False, "0", *UP, in_braces(s_and_d(named("k"))), False),
+    ("{k + s + d}, reg [2:0], exact first", 3, False, "3'd0", *UP, in_braces(s_and_d(named("k"))), True),
+    ("{k + j + s + d}, reg [2:0]", 3, False, "0", *UP, in_braces(s_and_d(k_and("ADD", "j"))), False),
+    ("{k + s}, integer, unsigned step", 32, True, "0", "LT 6", "ADD 1'd1", in_braces(k_and("ADD", "s")), False),
+    ("y4 = k + n, reg [2:0]", 3, False, "0", *UP, written(4, k_and("ADD", "n")), True),
+    ("y8 = k + n, reg [2:0]", 3, False, "0", *UP, written(8, k_and("ADD", "n")), False),
+    ("y8 = k + n, reg [2:0], exact first", 3, False, "3'd0", *UP, written(8, k_and("ADD", "n")), True),
+    ("y40 = k ^ 1, reg [31:0]", 32, False, "0", *UP, written(40, k_and("BIT_XOR", "1")), True),
+    ("y8 = k + u, signed [3:0], from 2 to 0", 4, True, "2", "GE 0", "SUB 1", written(8, k_and("ADD", "u")), True),
+    ("y8 = k + u, signed [3:0], below zero", 4, True, "2", "GT -3", "SUB 1", written(8, k_and("ADD", "u")), False),
+    ("y8 = k + s, signed [3:0], below zero", 4, True, "2", "GT -3", "SUB 1", written(8, k_and("ADD", "s")), True),
+    ("y16 = (k - u) >> 1, reg [2:0]", 3, False, "0", *UP, written(16, node("SHIFT_RIGHT", k_and("SUB", "u"), number("1"))), False),
+    ("k > s, reg [2:0]", 3, False, "1", *UP, written(1, k_and("GT", "s")), False),
+    ("k > u, reg [2:0]", 3, False, "1", *UP, written(1, k_and("GT", "u")), True),
+    ("k - 3 >= 0, reg [2:0]", 3, False, "1", *UP, written(1, node("GE", k_and("SUB", "3"), number("0"))), False),
+    ("k + 1 >= 3, reg [2:0]", 3, False, "1", *UP, written(1, node("GE", k_and("ADD", "1"), number("3"))), True),
+    ("case (n) k, reg [7:0]", 8, False, "8", "LT 10", "ADD 1", chosen("n"), False),
+    ("case (u) k, reg [7:0]", 8, False, "8", "LT 10", "ADD 1", chosen("u"), True),
+)
+
+
+def loop_of(first, condition, step, inside):
+    def side(text):
+        kind, other = text.split()
+        return node(kind, named("k"), node("NEG", number(other[1:])) if other[0] == "-" else number(other))
+
+    head = [node("ASSIGN_EQ", named("k"), it) for it in (number(first), side(step))]
+    return node("FOR", head[0], side(condition), head[1], node("BLOCK", *inside))
+
+
+def places(_, tally, __):
+    """Each expression has a line of its own."""
+    others = [variable("s", 8, True), variable("d", 32, True), variable("n", 4, True), variable("u", 8), variable("j", 3),
+              *[variable(f"y{it}", it) for it in (1, 4, 8, 16, 40)]]
+    of_j = loop_of("0", "LT 6", "ADD 1", [])
+    of_j.parts[0].parts[0] = named("j")
+    for text, width, signed, first, condition, step, inside, is_right in PLACES:
+        for it in inside.all():
+            it.place = "a.v:3.1-3.9"
+        loop = loop_of(first, condition, step, [inside])
+        scope = Scope(node("MODULE", variable("k", width, signed), *others, node("ALWAYS", loop, of_j), name="m"))
+        tally.compare(text, sorted({*loops.odd_counters(scope)}), [] if is_right else ["a.v:3"])
 
 
 def comparison(kind, width, value):
@@ -113,7 +192,25 @@ def signed_parts(_, tally, __):
         tally.compare(text, list(evaluated.signed_parts(scope)), ["a.v:7"] if matters else [])
 
 
-PARTS = {"loops": loops, "comparisons": narrow, "signed_parts": signed_parts}
+def named_registers(_, tally, __):
+    """What each register of `$past` and of an assertion is called, and lines of seven digits in names alone."""
+    wires = {"q": [2, 3], "$past$sources/x.v:9$1$0": [4, 5], "$past$sources/x.v:10$2$0": [6, 7],
+             "$past$sources/x.v:10$2$1": [8, 9], "$past$sources/x.v:10$3$0": [10], "$flatten\\u.$past$sources/x.v:2$4$0": [11],
+             "$formal$sources/x.v:9$5_CHECK": [12], "$formal$sources/x.v:9$5_EN": [13]}
+    cells = {"lab": {"connections": {"A": [12], "EN": [13]}}}
+    flat = {"m": {"netnames": {wire: {"bits": bits} for wire, bits in wires.items()}, "cells": cells}}
+    tally.compare("registers: names", registers.registers(flat, {"lab": "3"}), {
+        "$past$sources/x.v:9$1$0": "past_1", "$past$sources/x.v:10$2$0": "past_2", "$past$sources/x.v:10$2$1": "past_2_2",
+        "$past$sources/x.v:10$3$0": "past_3", "u.$past$sources/x.v:2$4$0": "u.past_1",
+        "$formal$sources/x.v:9$5_CHECK": "value_3", "$formal$sources/x.v:9$5_EN": "when_3"})
+    for line, wanted in (("  cell $add $add$sources/x.v:9$2", "  cell $add $add$sources/x.v:0000009$2"),
+                         ("    assign $0$past$sources/x.v:12$1$0[0:0]$9 \\q", "    assign $0$past$sources/x.v:0000012$1$0[0:0]$9 \\q"),
+                         ('  attribute \\src "sources/x.v:9.1-9.4"', '  attribute \\src "sources/x.v:9.1-9.4"'),
+                         ("    connect \\A \\sources/x.v:9$2", "    connect \\A \\sources/x.v:9$2")):
+        tally.compare(f"registers: {line}", registers.with_even_lines(line), wanted)
+
+
+PARTS = {"registers": named_registers, "loops": counts, "places": places, "comparisons": narrow, "signed_parts": signed_parts}
 
 if __name__ == "__main__":
     runs.main(__doc__, PARTS)

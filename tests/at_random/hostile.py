@@ -19,7 +19,7 @@ LINE = re.compile(
     rb"aig: ((circuit|certificate): (text at \d+|limit|counts|range|definition|(redefined|undefined|reset|cycle) \d+)"
     rb"|certificate: (comment|symbol [il]\d+)|strengthen: (property|limit)"
     rb"|stimulus: ((character in|length of) line \d+|unfinished|limit)"
-    rb"|bench: limit|unroll: (no frames|liveness|limit)|cnf: (no frames|property|limit)|select: property"
+    rb"|bench: limit|unroll: (no frames|liveness|limit)|cnf: (no frames|property|limit)|select: property|cuts: line \d+|cut: limit"
     rb"|proof: (text at \d+|step \d+|no refutation)"
     rb"|why: (name|frame)|witness: (text|property|limit|no run))\n"
 )
@@ -195,6 +195,8 @@ def case(runs, sources, designs, rng):
             raise Wrong("an unrolled circuit is not written back as it stands")
     runs.run(work + 5 * most, "cnf", "--frames", "3", "circuit")
     runs.run(work, "select", "--to", "aag", "--property", "0", "circuit")
+    write("cuts", broken.changed(rng, b"f 2\nr 4\nf 6\nc 0\nr 8\n"[:4 * rng.randrange(6)], lines))
+    runs.run(work, "cut", "--to", "aag", "--cuts", "cuts", "circuit")
     runs.run(work, "witness", "circuit", "rows")
     write("witness", broken.changed(rng, broken.witness(rng, width, states), rows))
     runs.replays(work)

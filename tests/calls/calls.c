@@ -39,6 +39,9 @@ static void circuits(void)
     WANT(aig_unroll(TEXT("aag 2 1 1 1 0\n2\n4 2\n4\n"), 3, false, ROOM) == AIG_DONE);
     WANT(says(room, length, "aag 3 3 0 3 0\n2\n4\n6\n0\n2\n4\n"));
     WANT(aig_unroll(OF(wraps), 0, false, ROOM) == AIG_REFUSED && begins(room, length, "unroll: "));
+    WANT(aig_cut(TEXT("aag 1 0 1 0 0 1\n2 3\n2\n"), TEXT("r 2\nf 2\n"), false, ROOM) == AIG_DONE);
+    WANT(says(room, length, "aag 2 1 1 0 0 1\n4\n2 4 2\n2\n"));
+    WANT(aig_cut(OF(wraps), TEXT("f 4\nf 3\n"), true, ROOM) == AIG_REFUSED && says(room, length, "cuts: line 2"));
     WANT(aig_strengthen(OF(ring), OF(certificate), 0, false, ROOM) == AIG_DONE && begins(room, length, "aag "));
     WANT(aig_strengthen(OF(ring), OF(certificate), 1, false, ROOM) == AIG_REFUSED);
     WANT(says(room, length, "strengthen: property"));

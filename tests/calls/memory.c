@@ -60,6 +60,7 @@ static uint8_t call(int number)
     case 16: return aig_refute_step(TEXT("aag 0 0 0 0 0 1\n0\n"), TEXT(""), TEXT(""), 1, 0, ROOM);
     case 17: return aig_refute_certified(OF(ring), OF(certificate), OF(ring_proof), 0, ROOM);
     case 18: return aig_model_witness_certified(TEXT(STUCK), TEXT(STUCK), TEXT("v 1 2 0\n"), 0, ROOM);
+    case 19: return aig_cut(OF(wraps), TEXT("f 4\nf 8\nr 6\n"), true, ROOM);
     default: exit(2);
     }
 }
@@ -77,7 +78,7 @@ int main(int count, char **words)
     fill(&ring, words[1], "ring.aag");
     fill(&certificate, words[1], "ring.cert.aag");
     fill(&ring_proof, words[1], "ring.drat");
-    for (int number = 0; number < 19; number++) {
+    for (int number = 0; number < 20; number++) {
         refused = 1;
         do {
             memset(room, 0, sizeof room);

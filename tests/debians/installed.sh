@@ -1,21 +1,32 @@
-# Installs the Debian package or the wheel of a release as README says, where nothing else is installed, and types what
-# README, FLOW and examples/README show (run_debians.sh). FLOW names a compiler, for drat2lrat alone.
-# usage: installed.sh ROOT REPOSITORY FOLDER PROGRAM package|wheel
+# Installs the Debian package or the wheel of a release by the lines of README, or the wheel by pipx as FLOW says, each
+# where nothing else is installed, and types what README, FLOW and examples/README show (run_debians.sh). FLOW names a
+# compiler, for drat2lrat alone.
+# usage: installed.sh ROOT REPOSITORY FOLDER PROGRAM package|wheel|pipx
+pages=$2
 . "$2/tests/debians/mounted.sh"
 
 inside apt-get update > /dev/null || exit 1
+echo 'APT::Get::Assume-Yes "true";' > "$root/etc/apt/apt.conf.d/90yes"
+cp -r "$root/../release" "$root/root/release"
+lines=$(sed -n '/^    apt install yosys/,/^    python3 -m venv/s/^    //p' "$pages/README.md")
 case $1 in
 package)
-    inside apt-get install -qy $(cd "$root" && echo ./folder/release/aig_*.deb) > "$root.log" 2>&1 || failed=1
+    typed=$(grep -om1 'apt install \./aig_[^`]*' "$pages/README.md")
     named=/usr/bin/aig
     ;;
 wheel)
-    inside apt-get install -qy yosys cadical iverilog python3-venv > "$root.log" 2>&1 || failed=1
-    inside sh -c 'cd /root && python3 -m venv env && env/bin/pip install -q --no-index /folder/release/aig-*.whl' || failed=1
-    named=/root/env/bin/aig path=/root/env/bin:
-    inside sh -c 'mkdir /root/demo && cd /root/demo && aig-verdicts demo; [ $? = 5 ]' || failed=1
+    typed=$lines
+    named=/root/release/env/bin/aig path=/root/release/env/bin:
+    ;;
+pipx)
+    typed=$(echo "$lines" | sed 's/python3-venv/pipx/; s/^python3 -m venv.*pip install \([^ ]*\).*/pipx install \1/')
+    named=/root/.local/bin/aig path=/root/.local/bin:
     ;;
 esac
+inside sh -ec "cd /root/release
+$typed" > "$root.log" 2>&1 || failed=1
+inside sh -c 'mkdir /root/demo && cd /root/demo && aig-verdicts demo; [ $? = 5 ]' || failed=1
+[ $1 != package ] || inside diff -r /aig/examples /usr/share/doc/aig/examples || failed=1
 inside python3 /aig/tests/tour.py "$named" || failed=1
 inside apt-get install -qy g++ >> "$root.log" 2>&1 || failed=1
 inside python3 /aig/tests/run_tools.py --part flow "$named" || failed=1

@@ -10,7 +10,7 @@ failed=0
 
 inside() {
     echo "-- $*"
-    chroot "$root" env -i HOME=/root LANG=C.UTF-8 DEBIAN_FRONTEND=noninteractive PYTHONDONTWRITEBYTECODE=1 \
+    chroot "$root" env -i HOME=/root LANG=C.UTF-8 DEBIAN_FRONTEND=noninteractive PYTHONPYCACHEPREFIX=/root/pycache \
         "PATH=${path:-}/usr/local/sbin:/usr/local/bin:/usr/sbin:/usr/bin:/sbin:/bin" "AIG_PROGRAM=${named:-$program}" \
         "AIG_TEST_SECONDS=${AIG_TEST_SECONDS:-120}" "$@"
 }

@@ -12,7 +12,7 @@ from library.runs import EXAMPLES, Ended, write
 from program.proofs import text_of
 from program.refute import RENUMBERED
 
-MEMORY = re.compile(rb"aig: ((circuit|stimulus|witness|unroll|cnf|bench|script|select|proof|step proof|model|certificate|strengthen): )?memory\n")
+MEMORY = re.compile(rb"aig: ((circuit|stimulus|witness|unroll|cnf|bench|script|select|proof|step proof|model|certificate|strengthen|cut): )?memory\n")
 TWO_GATES = [f"{EXAMPLES}/two_gates.{ending}" for ending in ("aag", "stim", "script")]
 
 # Runs of which each allocation is refused in turn.
@@ -51,6 +51,8 @@ RUNS = (
     ("cnf of a run", ["cnf", "--alive", "--frames", "3", "guarded_latch"]),
     ("refute of a run", ["refute", "--alive", "--frames", "1", "never_kept", "proof"]),
     ("select", ["select", "--to", "aag", "--property", "0", "--property", "0", "sections"]),
+    ("cut", ["cut", "--to", "aag", "--cuts", "cuts", "sections"]),
+    ("cut that renumbers", ["cut", "--to", "aig", "--cuts", "cuts", "sections"]),
     ("strengthen", ["strengthen", "--to", "aag", "--certificate", "claims", "--property", "1", "named"]),
     ("strengthen that renumbers", ["strengthen", "--to", "aig", "--certificate", "claims", "named"]),
     ("strengthen by position", ["strengthen", "--to", "aag", "--certificate", "sections", "sections"]),
@@ -153,7 +155,7 @@ def allocations(program, tally, _):
     for name, text in (("never", NEVER), ("never_kept", never_kept), ("proof", "2 3 0\n2 0\n"), ("step", "4 0\n"),
                        ("model", "-2 3 4 5 0\n"), ("named", NAMED), ("claims", CLAIMS), ("start", "-2 8 -9 10 0\n"),
                        ("no_claim", "aag 0 0 0 0 0\n"), ("never_proof", "-12 2 0\n-12 0\n4 0\n"),
-                       ("own", text_of(OWN)), ("hinted", HINTED), ("long_hinted", LONG_HINTED)):
+                       ("cuts", "f 4\nf 6\nr 4\nc 0\n"), ("own", text_of(OWN)), ("hinted", HINTED), ("long_hinted", LONG_HINTED)):
         write(name, text)
     for name, words in RUNS:
         each(beneath, tally, name, words)

@@ -21,6 +21,7 @@ KEPT = b"aag 1 0 1 0 0 1\n2 2\n2\n"
 CLAIM, WRONG_CLAIM = b"aag 1 1 0 0 0 1\n2\n2\ni0 = 2\n", b"aag 1 1 0 0 0 1\n2\n2\ni0 = 3\n"
 NO_SUCH = b"aag 1 1 0 0 0\n2\ni0 = 4\n"
 STRENGTHENED = b"aag 2 0 1 2 1 1\n2 2\n2\n2\n5\n4 3 3\n"
+CUT = b"aag 4 3 0 1 1\n2\n4\n8\n6\n6 8 1\n"
 INDUCTION = (b"c aig cnf --certificate --property 0 \nc l 2 0 \nc b -3 0\nc b -4 1\np cnf 4 9\n-1 0\n-3 -4 0\n3 -2 0\n"
              b"-3 -2 0\n-3 -2 0\n3 2 2 0\n-4 -2 0\n-4 -2 0\n4 2 2 0\n")
 
@@ -86,6 +87,8 @@ RUNS = (
     ("select --to aag --property 0", [("circuit", SECTIONS)], "output", 0, b"",
      [b"aag 3 1 1 0 1 1 1\n2\n4 6 4\n6\n4\n6 4 2\ni0 in\nl0 state\nc\nhi\n"]),
     ("select --to aag --property 1", [("circuit", SECTIONS)], "output", 1, b"aig: select: property\n", [b""]),
+    ("cut --to aag --cuts cuts", [("cuts", b"f 6\n"), ("circuit", ONE_GATE)], "output", 0, b"", [CUT]),
+    ("cut --to aag --cuts cuts", [("cuts", b"r 6\n"), ("circuit", ONE_GATE)], "output", 1, b"aig: cuts: line 1\n", [b""]),
     ("info --names", [("circuit", SECTIONS)], "output", 0, b"",
      [b"i 0 2 in\nl 0 4 state\no 0 6 \nb 0 6 \nc 0 4 \nj 0 - \nf 0 4 \n"]),
     ("info --names", [("circuit", CYCLE)], "output", 1, b"aig: circuit: cycle 2\n", [b""]),

@@ -2,7 +2,7 @@
 in turn: they are as they were and the new ones are gone, except that the circuit's has its name where the second file
 does not get its own. Runs are killed before each of their calls: each file has its old text or the whole new one, and a
 new one that is left makes the next run fail. A run that is killed while it waits for its script leaves none. Runs are
-stopped before each of their calls: a program that opens a new file there never sees a text that others may not read."""
+stopped before each of their calls: a new file for a file that others may not read is never open to them."""
 
 import contextlib
 import os
@@ -64,16 +64,16 @@ MAPPED = Case("a map", ("unroll", "--frames", "1", "--to", "aag", "--map", "rows
 
 # The calls of a run, how many there are, and how many of them come before its work; a write moves one byte.
 CALLS = (
-    (OVER, "file", len(NEW_DESIGN) + len(NEW_ROWS), 0), (OVER, "fsync", 2, 0), (OVER, "fchmod", 2, 0),
-    (OVER, "rename", 2, 0), (OVER, "statx", 16, 12), (LINKED, "realpath", 2, 2), (LINKED, "statx", 16, 12),
-    (FRESH, "file", len(NEW_DESIGN) + len(NEW_ROWS), 0), (FRESH, "fsync", 2, 0), (FRESH, "fchmod", 2, 0),
-    (FRESH, "rename", 2, 0), (FRESH, "statx", 14, 7), (MAPPED, "file", len(MAP), 0), (MAPPED, "fsync", 1, 0),
-    (MAPPED, "fchmod", 1, 0), (MAPPED, "rename", 1, 0),
+    (OVER, "file", len(NEW_DESIGN) + len(NEW_ROWS), 0), (OVER, "fsync", 2, 0), (OVER, "fchmod", 4, 2),
+    (OVER, "rename", 2, 0), (OVER, "statx", 14, 12), (LINKED, "realpath", 2, 2), (LINKED, "statx", 14, 12),
+    (FRESH, "file", len(NEW_DESIGN) + len(NEW_ROWS), 0), (FRESH, "fsync", 2, 0), (FRESH, "rename", 2, 0),
+    (FRESH, "statx", 10, 8), (MAPPED, "file", len(MAP), 0), (MAPPED, "fsync", 1, 0), (MAPPED, "fchmod", 2, 1),
+    (MAPPED, "rename", 1, 0),
 )
 
 
-# The calls that fail once the circuit's file has its name: the second rename, and the look whether its name is free.
-HALF_DONE = ((OVER, "rename", 2), (FRESH, "rename", 2), (FRESH, "statx", 14))
+# The calls that fail once the circuit's file has its name.
+HALF_DONE = ((OVER, "rename", 2), (FRESH, "rename", 2))
 
 
 def kept(program, tally, _):
@@ -93,7 +93,7 @@ def kept(program, tally, _):
     for case in (OVER, FRESH):
         asleep(beneath, tally, case)
         meanwhile(beneath, tally, case)
-        stops(beneath, tally, case)
+    stops(beneath, tally)
 
 
 def fails(beneath, tally, case, call, most, early):
@@ -112,10 +112,9 @@ def fails(beneath, tally, case, call, most, early):
 
 def opens(beneath, tally):
     """Descriptors are held by a folder where there is no device. Then come the files that are read, those that are
-    written, and the new ones: twice where their permissions are found out first. After the script the new ones come
-    again."""
-    for case, late in ((OVER, 2), (FRESH, 4)):
-        parts = [None] * 3 + ["circuit", "stimulus", "script"] + ["output"] * (4 + late)
+    replaced, and the new ones. After the script the new ones come again."""
+    for case, early, late in ((OVER, 4, 2), (FRESH, 2, 2)):
+        parts = [None] * 3 + ["circuit", "stimulus", "script"] + ["output"] * (early + late)
         case.prepare()
         tally.compare(f"kept: {case.name}, open, how many", beneath.counted(*case.words, CALL="open"),
                       (case.done, len(parts)))
@@ -128,13 +127,13 @@ def opens(beneath, tally):
 
 
 def looks(beneath, tally):
-    """A circuit that cannot be looked at is one that cannot be read; then come looks at the map, the last two when the
+    """A circuit that cannot be looked at is one that cannot be read; then come looks at the map, the last one when the
     circuit is written."""
-    parts = ["circuit"] + ["output"] * 8
+    parts = ["circuit"] + ["output"] * 7
     for number, part in enumerate(parts, 1):
         MAPPED.prepare()
         ended = beneath.run(*MAPPED.words, CALL="statx", REFUSE=number)
-        out = UNROLLED if number > len(parts) - 2 else b""
+        out = UNROLLED if number > len(parts) - 1 else b""
         tally.compare(f"kept: a map, statx {number} fails", (ended, MAPPED.left()),
                       (input_or_output(part, out), (MAPPED.old, [])))
 
@@ -151,18 +150,16 @@ def closes(beneath, tally):
 
 
 def removals(beneath, tally):
-    """A new file that cannot be removed stays, and the run fails: the file could not be created again. Each file is
-    removed before the script, and a file that is new has an empty one before it each time."""
-    for case, most, early in ((OVER, 2, 2), (FRESH, 6, 4)):
+    """A new file that cannot be removed before the script stays, and the run fails: it could not be created again."""
+    for case in (OVER, FRESH):
         case.prepare()
         tally.compare(f"kept: {case.name}, unlink, how many", beneath.counted(*case.words, CALL="unlink"),
-                      (case.done, most))
-        for number in range(1, most + 1):
+                      (case.done, 2))
+        for number, name in enumerate(case.names, 1):
             case.prepare()
             ended = beneath.run(*case.words, CALL="unlink", REFUSE=number)
             tally.compare(f"kept: {case.name}, unlink {number} fails", (ended, case.left()),
-                          (NOT_BEGUN if number <= early else case.failed,
-                           (case.old, [f"{case.names[(number - 1) % 2]}.new"])))
+                          (NOT_BEGUN, (case.old, [f"{name}.new"])))
 
 
 def owners(beneath, tally):
@@ -226,9 +223,7 @@ def kills(beneath, tally, case):
                     all(file in texts for file, *texts in zip(files, case.old, case.new)), files)
         for file in new:
             text = case.new[case.names.index(file[:-4])]
-            is_private = os.stat(file).st_mode & 0o77 == 0
-            tally.check(f"{name}, {file}", text.startswith(contents(file)) and
-                        (is_private or contents(file) in (b"", text)), contents(file))
+            tally.check(f"{name}, {file}", text.startswith(contents(file)), contents(file))
         seen.add((tuple(changed), tuple(contents(file) == case.new[case.names.index(file[:-4])] for file in new)))
         if new:
             tally.compare(f"{name}, the next run", (beneath.run(*case.words), case.left()), (NOT_BEGUN, (files, new)))
@@ -259,7 +254,7 @@ def asleep(beneath, tally, case):
 
 def meanwhile(beneath, tally, case):
     """Files that another program makes while the script runs stay, and the run fails."""
-    for name in [f"{name}.new" for name in case.names] + ([case.names[0]] if case is FRESH else []):
+    for name in [f"{name}.new" for name in case.names] + (case.names if case is FRESH else []):
         with waiting(beneath, case) as (run, reply):
             write(name, b"mine")
             out, err = run.communicate(b"+ 0x\n")
@@ -269,28 +264,23 @@ def meanwhile(beneath, tally, case):
         tally.compare(f"kept: {case.name}, {name} is made meanwhile, the files", case.left(), (case.old, []))
 
 
-def stops(beneath, tally, case):
-    """The first file is not for others where it is there, and for all where it is new."""
-    for number in range(1, calls_of(beneath, case) + 1):
-        case.prepare()
-        if case.old[0] is not None:
-            os.chmod(case.names[0], 0o640)
-        held = []
+def stops(beneath, tally):
+    """Where the file is not for others, neither is the new one at any moment."""
+    for number in range(1, calls_of(beneath, OVER) + 1):
+        OVER.prepare()
+        os.chmod(OVER.names[0], 0o640)
+        modes = []
 
-        def look(held=held):
-            name = f"{case.names[0]}.new"
-            if os.path.exists(name) and os.stat(name).st_mode & 0o7 and contents(name) != case.new[0]:
-                held.append(open(name, "rb"))
+        def look(modes=modes):
+            name = f"{OVER.names[0]}.new"
+            if os.path.exists(name):
+                modes.append(os.stat(name).st_mode & 0o7)
 
-        ended = stopped(beneath, case, number, look)
-        tally.compare(f"kept: {case.name}, stopped before call {number}", (ended, case.left()),
-                      (case.done, (case.new, [])))
-        for file in held:
-            tally.compare(f"kept: {case.name}, opened before call {number}", file.read(), b"")
-            file.close()
-        if case.old[0] is not None:
-            tally.compare(f"kept: {case.name}, open to others before call {number}", len(held), 0)
-            os.chmod(case.names[0], 0o644)
+        ended = stopped(beneath, OVER, number, look)
+        tally.compare(f"kept: {OVER.name}, stopped before call {number}", (ended, OVER.left()),
+                      (OVER.done, (OVER.new, [])))
+        tally.compare(f"kept: {OVER.name}, open to others before call {number}", any(modes), False)
+        os.chmod(OVER.names[0], 0o644)
 
 
 def stopped(beneath, case, number, look):

@@ -25,6 +25,7 @@ WIDE = (
     ["info", "wide"],
     ["info", "--names", "wide"],
     ["select", "--to", "aig", "--from", "outputs", "wide"],
+    ["cut", "--to", "aig", "--cuts", "wide_cuts", "wide"],
     ["sim", "wide", "wide_rows"],
     ["wave", "wide", "wide_rows"],
     ["bench", "wide", "wide_rows", "wide_script"],
@@ -69,6 +70,7 @@ def write_wide(rng, size):
     def row():
         return "".join(rng.choice("01") for _ in range(size))
 
+    write("wide_cuts", "".join(f"f {rng.randrange(2 * size + 2, 2 * most + 1, 2)}\n" for _ in range(size)))
     write("wide_rows", "".join(f"{row()}\n" for _ in range(8)))
     edits = "".join(f"w {rng.randrange(4 * size + 2, 2 * most + 1, 2)} {rng.randrange(2 * size)} {rng.randrange(2 * size)}\n"
                     for _ in range(500))

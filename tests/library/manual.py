@@ -152,7 +152,7 @@ def aig_page(ask, version):
     text += ".SH FILES\n" + entries(FILES)
     markdown = Markdown({"FORMATS.md": "\\fBaig\\-formats\\fP(5)"})
     behaviour = sections(document("BEHAVIOUR.md"))
-    for name in ("Pipes, full devices and closed outputs", "Progress and terminals", "What a run needs", "Limits"):
+    for name in ("Pipes, full devices and closed outputs", "Terminals", "What a run needs", "Limits"):
         text += f".SH {name.upper()}\n" + markdown.page(behaviour[name])
     text += ".SH EXAMPLES\nThese commands use files of the folder\n.BR examples ,\nwhich comes with the program.\n"
     for one in each.values():

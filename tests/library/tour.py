@@ -17,10 +17,11 @@ SOURCE = f"{REPOSITORY}/python/src"
 
 def steps(document="README.md"):
     """Yields the commands of a document, each with the output that it shows. A command goes on after a line that ends with
-    a backslash."""
+    a backslash, and up to the line `END` of a text that it reads (`<< 'END'`)."""
     text = contents(f"{REPOSITORY}/{document}").decode()
-    for command, output in re.findall(r"(?m)^    \$ ((?:.*\\\n)*.*)\n((?:    (?!\$ ).*\n)*)", text):
-        yield command, re.sub(r"(?m)^    ", "", output)
+    command = r".*<< 'END'\n(?:    .*\n)*?    END|(?:.*\\\n)*.*"
+    for found in re.findall(rf"(?m)^    \$ ({command})\n((?:    (?!\$ ).*\n)*)", text):
+        yield tuple(re.sub(r"(?m)^    ", "", it) for it in found)
 
 
 def take(program, examples, tally, prints=False):

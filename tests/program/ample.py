@@ -20,6 +20,7 @@ RUNS = {
     "cnf": ("--frames 3 CIRCUIT", b"p cnf "),
     "info": ("CIRCUIT", b"gates "),
     "select": ("--property 0 --to aag CIRCUIT", b"aag "),
+    "cut": ("--to aag --cuts CUTS CIRCUIT", b"aag "),
     "witness": ("CIRCUIT ROWS", b"1\nb0\n"),
     "refute": ("--frames 3 CIRCUIT PROOF", b"unreachable within 3\n"),
     "reduce": ("CIRCUIT WITNESS", b"1\nb0\n"),
@@ -34,6 +35,7 @@ MORE = (
     ("why", "--of 1 CIRCUIT ROWS", b"1=1 at "),
     ("check", "--trace CIRCUIT WITNESS", b"confirmed\n"), ("cnf", "--step --frames 3 CIRCUIT", b"p cnf "),
     ("info", "--names CIRCUIT", b"b 0 "), ("strengthen", "--to aig --certificate CERTIFICATE CIRCUIT", b"aig "),
+    ("cut", "--to aig --cuts CUTS CIRCUIT", b"aig "),
     ("cnf", "--certificate CERTIFICATE CIRCUIT", b"p cnf "),
     ("refute", "--certificate NEVER NEVER PROOF", b"unreachable\n"),
     ("witness", "--certificate CERTIFICATE --model MODEL CIRCUIT", b"1\nb0\n"),
@@ -63,15 +65,16 @@ def ample(program, tally, _):
     write("witness", f"1\nb0\n000\n{row * 4}.\n")
     write("script", f"s 0 0 0\n+ {row}-\nt\ng 2 4\nu\n")
     write("proof", "")
+    write("cuts", "".join(f"f {2 * at}\n" for at in range(WIDTH + 1, WIDTH + GATES)) + "r 402\n")
     # A copy as the certificate, and a model in which the last latch is 1: all inputs of two frames come before the latches.
     write("model", f"{2 * WIDTH + 4} 0\n")
     write("never", large(bad=0))
     files = {"CIRCUIT": "large", "ROWS": "rows", "WITNESS": "witness", "SCRIPT": "script", "PROOF": "proof",
-             "CERTIFICATE": "large", "MODEL": "model", "NEVER": "never"}
+             "CERTIFICATE": "large", "CUTS": "cuts", "MODEL": "model", "NEVER": "never"}
     wraps = f"{EXAMPLES}/wraps"
     small = {"CIRCUIT": f"{wraps}.aag", "ROWS": f"{wraps}.stim", "WITNESS": f"{wraps}.wit",
              "SCRIPT": write("edits", "t\nu\ng 2 4\ns 0 0 1\n"), "PROOF": f"{wraps}.drat",
-             "CERTIFICATE": f"{wraps}.aag", "MODEL": write("values", "2 4 5 0\n"),
+             "CERTIFICATE": f"{wraps}.aag", "CUTS": f"{wraps}.cuts", "MODEL": write("values", "2 4 5 0\n"),
              "NEVER": write("constant", "aag 0 0 0 0 0 1\n0\n")}
     for command, words, said in [*((name, *run) for name, run in RUNS.items()), *MORE]:
         for names in (small, files):

@@ -134,11 +134,11 @@ def places(keeping):
     one = ("--circuit-out", "one", "--stimulus-out", "./one")
     keeping.row("one file for both", one, NOT_BEGUN, {"one": None})
     keeping.row("one file for both, which is there", one, NOT_BEGUN, {"one": b"old"}, (("one", b"old"), ))
-    for name, link in (("a link", os.symlink), ("a second name", os.link)):
+    for name, link, wanted, files in (("a link", os.symlink, NOT_BEGUN, {"other": b"old", "one": b"old"}),
+                                      ("a second name", os.link, DONE, {"other": NEW_ROWS, "one": NEW_CIRCUIT})):
         write("one", b"old")
         link("one", "other")
-        keeping.row(f"one file for both, by {name}", ("--circuit-out", "one", "--stimulus-out", "other"), NOT_BEGUN,
-                    {"other": b"old", "one": b"old"})
+        keeping.row(f"one file for both, by {name}", ("--circuit-out", "one", "--stimulus-out", "other"), wanted, files)
     keeping.row("a file that the other's new one would replace", ("--circuit-out", "a.new", "--stimulus-out", "a"),
                 NOT_BEGUN, {"a": None, "a.new": None, "a.new.new": None})
     beside = ("--circuit-out", "a", "--stimulus-out", "a.new")
@@ -150,16 +150,16 @@ def places(keeping):
 
 
 def names(keeping):
-    """Names that are long, and folders that have no text for a name or may not be searched."""
+    """Names that are long (`.new` has to fit), and folders that have no text for a name or may not be searched."""
     for name in ("n" * 251, "n" * 252, "n" * 255, "n" * 251 + ".new", "\u00e9" * 126, "n" + "\u00e9" * 127):
         for before in ((), ((name, b"old"), )):
             title = f"a name of {len(name.encode())} bytes, {name[:1]}..{name[-4:]}"
-            here = os.path.basename(os.getcwd())
+            here, is_short = os.path.basename(os.getcwd()), len(name.encode()) <= 251
             for path in (name, f"../{here}/{name}", os.path.abspath(name)):
-                keeping.row(title, ("--circuit-out", path), DONE, {name: NEW_CIRCUIT}, before)
-    for name, shorter in (("n" * 252, "n" * 247), ("\u00e9" * 126, "\u00e9" * 123), ("n" * 251, "n" * 251)):
-        keeping.row(f"the new file of a name of {len(name.encode())} bytes is there", ("--stimulus-out", name),
-                    NOT_BEGUN, {name: b"old", f"{shorter}.new": b"mine"}, ((name, b"old"), (f"{shorter}.new", b"mine")))
+                keeping.row(title, ("--circuit-out", path), DONE if is_short else NOT_BEGUN,
+                            {name: NEW_CIRCUIT if is_short else dict(before).get(name)}, before)
+    keeping.row("the new file of a name of 251 bytes is there", ("--stimulus-out", "n" * 251), NOT_BEGUN,
+                {"n" * 251: b"old", "n" * 251 + ".new": b"mine"}, (("n" * 251, b"old"), ("n" * 251 + ".new", b"mine")))
     with folder(keeping, b"caf\xe9"):
         for before in ((), (("new_circuit", b"old"), )):
             keeping.row("below a folder whose name is no text", BOTH, DONE,

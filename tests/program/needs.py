@@ -27,6 +27,7 @@ RUNS = (
     ["cnf", "--frames", "3", "examples/wraps.aag"],
     ["witness", "examples/wraps.aag", "examples/wraps.stim"],
     ["select", "--to", "aig", "--from", "outputs", "examples/counter.aag"],
+    ["cut", "--to", "aig", "--cuts", "examples/wraps.cuts", "examples/wraps.aag"],
     ["refute", "--frames", "3", "examples/wraps.aag", "examples/wraps.drat"],
     ["reduce", "examples/wraps.aag", "examples/wraps.wit"],
     ["why", "--witness", "examples/wraps.aag", "examples/wraps.wit"],

@@ -2,7 +2,6 @@
 it, whether it is a file, a pipe or a terminal. A device that keeps nothing may be both."""
 
 import os
-import stat
 
 from library.circuits import write_all
 from library.explained import Explained
@@ -29,7 +28,6 @@ def same_files(program, tally, _):
     os.mkdir("folder")
     os.symlink(".", "link")
     twice(program, tally)
-    pipes_twice(program, tally)
     sessions(program, tally)
     runs(program, tally)
 
@@ -57,14 +55,6 @@ def twice(program, tally):
                   (Ended(0, b"", b""), ["new", "new"]))
     os.remove("new")
     os.remove("folder/new")
-
-
-def pipes_twice(program, tally):
-    os.mkfifo("pipe")
-    ended = program.run("bench", "--circuit-out", "pipe", "--stimulus-out", "./pipe", "two_gates", "rows", "script")
-    tally.compare("same_files: a pipe that is named twice", (ended, stat.S_ISFIFO(os.stat("pipe").st_mode)),
-                  (input_or_output("output"), True))
-    os.remove("pipe")
 
 
 def answers(lines):

@@ -17,7 +17,8 @@ CIRCUIT = (b"aag 3 1 1 1 1 1\n2\n4 6 4\n6\n6\n6 4 2\ni0 " + BYTES + b"\nl0 \x1b[
 # Runs that write names, comments or the binary format.
 RUNS = ("info --names named", "info named", "toaig --to aag named", "toaig --to aig named", "cnf --frames 2 named",
         "wave named rows", "unroll --frames 2 --to aag named", "select --to aig named", "sim named rows",
-        "bench named rows script", "strengthen --to aag --certificate named named",
+        "bench named rows script", "cut --to aag --cuts cuts named", "cut --to aag --cuts named named",
+        "strengthen --to aag --certificate named named",
         "strengthen --to aig --certificate named named", "cnf --certificate named named", "info missing")
 
 # Runs that write another text to the file OUT.
@@ -33,6 +34,7 @@ def terminals(program, tally, _):
     write("named", CIRCUIT)
     write("rows", "1\n0\n")
     write("script", "u\nt\n")
+    write("cuts", "f 4\nc 0\n")
     for words in RUNS:
         plain = program.run(*words.split(" "))
         with Terminal() as terminal:

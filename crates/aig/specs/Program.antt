@@ -13,9 +13,8 @@ use Rattle.aig_files.specs.declared.exit.Exit.{Exit}
 use Rattle.aig_files.specs.declared.source.Source.{Source}
 use Rattle.aig_program.specs.Arguments.{IsUnparsed}
 use Rattle.aig_program.specs.Choice.{Chooses}
-use Rattle.aig_program.specs.Commands.{EndsAsMeant}
+use Rattle.aig_program.specs.Commands.{EndsAsMeant, MeansGood}
 use Rattle.aig_program.specs.Ends.{Seen}
-use Rattle.aig_program.specs.GoodEnds.{MeansGood}
 use Rattle.aig_program.specs.declared.chosen.Chosen.{Chosen}
 use Rattle.aig_program.specs.declared.chosen.Chosen.TheVariants as chosen
 use Rattle.aig.specs.Sessions.{EndsSession}

@@ -8,8 +8,7 @@ ghost use Rattle.aig.specs.Program.{EndsAsOpened, Runs, RunsAsMeant, status_of_e
 mod sessions;
 
 use aig_base::Write;
-use aig_cli::has_general_flag;
-use aig_files::{Exit, Terminal, Terminals, output, reserve};
+use aig_files::{Exit, Terminals, output, reserve};
 use aig_program::arguments::{self, parsed};
 use aig_program::{Chosen, command_for};
 use clap::ArgMatches;
@@ -19,13 +18,11 @@ use std::fs::Files;
 use std::io::{self, IsTerminal, Read};
 use std::os::fd::AsFd;
 use std::process::ExitCode;
-use std::time::Clock;
 
 fn main(rt: HostRuntime) -> ExitCode {
     let terminals = Terminals {
         input: rt.stdin().is_terminal(),
         output: rt.stdout().is_terminal(),
-        error: rt.stderr().is_terminal(),
     };
     ExitCode::from(status_of(run(&rt, terminals)))
 }
@@ -42,7 +39,7 @@ fn status_of(done: Result<(), Exit>) -> u8
 }
 
 /// Runs what the arguments ask for. If that fails, the reason is printed already.
-fn run<R: Env + Files + AllocGlobal + Print + Eprint + Clock + Input>(
+fn run<R: Env + Files + AllocGlobal + Print + Eprint + Input>(
     rt: &R,
     terminals: Terminals,
 ) -> Result<(), Exit>
@@ -55,7 +52,7 @@ where
 }
 
 /// The same for the arguments that the system gave.
-fn run_given<R: Env + Files + AllocGlobal + Print + Eprint + Clock + Input>(
+fn run_given<R: Env + Files + AllocGlobal + Print + Eprint + Input>(
     rt: &R,
     terminals: Terminals,
     given: io::Result<Args>,
@@ -68,7 +65,7 @@ where
     run_words(rt, terminals, words.as_slice())
 }
 
-fn run_words<R: Env + Files + AllocGlobal + Print + Eprint + Clock + Input>(
+fn run_words<R: Env + Files + AllocGlobal + Print + Eprint + Input>(
     rt: &R,
     terminals: Terminals,
     words: &[String],
@@ -81,8 +78,8 @@ where
     reported(rt, run_command(rt, terminals, &matches))
 }
 
-/// Runs the command that the arguments choose. The line that says how far it is is gone afterwards.
-fn run_command<R: Files + AllocGlobal + Print + Eprint + Clock + Input>(
+/// Runs the command that the arguments choose.
+fn run_command<R: Files + AllocGlobal + Print + Eprint + Input>(
     rt: &R,
     terminals: Terminals,
     matches: &ArgMatches<'_>,
@@ -91,27 +88,14 @@ where
     R::File: AsFd,
     ensures ends { RunsAsMeant R.File.remaining matches.now result }
 {
-    let terminal = Terminal::begin(rt, terminals, has_general_flag(matches, "progress"));
-    let done = run_on(&terminal, matches);
-    terminal.end();
-    done
-}
-
-fn run_on<'t, R: Files + AllocGlobal + Print + Eprint + Clock + Input>(
-    terminal: &'t Terminal<'t, R>,
-    matches: &'t ArgMatches<'_>,
-) -> Result<(), Exit>
-where
-    R::File: AsFd,
-    ensures ends { RunsAsMeant R.File.remaining matches.now result }
-{
-    let mut out = output(terminal, io::writer(terminal.runtime()));
-    run_opened(terminal, command_for(terminal, matches), &mut out)
+    let mut out = output(terminals, io::writer(rt));
+    run_opened(rt, terminals, command_for(rt, matches), &mut out)
 }
 
 /// Runs what was opened: a command or a session, if one was.
-fn run_opened<R: Files + AllocGlobal + Print + Eprint + Clock + Input, F: Read + Drop, W: Write>(
-    terminal: &Terminal<'_, R>,
+fn run_opened<R: Files + AllocGlobal + Print + Eprint + Input, F: Read + Drop, W: Write>(
+    rt: &R,
+    terminals: Terminals,
     opened: Result<Chosen<'_, F>, Exit>,
     out: &mut W,
 ) -> Result<(), Exit>
@@ -120,8 +104,8 @@ where
     ensures ends { EndsAsOpened (seen W.written W.failures out.old out.new) F.remaining opened.entry result }
 {
     match opened {
-        Ok(Chosen::Command(command)) => command.run(terminal, out),
-        Ok(Chosen::Session(session)) => shell(terminal, session, out),
+        Ok(Chosen::Command(command)) => command.run(rt, out),
+        Ok(Chosen::Session(session)) => shell(rt, terminals, session, out),
         Err(exit) => Err(exit),
     }
 }

@@ -4,9 +4,9 @@ ghost use Rattle.aig_program.specs.Ends.{Ends, end_of, seen};
 ghost use Rattle.aig.specs.Sessions.{EndsSession, HoldsSession};
 
 use aig_base::{Std, Write};
-use aig_command::{Given, RunFault};
-use aig_files::{Exit, Kept, Part, Terminal, Unwritten, read_whole};
-use aig_program::command::Shell;
+use aig_command::RunFault;
+use aig_files::{Exit, Kept, Part, Terminals, Unwritten, read_whole};
+use aig_program::commands::shell::Shell;
 use aig_program::ended::ended;
 use aig_program::{Failure, keep_texts, read_given_file, text_of_given};
 use aig_shell::{FileText, Keep, Opening, Reason, Unkept, run_shell};
@@ -14,7 +14,6 @@ use std::fs::Files;
 use std::io::{ErrorKind, Read};
 use std::os::fd::AsFd;
 use std::str;
-use std::time::Clock;
 
 /// Files that a session writes.
 #[derive(Drop)]
@@ -94,8 +93,9 @@ where
 }
 
 /// Answers the lines of standard input, about the circuit and the run of these files.
-pub fn shell<R: Files + AllocGlobal + Print + Eprint + Clock + Input, F: Read + Drop, W: Write>(
-    terminal: &Terminal<'_, R>,
+pub fn shell<R: Files + AllocGlobal + Input, F: Read + Drop, W: Write>(
+    rt: &R,
+    terminals: Terminals,
     it: Shell<F>,
     out: &mut W,
 ) -> Result<(), Exit>
@@ -103,36 +103,31 @@ where
     R::File: AsFd,
     ensures ends { EndsSession (seen W.written W.failures out.old out.new) F.remaining it.circuit it.given result }
 {
-    let circuit = read_whole(terminal.alloc(), it.circuit, Part::Circuit)?;
-    let given = read_given_file(terminal.alloc(), it.given)?;
+    let circuit = read_whole(rt.alloc(), it.circuit, Part::Circuit)?;
+    let given = read_given_file(rt.alloc(), it.given)?;
     let file = circuit.as_slice();
     let run = text_of_given(&given);
-    answer(terminal, file, run, out)
+    let opening = Opening {
+        circuit: file,
+        given: run,
+        has_prompt: terminals.input,
+    };
+    answer(rt, opening, out)
 }
 
 /// Answers the lines.
-fn answer<R: Files + AllocGlobal + Print + Eprint + Clock + Input, W: Write>(
-    terminal: &Terminal<'_, R>,
-    circuit: &[u8],
-    given: Given<&[u8]>,
+fn answer<R: Files + AllocGlobal + Input, W: Write>(
+    rt: &R,
+    opening: Opening<'_>,
     out: &mut W,
 ) -> Result<(), Exit>
 where
     R::File: AsFd,
     ensures { Ends (seen W.written W.failures out.old out.new) RunFault.Shell end_of
-        (HoldsSession circuit.now (given_text given.entry)) result }
+        (HoldsSession opening.entry.circuit.now (given_text opening.entry.given)) result }
 {
-    // The line that says how far a run is would stand between a person's lines.
-    terminal.end();
-    let mut files = SessionFiles {
-        rt: terminal.runtime(),
-    };
-    let mut lines = Std::new(terminal.runtime().reader());
-    let opening = Opening {
-        circuit,
-        given,
-        has_prompt: terminal.has_person(),
-    };
-    let done = run_shell(terminal.alloc(), opening, &mut files, &mut lines, out);
+    let mut files = SessionFiles { rt };
+    let mut lines = Std::new(rt.reader());
+    let done = run_shell(rt.alloc(), opening, &mut files, &mut lines, out);
     ended(done, out, RunFault::Shell)
 }

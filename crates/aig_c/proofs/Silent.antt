@@ -18,6 +18,7 @@ use Rattle.aig_commands.specs.AliveWitness.{WritesAliveModel, WritesKept}
 use Rattle.aig_commands.specs.Certified.{OfCertified}
 use Rattle.aig_commands.specs.Check.{Checks, RefusesWitness}
 use Rattle.aig_commands.specs.Cnf.{WritesAsked}
+use Rattle.aig_commands.specs.Cut.{WritesCut}
 use Rattle.aig_commands.specs.Info.{ListsFacts}
 use Rattle.aig_commands.specs.ModelWitness.{WritesModel, WritesNamed, names, no_formula, no_model}
 use Rattle.aig_commands.specs.Names.{ListsNames}
@@ -65,6 +66,11 @@ module _ (Means : Raw → Result (Unit {0}) RunFault → List ℕ → Type 0) (s
 pub converts : (to : Format) (raw : Raw) → Silent (Converts to raw)
 converts to raw run_faults.Memory bytes m = m.1
 converts to raw fault bytes m = absurd m
+
+pub cuts : (text : List ℕ) (to : Format) (raw : Raw) → Silent (WritesCut text to raw)
+cuts text to raw (run_faults.Cut fault) bytes m = m.1
+cuts text to raw run_faults.Memory bytes m = m.2.1
+cuts text to raw fault bytes m = absurd m.2
 
 pub facts : (file : Option (List ℕ)) (raw : Raw) → Silent (ListsFacts file raw)
 facts file raw run_faults.Memory bytes m = m

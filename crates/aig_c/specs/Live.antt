@@ -1,7 +1,7 @@
 -- What a call on a bench that C holds answers. There may be no bench.
 -- Example: 6 at frame 3 of a bench with one frame, and 255 after `aig_live_close`; the edits `set 0 0 1` and `set 9 0 1`
 -- of that bench: one is done, and then 6.
-use Rattle.std.specs.Prelude.{◌≡◌, ◌≢◌, ℕ, ◌+◌, List, length, min, slice_get}
+use Rattle.std.specs.Prelude.{◌≡◌, ◌≢◌, ◌≤◌, ℕ, ◌+◌, List, length, min, slice_get}
 use Rattle.std.specs.Prelude.{Option, Some, None, Bool, true, false, Result, Ok, Err}
 use Prim.Native.Nat.{zero, suc}
 use Rattle.std.specs.Global.{Global}
@@ -167,6 +167,10 @@ abbrev pub HasRow : ℕ → List ℕ → List ℕ → BenchState → Type 0
 HasRow t literals values state =
     (i l value : ℕ) → slice_get literals i ≡ Some l → slice_get values i ≡ Some value
     → CellValue state.pair t l value
+
+-- from a place on all values are as they were
+abbrev pub IsKeptFrom : ℕ → List ℕ → List ℕ → Type 0
+IsKeptFrom n old new = (i : ℕ) → n ≤ i → slice_get new i ≡ slice_get old i
 
 -- the sizes of a bench
 pub record HasSizes (sizes : AigSizes) (state : BenchState) : Type 0 where

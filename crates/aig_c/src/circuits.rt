@@ -1,7 +1,8 @@
-//! Circuits: conversion, facts and names, unrolled and strengthened circuits.
+//! Circuits: conversion, facts and names; cut, unrolled and strengthened circuits.
 ghost use Rattle.std.specs.Prelude.{◌≡◌, ◌<◌, ◌≤◌, Ok, Some, length, take};
 ghost use Rattle.aig_command.specs.Command.{OfFile};
 ghost use Rattle.aig_commands.specs.Certified.{OfCertified};
+ghost use Rattle.aig_commands.specs.Cut.{WritesCut};
 ghost use Rattle.aig_commands.specs.Info.{ListsFacts};
 ghost use Rattle.aig_commands.specs.Names.{ListsNames};
 ghost use Rattle.aig_commands.specs.Toaig.{Converts};
@@ -12,6 +13,7 @@ ghost use Rattle.aig_c.specs.Answers.{Exceeds, Refuses, format_of};
 use crate::answer::{NO_MEMORY, answer, format, refuse, writer};
 use aig_base::MemReader;
 use aig_commands::certified::Certified;
+use aig_commands::cut::cut;
 use aig_commands::info::{info, info_names};
 use aig_commands::strengthen::strengthen;
 use aig_commands::{convert, unroll_bytes};
@@ -87,6 +89,35 @@ pub extern "C" fn aig_names(
     };
     let mut reader = MemReader::new(circuit);
     match info_names(alloc, &mut reader, &mut out) {
+        Ok(()) => answer(out.bytes(), room, written),
+        Err(fault) => refuse(alloc, fault, out.bytes(), room, written),
+    }
+}
+
+/// Cuts from a circuit the parts that a text names, as text or in the binary format.
+#[unsafe(no_mangle)]
+pub extern "C" fn aig_cut(
+    alloc: Global,
+    circuit: &[u8],
+    cuts: &[u8],
+    binary: bool,
+    room: &mut [u8],
+    written: &mut usize,
+) -> u8
+    ensures done { result ≡ 0 → OfFile circuit.now (WritesCut cuts.now (format_of binary)) (Ok tt)
+        (take written.new room.new) }
+    ensures refused { result ≡ 1 → Refuses (OfFile circuit.now (WritesCut cuts.now (format_of binary))) }
+    ensures no_room { result ≡ 2 → Exceeds (length room.old)
+        (OfFile circuit.now (WritesCut cuts.now (format_of binary))) }
+    ensures inside { result ≤ 1 → written.new ≤ length room.old }
+    ensures kept { 1 < result → (room.new ≡ room.old) × (written.new ≡ written.old) }
+    ensures statuses { result ≤ 3 }
+{
+    let Ok(mut out) = writer(alloc, room) else {
+        return NO_MEMORY;
+    };
+    let mut reader = MemReader::new(circuit);
+    match cut(alloc, &mut reader, cuts, format(binary), &mut out) {
         Ok(()) => answer(out.bytes(), room, written),
         Err(fault) => refuse(alloc, fault, out.bytes(), room, written),
     }

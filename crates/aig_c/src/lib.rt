@@ -12,7 +12,7 @@ mod refutations;
 mod runs;
 mod version;
 
-pub use circuits::{aig_info, aig_names, aig_strengthen, aig_toaig, aig_unroll};
+pub use circuits::{aig_cut, aig_info, aig_names, aig_strengthen, aig_toaig, aig_unroll};
 pub use formulas::{
     aig_cnf, aig_cnf_alive, aig_cnf_certified, aig_model_witness, aig_model_witness_certified,
 };

@@ -7,7 +7,7 @@ use Rattle.std.specs.Bool.{⊤}
 use Rattle.std.specs.List.{list_all, list_any}
 use Rattle.clap.specs.Simple.{App, Shape, built_leaf, filled, filled_from, help_rule, help_shape, index_after, inherited}
 use Rattle.clap.specs.Simple.{is_ready_leaf, is_simple, is_simple_leaf, marked_built, new_rule, new_shape, with_index}
-use Rattle.clap.specs.Simple.{has_plain_fields, new_app, shape_of, with_leaf_noted, with_rule, with_subcommand}
+use Rattle.clap.specs.Simple.{has_plain_fields, new_app, shape_of, with_leaf_noted, with_subcommand}
 use Rattle.clap.specs.declared.builder.command.Command.{Command}
 use Rattle.clap.specs.declared.builder.command.Command.TheOpen.{Command-F}
 use Rattle.clap.specs.declared.builder.command.Command.TheViews.{out-Command}
@@ -18,7 +18,7 @@ use Rattle.aig_cli.specs.declared.arguments.Kind.TheVariants as kinds
 use Rattle.aig_cli.specs.declared.arguments.Need.{Need}
 use Rattle.aig_cli.specs.declared.arguments.Need.TheVariants as wants
 use Rattle.aig_cli.specs.declared.subcommands.Subcommand.{Subcommand}
-use Rattle.aig_cli.specs.Table.{IsCommandLine, flag, on_files, on_proofs, on_runs, on_witnesses, plain, program_of}
+use Rattle.aig_cli.specs.Table.{IsCommandLine, on_files, on_proofs, on_runs, on_witnesses, plain, program_of}
 use Rattle.aig_cli.specs.Table.{rule_of_argument, shape_of_row, with_kind, with_need, with_rows, with_rules}
 use Rattle.aig_cli.proofs.Tables.{row_is_simple}
 
@@ -118,24 +118,16 @@ program_is : (shape : Shape) (shapes : List Shape)
     → program_of (shape ∷ shapes) ≡ record { top = top_of_program; subs = shape ∷ shapes }
 program_is shape shapes = below (shape ∷ []) shapes
 
--- the option of every command
-abbrev general : List Rule
-general = flag (codes "progress") ∷ []
-
-general_is_fine : Each IsFine general
-general_is_fine = ((refl, λ n i. refl), tt)
-
 help_is_fine : Each IsFine (help_rule ∷ [])
 help_is_fine = ((refl, λ n i. refl), tt)
 
 simple_leaf : (row : Subcommand) → is_simple_leaf (shape_of_row row) ≡ true
-simple_leaf row = plainly_simple _ (each_both IsFine _ general (rows_are_fine row.arguments.now) general_is_fine)
+simple_leaf row = plainly_simple _ (rows_are_fine row.arguments.now)
 
 ready_leaf : (row : Subcommand) → is_ready_leaf (built_leaf (inherited above (shape_of_row row))) ≡ true
 ready_leaf row =
-    let rules = (map rule_of_argument row.arguments.now ++ general) ++ help_rule ∷ [] in
-    let all : Each IsFine rules = each_both IsFine _ (help_rule ∷ [])
-    (each_both IsFine _ general (rows_are_fine row.arguments.now) general_is_fine) help_is_fine in
+    let rules = map rule_of_argument row.arguments.now ++ help_rule ∷ [] in
+    let all : Each IsFine rules = each_both IsFine _ (help_rule ∷ []) (rows_are_fine row.arguments.now) help_is_fine in
     ap₂ (λ a b. a && not b) (all_simple 1 rules all) (in_order _ 1 rules all)
 
 simple_leaves : (rows : List Subcommand) → list_all is_simple_leaf (map shape_of_row rows) ≡ true
@@ -168,11 +160,9 @@ has_no_globals c row is = plain_has_no_globals (out-Command c) (ap (λ (s : Shap
 
 -- what is built of a row is the row's command
 pub row_built : (row : Subcommand) (app : App)
-    → app ≡ with_rule (with_rules (new_app row.name.now) (map rule_of_argument row.arguments.now)) (flag (codes "progress"))
-    → app.top ≡ shape_of_row row
+    → app ≡ with_rules (new_app row.name.now) (map rule_of_argument row.arguments.now) → app.top ≡ shape_of_row row
 row_built row app is = ap (λ (a : App). a.top) (is
-    ∙ ap (λ a. with_rule a (flag (codes "progress")))
-    (rules_added (new_shape row.name.now) [] (map rule_of_argument row.arguments.now)))
+    ∙ rules_added (new_shape row.name.now) [] (map rule_of_argument row.arguments.now))
 
 -- the commands of four tables, added in turn
 pub tables_added : (a b c d : List Subcommand) (app : App)

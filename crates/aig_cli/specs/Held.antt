@@ -33,18 +33,6 @@ HoldsFlag matches name flag =
     × (one_text (found_of matches) name ≡ Some (codes "false") → flag ≡ false)
     × (one_text (found_of matches) name ≡ None → flag ≡ false)
 
--- a flag is set among the arguments of the subcommand, if there is one
-abbrev pub HoldsAfter : ArgMatches → List ℕ → Bool → Type 0
-HoldsAfter matches name flag =
-    ((command : List ℕ) × (own : ArgMatches) × HoldsSubcommand matches command own × HoldsFlag own name flag)
-    ⊎ ((subcommand_rows_of matches ≡ None) × (flag ≡ false))
-
--- a flag of every command is set where it was given before the command or after it
-abbrev pub HoldsGeneralFlag : ArgMatches → List ℕ → Bool → Type 0
-HoldsGeneralFlag matches name flag =
-    (before : Bool) × (after : Bool) × HoldsFlag matches name before × HoldsAfter matches name after
-    × (flag ≡ (before || after))
-
 -- a command is about a formula
 abbrev pub needs_formula : List ℕ → ArgMatches → Bool
 needs_formula name own =

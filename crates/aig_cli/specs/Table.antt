@@ -59,9 +59,9 @@ bound rule = record rule { is_free = false }
 
 -- ---- commands
 
--- a command: its arguments, and the option of every command
+-- a command: its arguments
 abbrev pub command : Text → List Rule → Shape
-command name rules = record (new_shape name) { rules = rules ++ flag (codes "progress") ∷ [] }
+command name rules = record (new_shape name) { rules = rules }
 
 abbrev pub circuit : Rule
 circuit = needed (place (codes "CIRCUIT"))
@@ -77,6 +77,7 @@ on_files = command (codes "toaig") (format ∷ circuit ∷ [])
     ∷ command (codes "info") (flag (codes "names") ∷ bound (flag (codes "json")) ∷ circuit ∷ [])
     ∷ command (codes "select") (format ∷ chosen (codes "from") (codes "from") ∷ chosen (codes "as") (codes "as")
     ∷ each (codes "property") (codes "P") ∷ named (codes "names") ∷ circuit ∷ [])
+    ∷ command (codes "cut") (format ∷ needed (named (codes "cuts")) ∷ circuit ∷ [])
     ∷ command (codes "unroll") (needed (number (codes "frames") (codes "K")) ∷ format ∷ named (codes "map") ∷ circuit
     ∷ [])
     ∷ []
@@ -115,14 +116,10 @@ on_proofs = command (codes "cnf") (number (codes "frames") (codes "K") ∷ prope
     ∷ command (codes "strengthen") (format ∷ needed (named (codes "certificate")) ∷ property ∷ circuit ∷ [])
     ∷ []
 
--- the program: the option of every command may stand before the command too, and a command is needed
+-- the program: a command is needed
 abbrev pub program_of : List Shape → App
 program_of shapes = fold with_subcommand (record {
-  top = record (new_shape (codes "aig")) {
-    rules = flag (codes "progress") ∷ [];
-    has_version = true;
-    subcommand_required = true;
-  };
+  top = record (new_shape (codes "aig")) { has_version = true; subcommand_required = true };
   subs = [];
 }) shapes
 
@@ -142,8 +139,8 @@ IsCommandLine app =
     (shapes : List Shape) × (map plain shapes ≡ on_files ++ on_runs ++ on_witnesses ++ on_proofs)
     × (app ≡ program_of shapes)
 
--- the matches are those of the words, the first of which is the program's name: the values of the option that stands
--- before the command, the command, and the values of its arguments
+-- the matches are those of the words, the first of which is the program's name: the values that stand before the
+-- command, the command, and the values of its arguments
 abbrev pub HoldsWords : List Text → ArgMatches → Type 0
 HoldsWords words matches =
     (app : App) × IsCommandLine app × (rows_of (found_of matches) ≡ matches_of app words)

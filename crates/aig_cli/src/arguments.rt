@@ -361,6 +361,13 @@ pub const JSON: Argument = Argument {
     need: Need::Never,
 };
 
+pub const CUTS: Argument = Argument {
+    name: "cuts",
+    help: "File of the parts that may be anything, one line\nper part",
+    kind: Kind::Named("FILE"),
+    need: Need::Always,
+};
+
 pub const NAMES_FILE: Argument = Argument {
     name: "names",
     help: "Name the properties that are written, by the\nlines of FILE: one name per line, in their order",
@@ -397,14 +404,6 @@ pub static NUMBERS: [NumberOption; 3] = [
         shown: "--depth <D>",
     },
 ];
-
-/// The option of every command, which may be before the command or after it: to show how far the run is.
-pub static PROGRESS: Argument = Argument {
-    name: "progress",
-    help: "Show how far the run is, on standard error",
-    kind: Kind::Flag,
-    need: Need::Never,
-};
 
 fn number<'a>(argument: Arg<'a>, word: &'a str) -> Arg<'a>
     ensures rule { rule_of result ≡ with_number word.entry.now (rule_of argument.entry) }

@@ -2,15 +2,13 @@
 ghost use Rattle.std.specs.Prelude.{◌≡◌, [], IfOk, IfSome, None, false, is_some, true, map, option_map, slice_index};
 ghost use Rattle.clap.specs.Matches.{first_value, found_of, matched_of, raw_values};
 ghost use Rattle.clap.specs.Words.{app_of, is_simple, subcommand_rows_of, with_subcommand};
-ghost use Rattle.aig_cli.specs.Held.{HoldsFlag, HoldsGeneralFlag, HoldsNumber, HoldsSubcommand};
-ghost use Rattle.aig_cli.specs.Held.{LacksFormula, is_plain_number, names_formula, needs_formula};
+ghost use Rattle.aig_cli.specs.Held.{HoldsFlag, HoldsNumber, HoldsSubcommand, LacksFormula, is_plain_number};
+ghost use Rattle.aig_cli.specs.Held.{names_formula, needs_formula};
 ghost use Rattle.aig_cli.specs.Table.{HoldsWords, IsCommandLine, program_of, shape_of_row, with_rows};
 
 use crate::arguments::NUMBERS;
 use crate::help::{self, usages};
-use crate::subcommands::{
-    Subcommand, built_subcommand, files, refutations, runs, with_general, witnesses,
-};
+use crate::subcommands::{Subcommand, built_subcommand, files, refutations, runs, witnesses};
 use clap::{ArgMatches, Command};
 use std::alloc::{AllocError, Global};
 use std::fmt;
@@ -19,14 +17,13 @@ use std::fmt;
 /// `tools/build_unproved.sh` replaces this text in a program that was not proved.
 static VERSION: &str = "0.3.0 (proved where rt ci built it)";
 
-fn program<'a>(alloc: Global) -> Result<Command<'a>, AllocError>
-    ensures app { IfOk result (λ c. app_of c ≡ program_of []) }
+fn program<'a>(alloc: Global) -> Command<'a>
+    ensures app { app_of result ≡ program_of [] }
 {
-    let program = Command::new(alloc, "aig")
+    Command::new(alloc, "aig")
         .version(VERSION)
         .override_help(help::ALL)
-        .subcommand_required(true);
-    with_general(program, alloc)
+        .subcommand_required(true)
 }
 
 // Alone here, where a failure drops the program's command.
@@ -57,7 +54,7 @@ fn with_subcommands<'a>(
 fn command_line<'a>(alloc: Global) -> Result<Command<'a>, AllocError>
     ensures commands { IfOk result (λ c. IsCommandLine (app_of c) × (is_simple (app_of c) ≡ true)) }
 {
-    let program = with_subcommands(program(alloc)?, alloc, files())?;
+    let program = with_subcommands(program(alloc), alloc, files())?;
     let program = with_subcommands(program, alloc, runs())?;
     let program = with_subcommands(program, alloc, witnesses())?;
     with_subcommands(program, alloc, refutations())
@@ -105,16 +102,6 @@ pub fn has_flag(matches: &ArgMatches<'_>, name: &str) -> bool
     ensures held { HoldsFlag matches.now name.now result }
 {
     matches.get_flag(name)
-}
-
-/// Returns whether a flag of every command was given, before the command or after it.
-pub fn has_general_flag(matches: &ArgMatches<'_>, name: &str) -> bool
-    ensures held { HoldsGeneralFlag matches.now name.now result }
-{
-    match subcommand_of(matches) {
-        Some((_, own)) => has_flag(matches, name) | has_flag(own, name),
-        None => has_flag(matches, name),
-    }
 }
 
 /// One of two options is missing: the number of frames, or a certificate.

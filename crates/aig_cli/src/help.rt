@@ -5,12 +5,13 @@
 pub const ALL: &str = "Convert, simulate and edit AIGER circuits, and check both verdicts on them: a
 run to a bad state, and a SAT solver's proof that there is none
 
-Usage: aig [OPTIONS] <COMMAND>
+Usage: aig <COMMAND>
 
 Files:
   toaig       Convert a circuit between the text and the binary format
   info        Print facts about a circuit, one per line
   select      Write a circuit with some of its properties
+  cut         Write a circuit in which some parts may be anything
   unroll      Unroll a circuit for K frames into a circuit without latches
 
 Runs:
@@ -29,9 +30,8 @@ Verdicts:
   strengthen  Write a circuit that is strengthened by a certificate
 
 Options:
-      --progress  Show how far the run is, on standard error
-  -h, --help      Print this help, or that of the command before it
-  -V, --version   Print version
+  -h, --help     Print this help, or that of the command before it
+  -V, --version  Print version
 
 Exit status:
   0  done
@@ -266,6 +266,25 @@ outputs of properties.
 
 Example: aig select --to aag --property 0 examples/wraps.aag
 Example: aig select --to aag --from outputs --property 4 examples/counter.aag
+See also: man aig, man 5 aig-formats";
+
+pub const CUT: &str =
+    "cut writes CIRCUIT, but the parts that FILE names may be anything. FILE has one
+line per part, in any order:
+  f L  the latch or gate of literal L has any value. A new input is the next
+       literal of the latch; the gate is the AND of a new input and 1
+  r L  the latch of literal L starts at any value: its reset is L
+  c P  constraint P, counted from 0, is 1
+
+Everything keeps its place, literal and name, and so does the comment. The new
+inputs have no names and come after the others: first one for each latch, then
+one for each gate, in their order. With --to aig, cut renumbers as toaig does.
+
+If no run of the circuit that is written reaches a property, none of CIRCUIT
+does. So a proof about it shows what the property does not depend on, and a run
+of it shows what the property needs.
+
+Example: aig cut --to aag --cuts examples/wraps.cuts examples/wraps.aag
 See also: man aig, man 5 aig-formats";
 
 pub const REFUTE: &str =

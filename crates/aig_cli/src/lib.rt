@@ -7,6 +7,6 @@ mod help;
 mod subcommands;
 
 pub use command_line::{
-    MissingFormula, OddNumber, has_flag, has_general_flag, matches_of, missing_formula,
-    negative_number, number_of, odd_number, subcommand_of, text_of, texts_of,
+    MissingFormula, OddNumber, has_flag, matches_of, missing_formula, negative_number, number_of,
+    odd_number, subcommand_of, text_of, texts_of,
 };

@@ -1,13 +1,13 @@
 //! The commands, a row each, with their arguments.
-ghost use Rattle.std.specs.Prelude.{◌≡◌, IfOk, codes, map};
+ghost use Rattle.std.specs.Prelude.{◌≡◌, IfOk, map};
 ghost use Rattle.clap.specs.Simple.{new_app, shape_of};
-ghost use Rattle.clap.specs.Words.{app_of, rule_of, with_rule};
-ghost use Rattle.aig_cli.specs.Table.{flag, on_files, on_proofs, on_runs, on_witnesses, plain};
+ghost use Rattle.clap.specs.Words.{app_of, with_rule};
+ghost use Rattle.aig_cli.specs.Table.{on_files, on_proofs, on_runs, on_witnesses, plain};
 ghost use Rattle.aig_cli.specs.Table.{rule_of_argument, shape_of_row, with_rules};
 
-use crate::arguments::{self, Argument, PROGRESS, built};
+use crate::arguments::{self, Argument, built};
 use crate::help::{self, usages};
-use clap::{Arg, Command};
+use clap::Command;
 use std::alloc::{AllocError, Global};
 
 /// A command of the program.
@@ -21,12 +21,9 @@ pub struct Subcommand {
     pub arguments: &'static [Argument],
 }
 
-/// The place in a help of the option that every command has: after its own options.
-const LAST: usize = 90;
-
 // The commands in the order of the help. A check takes a table as one term, and stops at a larger one, so those on
 // verdicts are in two.
-static FILES: [Subcommand; 4] = [
+static FILES: [Subcommand; 5] = [
     Subcommand {
         name: "toaig",
         about: "Convert a circuit between the text and the binary format",
@@ -54,6 +51,13 @@ static FILES: [Subcommand; 4] = [
             arguments::NAMES_FILE,
             arguments::CIRCUIT,
         ],
+    },
+    Subcommand {
+        name: "cut",
+        about: "Write a circuit in which some parts may be anything",
+        help: help::CUT,
+        usage: None,
+        arguments: &[arguments::FORMAT, arguments::CUTS, arguments::CIRCUIT],
     },
     Subcommand {
         name: "unroll",
@@ -248,19 +252,6 @@ fn with_argument<'a>(
     command.arg(built(alloc, row)?)
 }
 
-fn general<'a>(alloc: Global) -> Result<Arg<'a>, AllocError>
-    ensures rule { IfOk result (λ built. rule_of built ≡ flag (codes "progress")) }
-{
-    Ok(built(alloc, &PROGRESS)?.display_order(LAST))
-}
-
-/// The command with the option of every command.
-pub fn with_general<'a>(command: Command<'a>, alloc: Global) -> Result<Command<'a>, AllocError>
-    ensures app { IfOk result (λ c. app_of c ≡ with_rule (app_of command.entry) (flag (codes "progress"))) }
-{
-    command.arg(general(alloc)?)
-}
-
 fn bare<'a>(alloc: Global, row: &'static Subcommand) -> Command<'a>
     ensures app { app_of result ≡ new_app row.now.name.now }
 {
@@ -294,8 +285,5 @@ pub fn built_subcommand<'a>(
 ) -> Result<Command<'a>, AllocError>
     ensures shape { IfOk result (λ c. shape_of c ≡ shape_of_row row.now) }
 {
-    with_general(
-        with_arguments(bare(alloc, row), alloc, row.arguments)?,
-        alloc,
-    )
+    with_arguments(bare(alloc, row), alloc, row.arguments)
 }

@@ -13,11 +13,12 @@ use Rattle.aig_sat.specs.declared.model.fault.ModelFault.TheVariants as models
 use Rattle.aig_sat.specs.declared.proof.fault.ProofFault.TheVariants as proofs
 use Rattle.aig_certificate.specs.declared.fault.StrengthenFault.TheVariants as strengthenings
 use Rattle.aig_signals.specs.declared.property.fault.NamesFault.TheVariants as names
+use Rattle.aig_cut.specs.declared.fault.CutFault.TheVariants as cuts
 use Rattle.aig_command.specs.declared.run_fault.RunFault.{RunFault}
 use Rattle.aig_command.specs.declared.run_fault.RunFault.TheVariants.{Circuit, Stimulus, Witness, Bench, Script, Shell}
 use Rattle.aig_command.specs.declared.run_fault.RunFault.TheVariants.{Output, Memory}
 use Rattle.aig_command.specs.declared.run_fault.RunFault.TheVariants.{Unroll, Cnf, Select, Reach, Proof, StepProof, Model}
-use Rattle.aig_command.specs.declared.run_fault.RunFault.TheVariants.{Certificate, Strengthen, Names}
+use Rattle.aig_command.specs.declared.run_fault.RunFault.TheVariants.{Certificate, Strengthen, Names, Cut}
 
 -- 3 where memory ran out, or a read or a write failed; 1 for any other refusal
 abbrev pub status_of : RunFault → ℕ
@@ -44,4 +45,5 @@ status_of (Certificate circuits.Memory) = 3
 status_of (Certificate circuits.Io) = 3
 status_of (Strengthen strengthenings.Memory) = 3
 status_of (Names names.Memory) = 3
+status_of (Cut cuts.Memory) = 3
 status_of _ = 1

@@ -8,6 +8,7 @@ use aig_base::{Fault, Memory, SelectFault};
 use aig_bench::BenchFault;
 use aig_certificate::StrengthenFault;
 use aig_cnf::CnfFault;
+use aig_cut::CutFault;
 use aig_sat::{ModelFault, ProofFault};
 use aig_signals::{NamesFault, PropertyFault};
 use aig_sim::{ReachFault, StimFault, WitnessFault};
@@ -59,6 +60,9 @@ pub enum RunFault {
     Strengthen(StrengthenFault),
     #[error("names: {0}")]
     Names(NamesFault),
+    /// What is cut from a circuit, or the circuit that is cut.
+    #[error("{0}")]
+    Cut(CutFault),
     /// The property that a text names.
     #[error("property: {0}")]
     Property(PropertyFault),
@@ -91,6 +95,7 @@ impl RunFault {
             RunFault::Certificate(Fault::Memory | Fault::Io) => 3,
             RunFault::Strengthen(StrengthenFault::Memory) => 3,
             RunFault::Names(NamesFault::Memory) => 3,
+            RunFault::Cut(CutFault::Memory) => 3,
             RunFault::Circuit(_)
             | RunFault::Stimulus(_)
             | RunFault::Witness(_)
@@ -106,6 +111,7 @@ impl RunFault {
             | RunFault::Certificate(_)
             | RunFault::Strengthen(_)
             | RunFault::Names(_)
+            | RunFault::Cut(_)
             | RunFault::Property(_)
             | RunFault::Why(_) => 1,
         }
@@ -263,5 +269,16 @@ impl From<PropertyFault> for RunFault {
 
     fn from(fault: PropertyFault) -> RunFault {
         RunFault::Property(fault)
+    }
+}
+
+impl From<CutFault> for RunFault {
+    ghost use Rattle.std.specs.Prelude.{◌≡◌};
+    ghost use Rattle.aig_command.specs.declared.run_fault.RunFault.TheVariants as run_faults;
+
+    ghost from_gives = { λ fault part. part ≡ run_faults.Cut fault };
+
+    fn from(fault: CutFault) -> RunFault {
+        RunFault::Cut(fault)
     }
 }

@@ -1,6 +1,7 @@
 pub mod AliveRuns
 pub mod Asked
 pub mod Certificates
+pub mod CutCircuits
 pub mod EntryLines
 pub mod GoodRuns
 pub mod Headers

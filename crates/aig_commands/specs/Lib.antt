@@ -4,6 +4,7 @@ pub mod Certified
 pub mod Check
 pub mod CheckAlive
 pub mod Cnf
+pub mod Cut
 pub mod GoesWell
 pub mod Info
 pub mod ModelWitness

@@ -6,6 +6,7 @@ mod alive_witness;
 pub mod certified;
 pub mod check;
 pub mod cnf;
+pub mod cut;
 mod entries;
 pub mod info;
 pub mod model_witness;

@@ -2,6 +2,7 @@ pub mod Bench
 pub mod Bytes
 pub mod Circuits
 pub mod Commands
+pub mod Cuts
 pub mod Files
 pub mod Formulas
 pub mod Names

@@ -3,11 +3,6 @@
 use Rattle.std.specs.Prelude.{ℕ, Bool, if◌then◌else◌, List}
 use Rattle.aig_files.specs.Shown.{shown}
 
--- the runtime of a run, and whether its standard output is a terminal
-pub record RunTerminal (R : Type 0) : Type 0 where
-  pub runtime : R
-  pub is_output : Bool
-
 -- a writer to standard output, and whether that is a terminal
 pub record ToOutput (W : Type 0) : Type 0 where
   pub inner : W

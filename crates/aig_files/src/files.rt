@@ -4,27 +4,21 @@ ghost use Rattle.aig_files.specs.Source.{source_name};
 
 use crate::exit::Exit;
 use crate::part::Part;
-use crate::source::Source;
+use crate::source::{Opened, Source};
 use crate::standard_output::StandardOutput;
-use crate::terminal::Terminal;
-use crate::tracked::Tracked;
+use crate::terminal::Terminals;
 use aig_base::{Buffered, Std};
 use aig_command::RunFault;
 use std::alloc::Global;
 use std::fs::{self, Files};
 use std::io::{ErrorKind, Read, Write};
-use std::time::Clock;
 
-/// Opens a file of a run by its name, which it keeps. The line of the run shows it while it is read.
-pub fn open<'m, 't, R: Files + Clock + Eprint>(
-    terminal: &'t Terminal<'t, R>,
-    name: &'m str,
-    part: Part,
-) -> Result<Source<'m, Tracked<'t, R, R::File>>, Exit>
+/// Opens a file of a run by its name, which it keeps.
+pub fn open<'m, R: Files>(rt: &R, name: &'m str, part: Part) -> Result<Opened<'m, R>, Exit>
     ensures name { IfOk result (λ file. source_name file ≡ name.now) }
 {
-    match fs::open(terminal.runtime(), name) {
-        Ok(file) => Ok(Source::new(name, Tracked::new(file, terminal, part))),
+    match fs::open(rt, name) {
+        Ok(file) => Ok(Source::new(name, file)),
         Err(_) => Err(Exit::Unread(part)),
     }
 }
@@ -46,13 +40,10 @@ pub fn read_whole<F: Read + Drop>(alloc: Global, mut file: F, part: Part) -> Res
 }
 
 /// Returns standard output, buffered in blocks, over the writer to it.
-pub fn output<'t, R: Clock + Eprint, W: Write>(
-    terminal: &'t Terminal<'t, R>,
-    writer: W,
-) -> Buffered<Std<StandardOutput<'t, R, W>>>
+pub fn output<W: Write>(terminals: Terminals, writer: W) -> Buffered<Std<StandardOutput<W>>>
     ensures inner { result.inner.inner.inner ≡ writer }
-    ensures terminal { result.inner.inner.is_terminal ≡ terminal.now.is_output }
+    ensures terminal { result.inner.inner.is_terminal ≡ terminals.output }
     ensures empty { result.held ≡ [] }
 {
-    Buffered::new(Std::new(StandardOutput::new(terminal, writer)))
+    Buffered::new(Std::new(StandardOutput::new(writer, terminals.output)))
 }

@@ -15,6 +15,8 @@ pub enum Part {
     Certificate,
     /// The names of properties.
     Names,
+    /// The parts of a circuit that are cut.
+    Cuts,
 }
 
 impl Part {
@@ -30,6 +32,7 @@ impl Part {
             Part::StepProof => "step proof",
             Part::Certificate => "certificate",
             Part::Names => "names",
+            Part::Cuts => "cuts",
         }
     }
 }

@@ -5,12 +5,10 @@ ghost use Rattle.aig_files.specs.Source.{source_name, source_remaining, whole_by
 use crate::exit::Exit;
 use crate::files::read_whole;
 use crate::part::Part;
-use crate::tracked::Tracked;
 use aig_command::RunFault;
 use std::alloc::Global;
-use std::fs::{Metadata, OpenFile};
+use std::fs::{Files, Metadata, OpenFile};
 use std::io::{self, Cursor, ErrorKind, Read};
-use std::time::Clock;
 
 /// A file that an argument names, as a command reads it. `open` alone makes one of an open file, and nothing changes its
 /// name, so that file has this name.
@@ -19,6 +17,9 @@ pub struct Source<'a, F: Drop> {
     name: &'a str,
     content: Content<F>,
 }
+
+/// A file of the system that a run has opened by its name.
+pub type Opened<'a, R> = Source<'a, <R as Files>::File>;
 
 /// An open file, or the bytes of one that was read before.
 enum Content<F: Drop> {
@@ -86,9 +87,7 @@ impl<'a, F: Read + Drop> Source<'a, F> {
 }
 
 /// Returns what the system says of a file, if it is open.
-pub fn metadata_of<R: Clock + Eprint, F: OpenFile + Drop>(
-    source: &Source<'_, Tracked<'_, R, F>>,
-) -> io::Result<Metadata> {
+pub fn metadata_of<F: OpenFile + Drop>(source: &Source<'_, F>) -> io::Result<Metadata> {
     match &source.content {
         Content::File(file) => file.metadata(),
         Content::Bytes(_) => Err(io::Error::from(ErrorKind::Unsupported)),

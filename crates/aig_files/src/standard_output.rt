@@ -5,23 +5,19 @@ ghost use Rattle.std.specs.Io.KnownBytes.{Appends, Keeps, WriteAppends};
 ghost use Rattle.aig_files.specs.Shown.{AppendsSome};
 ghost use Rattle.aig_files.specs.StandardOutput.{as_shown};
 
-use crate::progress::Progress;
 use crate::shown::Shown;
-use crate::terminal::Terminal;
 use std::io::{self, Write};
 use std::marker::Model;
-use std::time::Clock;
 
-/// A writer to standard output. If that is a terminal, it gets the bytes that it may obey escaped, and no line that says
-/// how far the run is comes after the first of them. Else it gets each byte as it is, and the line counts them.
+/// A writer to standard output. If that is a terminal, it gets the bytes that it may obey escaped. Else it gets each
+/// byte as it is.
 #[derive(Drop)]
-pub struct StandardOutput<'a, R, W> {
-    progress: &'a Progress<'a, R>,
+pub struct StandardOutput<W> {
     is_terminal: bool,
     shown: Shown<W>,
 }
 
-impl<'a, R, W> Model for StandardOutput<'a, R, W> {
+impl<W> Model for StandardOutput<W> {
     ghost use Rattle.aig_files.specs.StandardOutput.{ToOutput};
 
     ghost Value = { ToOutput W };
@@ -29,21 +25,20 @@ impl<'a, R, W> Model for StandardOutput<'a, R, W> {
     ghost view = { λ o. record { inner = o.shown; is_terminal = o.is_terminal } };
 }
 
-impl<'a, R: Clock + Eprint, W> StandardOutput<'a, R, W> {
-    /// Over the writer of a run's standard output.
-    pub fn new(terminal: &'a Terminal<'a, R>, writer: W) -> StandardOutput<'a, R, W>
+impl<W> StandardOutput<W> {
+    /// Over the writer of a run's standard output, which is a terminal or not.
+    pub fn new(writer: W, is_terminal: bool) -> StandardOutput<W>
         ensures inner { result.inner ≡ writer }
-        ensures terminal { result.is_terminal ≡ terminal.now.is_output }
+        ensures terminal { result.is_terminal ≡ is_terminal }
     {
         StandardOutput {
-            progress: terminal.progress(),
-            is_terminal: terminal.is_output(),
+            is_terminal,
             shown: Shown::new(writer),
         }
     }
 }
 
-impl<R: Clock + Eprint, W: Write> Write for StandardOutput<'_, R, W> {
+impl<W: Write> Write for StandardOutput<W> {
     fn write(&mut self, bytes: &[u8]) -> io::Result<usize>
         // The trait's clauses: what the writer holds is not what it takes.
         ensures bound { WritesAtMost result bytes.now }
@@ -57,12 +52,10 @@ impl<R: Clock + Eprint, W: Write> Write for StandardOutput<'_, R, W> {
         ensures stays { self.new.is_terminal ≡ self.old.is_terminal }
     {
         if self.is_terminal {
-            self.progress.end();
-            return self.shown.write(bytes);
+            self.shown.write(bytes)
+        } else {
+            self.shown.forward(bytes)
         }
-        let count = self.shown.forward(bytes)?;
-        self.progress.wrote(count);
-        Ok(count)
     }
 
     fn flush(&mut self) -> io::Result<()>

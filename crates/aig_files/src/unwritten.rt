@@ -2,6 +2,7 @@
 
 use crate::exit::Exit;
 use aig_command::RunFault;
+use std::alloc::AllocError;
 use std::io::{Error, ErrorKind};
 
 /// How the program ends if it cannot write an output file.
@@ -22,12 +23,17 @@ pub enum Unwritten {
     Twice,
 }
 
-impl Unwritten {
-    /// For an error of the system.
-    pub fn of(error: &Error) -> Unwritten {
+impl From<Error> for Unwritten {
+    fn from(error: Error) -> Unwritten {
         match error.kind() {
             ErrorKind::OutOfMemory => Unwritten::Memory,
             kind => Unwritten::System(kind),
         }
+    }
+}
+
+impl From<AllocError> for Unwritten {
+    fn from(_: AllocError) -> Unwritten {
+        Unwritten::Memory
     }
 }

@@ -1,11 +1,11 @@
 -- What the arguments choose.
 -- Example: `aig check CIRCUIT WITNESS` chooses a `Check` of files that have these names.
-use Rattle.std.specs.Prelude.{◌≡◌, ℕ, List, codes}
+use Rattle.std.specs.Prelude.{ℕ, List, codes}
 use Rattle.clap.specs.declared.parser.matches.ArgMatches.{ArgMatches}
 use Rattle.aig_cli.specs.Held.{HoldsSubcommand}
 use Rattle.aig_files.specs.declared.source.Source.{Source}
-use Rattle.aig_program.specs.Chosen.{HoldsOptions, command_name}
-use Rattle.aig_program.specs.ChosenFiles.{HoldsFiles, HoldsSessionFiles}
+use Rattle.aig_program.specs.Commands.{Opens}
+use Rattle.aig_program.specs.Shell.{OpensShell}
 use Rattle.aig_program.specs.declared.chosen.Chosen.{Chosen}
 use Rattle.aig_program.specs.declared.chosen.Chosen.TheVariants as chosen
 
@@ -13,7 +13,6 @@ use Rattle.aig_program.specs.declared.chosen.Chosen.TheVariants as chosen
 -- session, with its files
 abbrev pub Chooses : {F : Type 0} → ArgMatches → Chosen (Source F) → Type 0
 Chooses matches (chosen.Command command) =
-    (name : List ℕ) × (own : ArgMatches) × HoldsSubcommand matches name own × (command_name command ≡ name)
-    × HoldsOptions own command × HoldsFiles own command
+    (name : List ℕ) × (own : ArgMatches) × HoldsSubcommand matches name own × Opens name own command
 Chooses matches (chosen.Session session) =
-    (own : ArgMatches) × HoldsSubcommand matches (codes "shell") own × HoldsSessionFiles own session
+    (own : ArgMatches) × HoldsSubcommand matches (codes "shell") own × OpensShell own session

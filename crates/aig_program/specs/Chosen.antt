@@ -21,10 +21,7 @@ use Rattle.aig_commands.specs.declared.check.Shown.TheVariants.{Properties, Trac
 use Rattle.aig_commands.specs.declared.question.Question.{Question}
 use Rattle.aig_commands.specs.declared.question.Question.TheVariants as questions
 use Rattle.aig_why.specs.declared.command.Span.{Span}
-use Rattle.aig_program.specs.GivenFiles.{IsWitness}
-use Rattle.aig_program.specs.declared.command.Command.{Command}
-use Rattle.aig_program.specs.declared.command.Selection.{Selection}
-use Rattle.aig_program.specs.declared.command.Command.TheVariants as commands
+use Rattle.aig_program.specs.declared.commands.select.Selected.{Selected}
 
 -- the format to write has the name that is given
 abbrev pub format_name : Format → List ℕ
@@ -44,7 +41,8 @@ HoldsSection matches name Bad = first_value (found_of matches) name ≢ Some (co
 abbrev pub NamesIn : {F : Type 0} → PropertySection → List ℕ → Source F → ℕ → Type 0
 NamesIn section text circuit property =
     IsNumbered section text property
-    ⊎ ((file : List ℕ) × (source_remaining (λ file. None) circuit ≡ Some file) × IsPositionIn file section text property)
+    ⊎ ((file : List ℕ) × (source_remaining (λ file. None) circuit ≡ Some file)
+    × IsPositionIn file section text property)
 
 -- the bad state property
 abbrev pub NamesProperty : {F : Type 0} → List ℕ → Source F → ℕ → Type 0
@@ -64,7 +62,7 @@ abbrev pub AreNamedIn : {F : Type 0} → PropertySection → List (List ℕ) →
 AreNamedIn section texts circuit positions = AreEach (λ text p. NamesIn section text circuit p) texts positions
 
 -- which properties of a circuit are kept, and where
-abbrev pub HoldsSelection : {F : Type 0} → ArgMatches → Source F → Selection → Type 0
+abbrev pub HoldsSelection : {F : Type 0} → ArgMatches → Source F → Selected → Type 0
 HoldsSelection matches circuit selection =
     HoldsSection matches (codes "from") selection.from × HoldsSection matches (codes "as") selection.into
     × AreNamedIn selection.from (property_texts matches) circuit selection.positions.items
@@ -131,59 +129,3 @@ abbrev pub HoldsShown : ArgMatches → Option Shown → Type 0
 HoldsShown matches None = HoldsFlag matches (codes "trace") false
 HoldsShown matches (Some Trace) = HoldsFlag matches (codes "trace") true × HoldsFlag matches (codes "properties") false
 HoldsShown matches (Some Properties) = HoldsFlag matches (codes "trace") true × HoldsFlag matches (codes "properties") true
-
--- The numbers of a command are those that the matches hold, and its form is the one that its options and flags choose.
-abbrev pub HoldsOptions : {F : Type 0} → ArgMatches → Command (Source F) → Type 0
-HoldsOptions matches (commands.Toaig it) = HoldsFormat matches it.to
-HoldsOptions matches (commands.Wave it) = HoldsFlag matches (codes "witness") false
-HoldsOptions matches (commands.WaveWitness it) = HoldsFlag matches (codes "witness") true
-HoldsOptions matches (commands.Unroll it) =
-    HoldsNumber matches (codes "K") (Some it.frames) × HoldsFormat matches it.to × (is_given matches (codes "map") ≡ false)
-HoldsOptions matches (commands.UnrollAndMap it) =
-    HoldsNumber matches (codes "K") (Some it.frames) × HoldsFormat matches it.to
-    × (first_value (found_of matches) (codes "map") ≡ Some it.map.now)
-HoldsOptions matches (commands.Check it) =
-    HoldsFlag matches (codes "alive") false × HoldsShown matches it.shown × HoldsReached matches it.circuit it.property
-HoldsOptions matches (commands.CheckAlive it) =
-    HoldsFlag matches (codes "alive") true × HoldsNumber matches (codes "K") it.frames
-HoldsOptions matches (commands.Cnf it) = HoldsQuestion matches it.circuit it.question
-HoldsOptions matches (commands.Info it) = HoldsFlag matches (codes "names") false
-HoldsOptions matches (commands.InfoNames it) = HoldsFlag matches (codes "names") true × HoldsForm matches it.form
-HoldsOptions matches (commands.Select it) =
-    HoldsSelection matches it.circuit it.selection × HoldsFormat matches it.to × (is_given matches (codes "names") ≡ false)
-HoldsOptions matches (commands.SelectNamed it) =
-    HoldsSelection matches it.circuit it.selection × HoldsFormat matches it.to × (is_given matches (codes "names") ≡ true)
-HoldsOptions matches (commands.Witness it) =
-    (is_given matches (codes "model") ≡ false) × HoldsReached matches it.circuit it.property
-HoldsOptions matches (commands.ModelWitness it) =
-    (is_given matches (codes "model") ≡ true) × HoldsQuestion matches it.circuit it.question
-HoldsOptions matches (commands.Refute it) =
-    HoldsAsked matches (is_given matches (codes "step")) it.circuit it.question × HoldsCertificate matches it.question
-HoldsOptions matches (commands.Strengthen it) = HoldsProperty matches it.circuit it.property × HoldsFormat matches it.to
-HoldsOptions matches (commands.Why it) =
-    (option_map (λ text. text.now) it.name ≡ first_value (found_of matches) (codes "of")) × HoldsSpan matches it.span
-    × HoldsForm matches it.form × (it.name ≡ None → IsWitness it.given)
-HoldsOptions matches _ = ⊤
-
--- the word by which a command is chosen
-abbrev pub command_name : {F : Type 0} → Command F → List ℕ
-command_name (commands.Toaig it) = codes "toaig"
-command_name (commands.Sim it) = codes "sim"
-command_name (commands.Wave it) = codes "wave"
-command_name (commands.WaveWitness it) = codes "wave"
-command_name (commands.Bench it) = codes "bench"
-command_name (commands.Unroll it) = codes "unroll"
-command_name (commands.UnrollAndMap it) = codes "unroll"
-command_name (commands.Check it) = codes "check"
-command_name (commands.CheckAlive it) = codes "check"
-command_name (commands.Cnf it) = codes "cnf"
-command_name (commands.Info it) = codes "info"
-command_name (commands.InfoNames it) = codes "info"
-command_name (commands.Select it) = codes "select"
-command_name (commands.SelectNamed it) = codes "select"
-command_name (commands.Witness it) = codes "witness"
-command_name (commands.ModelWitness it) = codes "witness"
-command_name (commands.Refute it) = codes "refute"
-command_name (commands.Reduce it) = codes "reduce"
-command_name (commands.Why it) = codes "why"
-command_name (commands.Strengthen it) = codes "strengthen"

@@ -11,9 +11,6 @@ use Rattle.aig_command.specs.declared.given.Given.{Given}
 use Rattle.aig_command.specs.declared.given.Given.TheVariants as given
 use Rattle.aig_commands.specs.declared.question.Question.{Question}
 use Rattle.aig_commands.specs.declared.question.Question.TheVariants as questions
-use Rattle.aig_program.specs.declared.command.Command.{Command}
-use Rattle.aig_program.specs.declared.command.Shell.{Shell}
-use Rattle.aig_program.specs.declared.command.Command.TheVariants as commands
 
 -- the file has the name that an argument gives
 abbrev pub IsNamedBy : {F : Type 0} → ArgMatches → List ℕ → Source F → Type 0
@@ -45,44 +42,3 @@ abbrev pub HoldsKept : ArgMatches → Kept → Type 0
 HoldsKept matches kept =
     (option_map (λ name. name.now) kept.circuit ≡ first_value (found_of matches) (codes "circuit-out"))
     × (option_map (λ name. name.now) kept.stimulus ≡ first_value (found_of matches) (codes "stimulus-out"))
-
--- The files of a command are those that its arguments name.
-abbrev pub HoldsFiles : {F : Type 0} → ArgMatches → Command (Source F) → Type 0
-HoldsFiles matches (commands.Toaig it) = IsCircuitOf matches it.circuit
-HoldsFiles matches (commands.Sim it) =
-    IsCircuitOf matches it.circuit × IsNamedBy matches (codes "STIM") it.stimulus
-HoldsFiles matches (commands.Wave it) =
-    IsCircuitOf matches it.circuit × IsNamedBy matches (codes "STIM") it.stimulus
-HoldsFiles matches (commands.WaveWitness it) =
-    IsCircuitOf matches it.circuit × IsNamedBy matches (codes "STIM") it.witness
-HoldsFiles matches (commands.Bench it) =
-    IsCircuitOf matches it.circuit × IsNamedBy matches (codes "STIM") it.stimulus
-    × IsNamedBy matches (codes "SCRIPT") it.script × HoldsKept matches it.kept
-HoldsFiles matches (commands.Unroll it) = IsCircuitOf matches it.circuit
-HoldsFiles matches (commands.UnrollAndMap it) = IsCircuitOf matches it.circuit
-HoldsFiles matches (commands.Check it) =
-    IsCircuitOf matches it.circuit × IsNamedBy matches (codes "WITNESS") it.witness
-HoldsFiles matches (commands.CheckAlive it) =
-    IsCircuitOf matches it.circuit × IsNamedBy matches (codes "WITNESS") it.witness
-HoldsFiles matches (commands.Cnf it) = IsCircuitOf matches it.circuit × HoldsClaimed matches it.question
-HoldsFiles matches (commands.Info it) = IsCircuitOf matches it.circuit
-HoldsFiles matches (commands.InfoNames it) = IsCircuitOf matches it.circuit
-HoldsFiles matches (commands.Select it) = IsCircuitOf matches it.circuit
-HoldsFiles matches (commands.SelectNamed it) =
-    IsCircuitOf matches it.circuit × IsNamedBy matches (codes "names") it.names
-HoldsFiles matches (commands.Witness it) =
-    IsCircuitOf matches it.circuit × IsNamedBy matches (codes "STIM") it.stimulus
-HoldsFiles matches (commands.ModelWitness it) =
-    IsCircuitOf matches it.circuit × HoldsClaimed matches it.question × IsNamedBy matches (codes "model") it.model
-HoldsFiles matches (commands.Refute it) =
-    IsCircuitOf matches it.circuit × HoldsClaimed matches it.question × IsNamedBy matches (codes "PROOF") it.proof
-    × HoldsStep matches it.step
-HoldsFiles matches (commands.Reduce it) =
-    IsCircuitOf matches it.circuit × IsNamedBy matches (codes "WITNESS") it.witness
-HoldsFiles matches (commands.Why it) = IsCircuitOf matches it.circuit × HoldsGiven matches it.given
-HoldsFiles matches (commands.Strengthen it) =
-    IsCircuitOf matches it.circuit × IsNamedBy matches (codes "certificate") it.certificate
-
--- and those of a session, too
-abbrev pub HoldsSessionFiles : {F : Type 0} → ArgMatches → Shell (Source F) → Type 0
-HoldsSessionFiles matches it = IsCircuitOf matches it.circuit × HoldsGiven matches it.given

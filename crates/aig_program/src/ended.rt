@@ -4,6 +4,7 @@ ghost use Rattle.aig_bytes.specs.Flow.{flow};
 ghost use Rattle.aig_program.specs.Ends.{EndsFlushed, IsUnwritten, end_of, end_of_alive, end_of_streamed};
 ghost use Rattle.aig_program.specs.Ends.{end_of_verdict};
 
+use crate::kept::Failure;
 use aig_base::{Fault, Write};
 use aig_command::{RunFault, flushed};
 use aig_files::{Exit, OUTPUT, Part, Unwritten};
@@ -76,12 +77,14 @@ pub(crate) fn alive<W: Write>(
 }
 
 /// For a file of an option that was not written it ends as for a failed write, or for missing memory.
-pub(crate) fn written<T: Drop>(done: Result<T, Unwritten>) -> Result<T, Exit>
+pub(crate) fn written<T: Drop>(done: Result<T, Failure>) -> Result<T, Exit>
     ensures fails { IfErr result IsUnwritten }
 {
     match done {
         Ok(value) => Ok(value),
-        Err(Unwritten::Memory) => Err(Exit::Run(RunFault::Memory)),
-        Err(_) => Err(OUTPUT),
+        Err(failure) => match failure.why {
+            Unwritten::Memory => Err(Exit::Run(RunFault::Memory)),
+            _ => Err(OUTPUT),
+        },
     }
 }

@@ -1,80 +1,82 @@
-//! The files of `--circuit-out`, `--stimulus-out` and `--map`.
+//! The files of `--circuit-out`, `--stimulus-out` and `--map`, and those that a session writes.
 
 use aig_base::{Buffered, Circuit, Std};
 use aig_bench::Bench;
 use aig_command::{RunFault, flushed};
 use aig_commands::unroll::unroll_map;
-use aig_files::{Kept, NewFile, OutputFile, Shown, Unwritten, find, open_pipe};
+use aig_files::{Kept, OutputFile, Shown, Unwritten, open_direct};
 use aig_script::{keep_circuit, keep_stimulus};
 use aig_sim::PlaneGrid;
 use std::fs::{Files, Metadata, OpenFile};
-use std::io::{self, ErrorKind};
+use std::io::{self, ErrorKind, IsTerminal};
 use std::os::fd::AsFd;
 
-/// The files of `--circuit-out` and `--stimulus-out`. Only while their texts are written are the new files on the disk,
-/// so a run that is killed before leaves nothing.
+/// One or two files that get their texts at once. The new files are on the disk only while these are written, so a run
+/// that is killed before leaves nothing.
 #[derive(Drop)]
-pub struct BenchFiles<'a, F: Drop> {
-    circuit: OutputFile<'a, F>,
-    stimulus: OutputFile<'a, F>,
-    /// Which of the two was written last, or was not: 0 or 1.
-    place: usize,
+pub struct KeptFiles<F: Drop> {
+    first: OutputFile<F>,
+    second: OutputFile<F>,
 }
 
-impl<'a, F: io::Write + OpenFile + AsFd + Drop> BenchFiles<'a, F> {
-    /// Fails if one of the files cannot be written. Nothing is on the disk afterwards.
+/// A file of two that was not written.
+#[derive(Clone, Copy, Drop)]
+pub struct Failure {
+    /// Which of the two it is: 0 or 1.
+    pub place: usize,
+    /// Why it was not written.
+    pub why: Unwritten,
+}
+
+fn at<T: Drop>(place: usize, done: Result<T, Unwritten>) -> Result<T, Failure> {
+    match done {
+        Ok(value) => Ok(value),
+        Err(why) => Err(Failure { place, why }),
+    }
+}
+
+impl<F: io::Write + OpenFile + AsFd + Drop> KeptFiles<F> {
+    /// What the names lead to. It fails if one of these cannot be written.
+    fn find<R: Files<File = F> + AllocGlobal>(
+        rt: &R,
+        names: Kept<'_>,
+    ) -> Result<KeptFiles<F>, Failure> {
+        let first = at(0, OutputFile::find(rt, names.circuit))?;
+        let second = at(1, OutputFile::find(rt, names.stimulus))?;
+        Ok(KeptFiles { first, second })
+    }
+
+    /// The same. Both new files are created, because one may be in the other's way, and removed.
     pub fn begin<R: Files<File = F> + AllocGlobal>(
         rt: &R,
-        names: Kept<'a>,
-    ) -> Result<BenchFiles<'a, F>, Unwritten> {
-        let circuit = find(rt, names.circuit)?;
-        let stimulus = find(rt, names.stimulus)?;
-        let mut files = BenchFiles {
-            circuit,
-            stimulus,
-            place: 0,
-        };
-        files.try_out(rt)?;
+        names: Kept<'_>,
+    ) -> Result<KeptFiles<F>, Failure> {
+        let mut files = KeptFiles::find(rt, names)?;
+        let created = files.create(rt);
+        let removed = files.remove(rt);
+        created.and(removed)?;
         Ok(files)
     }
 
-    /// Creates both new files, because one may be in the other's way, and removes them.
-    fn try_out<R: Files<File = F>>(&mut self, rt: &R) -> Result<(), Unwritten> {
-        let created = self.create(rt);
-        let removed = self.remove(rt);
-        created.and(removed)
-    }
-
-    fn create<R: Files<File = F>>(&mut self, rt: &R) -> Result<(), Unwritten> {
-        self.place = 1;
-        if self.circuit.is_same(rt, &self.stimulus) {
-            return Err(Unwritten::Twice);
+    fn create<R: Files<File = F>>(&mut self, rt: &R) -> Result<(), Failure> {
+        at(1, self.second.check_name(rt))?;
+        at(0, self.first.create(rt))?;
+        match self.second.create(rt) {
+            // It was not there when they were found, so it is that of the first.
+            Err(Unwritten::NewExists) => at(1, Err(Unwritten::Twice))?,
+            created => at(1, created)?,
         }
-        self.place = 0;
-        self.circuit.create(rt)?;
-        self.place = 1;
-        self.stimulus.create(rt)?;
-        self.place = 0;
-        // The new file of the stimulus may have the name of the circuit's file.
-        self.circuit.check_name(rt)
+        // The new file of the second may have the name of the first.
+        at(0, self.first.check_name(rt))
     }
 
-    /// Writes the circuit and the rows of a bench. If that fails, the new files are removed.
+    /// Gives the files their texts. If that fails, the new files are removed.
     pub fn write<R: Files<File = F>>(
         &mut self,
         rt: &R,
-        bench: &Bench<PlaneGrid>,
-    ) -> Result<(), Unwritten> {
-        self.write_parts(rt, Part::Circuit(bench), Part::Stimulus(bench))
-    }
-
-    /// Writes a part to each file. If that fails, the new files are removed.
-    fn write_parts<R: Files<File = F>>(
-        &mut self,
-        rt: &R,
-        first: Part<'_>,
-        second: Part<'_>,
-    ) -> Result<(), Unwritten> {
+        first: FileText<'_>,
+        second: FileText<'_>,
+    ) -> Result<(), Failure> {
         let written = self.write_new(rt, first, second);
         if written.is_err() {
             // The program reports the fault that led here, and can do no more.
@@ -83,53 +85,46 @@ impl<'a, F: io::Write + OpenFile + AsFd + Drop> BenchFiles<'a, F> {
         written
     }
 
-    /// Creates the new files and writes them. All texts are on disk before the first file gets its name.
+    /// All texts are on disk before the first file gets its name.
     fn write_new<R: Files<File = F>>(
         &mut self,
         rt: &R,
-        first: Part<'_>,
-        second: Part<'_>,
-    ) -> Result<(), Unwritten> {
+        first: FileText<'_>,
+        second: FileText<'_>,
+    ) -> Result<(), Failure> {
         self.create(rt)?;
-        write_part(rt, first, &mut self.circuit)?;
-        self.place = 1;
-        write_part(rt, second, &mut self.stimulus)?;
-        self.place = 0;
-        self.circuit.take_name(rt)?;
-        self.place = 1;
-        self.stimulus.take_name(rt)
+        at(0, write_to(rt, first, &mut self.first))?;
+        at(1, write_to(rt, second, &mut self.second))?;
+        at(0, self.first.take_name(rt))?;
+        at(1, self.second.take_name(rt))
     }
 
     /// Removes the new files that have not taken their names.
-    fn remove<R: Files>(&mut self, rt: &R) -> Result<(), Unwritten> {
-        let circuit = self.circuit.remove(rt);
-        let stimulus = self.stimulus.remove(rt);
-        circuit.and(stimulus)
+    fn remove<R: Files>(&mut self, rt: &R) -> Result<(), Failure> {
+        let first = at(0, self.first.remove(rt));
+        let second = at(1, self.second.remove(rt));
+        first.and(second)
     }
 }
 
-/// A file of two that was not written.
-#[derive(Clone, Copy)]
-pub struct Failure {
-    /// Which of the two it is: 0 or 1.
-    pub place: usize,
-    /// Why it was not written.
-    pub why: Unwritten,
-}
-
-/// What a name leads to, where it can be written; the name is in this place.
-fn find_at<'a, R: Files + AllocGlobal>(
+/// The file of the map of a circuit. It fails if it cannot be written, or would replace the circuit's own file.
+pub fn begin_map<R: Files + AllocGlobal>(
     rt: &R,
-    name: Option<&'a str>,
-    place: usize,
-) -> Result<OutputFile<'a, R::File>, Failure>
+    name: &str,
+    circuit: &Metadata,
+) -> Result<KeptFiles<R::File>, Failure>
 where
     R::File: AsFd,
 {
-    match find(rt, name) {
-        Ok(file) => Ok(file),
-        Err(why) => Err(Failure { place, why }),
+    let names = Kept {
+        circuit: Some(name),
+        stimulus: None,
+    };
+    let files = KeptFiles::begin(rt, names)?;
+    if files.first.replaces(circuit) {
+        return at(0, Err(Unwritten::Twice));
     }
+    Ok(files)
 }
 
 /// Gives one or two files their texts at once.
@@ -142,141 +137,59 @@ pub fn keep_texts<R: Files + AllocGlobal>(
 where
     R::File: AsFd,
 {
-    if names.circuit == names.stimulus {
-        return Err(Failure {
-            place: 1,
-            why: Unwritten::Twice,
-        });
-    }
-    let circuit = find_at(rt, names.circuit, 0)?;
-    let stimulus = find_at(rt, names.stimulus, 1)?;
-    let mut files = BenchFiles {
-        circuit,
-        stimulus,
-        place: 0,
-    };
-    match files.write_parts(rt, Part::Text(first), Part::Text(second)) {
-        Ok(()) => Ok(()),
-        Err(why) => Err(Failure {
-            place: files.place,
-            why,
-        }),
-    }
+    let mut files = KeptFiles::find(rt, names)?;
+    files.write(rt, FileText::Bytes(first), FileText::Bytes(second))
 }
 
-/// Fails if the map of a circuit cannot be written, or would replace the circuit's own file. Nothing is on the disk
-/// afterwards.
-pub fn begin_map<'a, R: Files + AllocGlobal>(
-    rt: &R,
-    name: &'a str,
-    circuit: &Metadata,
-) -> Result<OutputFile<'a, R::File>, Unwritten>
-where
-    R::File: AsFd,
-{
-    let mut map = find(rt, Some(name))?;
-    try_map(rt, &mut map, circuit)?;
-    Ok(map)
-}
-
-fn try_map<R: Files>(
-    rt: &R,
-    map: &mut OutputFile<'_, R::File>,
-    circuit: &Metadata,
-) -> Result<(), Unwritten>
-where
-    R::File: AsFd,
-{
-    if map.replaces(circuit) {
-        return Err(Unwritten::Twice);
-    }
-    map.try_out(rt)
-}
-
-/// Writes what each input of the unrolled circuit is. If that fails, the new file is removed.
-pub fn write_map<R: Files>(
-    rt: &R,
-    circuit: &Circuit,
-    frames: u32,
-    map: &mut OutputFile<'_, R::File>,
-) -> Result<(), Unwritten>
-where
-    R::File: AsFd,
-{
-    let written = write_new_map(rt, circuit, frames, map);
-    if written.is_err() {
-        // The program reports the fault that led here, and can do no more.
-        let _ = map.remove(rt);
-    }
-    written
-}
-
-fn write_new_map<R: Files>(
-    rt: &R,
-    circuit: &Circuit,
-    frames: u32,
-    map: &mut OutputFile<'_, R::File>,
-) -> Result<(), Unwritten>
-where
-    R::File: AsFd,
-{
-    map.create(rt)?;
-    write_part(rt, Part::Inputs(circuit, frames), map)?;
-    map.take_name(rt)
-}
-
-/// What a file contains: the circuit or the rows of a bench, the inputs of a circuit unrolled for some frames, or a
-/// text.
+/// What a file gets: the circuit or the rows of a bench, the inputs of a circuit unrolled for some frames, or bytes.
 #[derive(Clone, Copy)]
-enum Part<'a> {
+pub enum FileText<'a> {
     Circuit(&'a Bench<PlaneGrid>),
     Stimulus(&'a Bench<PlaneGrid>),
     Inputs(&'a Circuit, u32),
-    Text(&'a [u8]),
+    Bytes(&'a [u8]),
 }
 
-/// Writes a part if its option is given. A file has not taken its name then.
-fn write_part<R: Files>(
+/// Writes a text if its option is given. A file has not taken its name then.
+fn write_to<R: Files>(
     rt: &R,
-    part: Part<'_>,
-    output: &mut OutputFile<'_, R::File>,
+    text: FileText<'_>,
+    output: &mut OutputFile<R::File>,
 ) -> Result<(), Unwritten>
 where
     R::File: AsFd,
 {
-    match output {
-        OutputFile::NotGiven => Ok(()),
-        // It may be a terminal.
-        OutputFile::Device(device) => write_text(part, &mut Shown::new(device)),
-        OutputFile::Pipe(name) => write_pipe(rt, part, name),
-        OutputFile::File(new) => write_file(part, new),
+    match output.new_file() {
+        Some(file) => {
+            write_text(text, file)?;
+            Ok(file.sync_all()?)
+        }
+        None => write_direct(rt, text, output.name()),
     }
 }
 
-fn write_pipe<R: Files>(rt: &R, part: Part<'_>, name: &str) -> Result<(), Unwritten> {
-    let mut pipe = open_pipe(rt, name)?;
-    write_text(part, &mut pipe)
-}
-
-fn write_file<F: io::Write + OpenFile + AsFd + Drop>(
-    part: Part<'_>,
-    new: &mut NewFile<F>,
-) -> Result<(), Unwritten> {
-    if let Some(file) = new.file() {
-        write_text(part, file)?;
+/// Writes a text to a device or a pipe, if there is one. A terminal gets the bytes that it may obey escaped.
+fn write_direct<R: Files>(rt: &R, text: FileText<'_>, name: &str) -> Result<(), Unwritten>
+where
+    R::File: AsFd,
+{
+    if name.is_empty() {
+        return Ok(());
     }
-    new.complete()
+    let mut file = open_direct(rt, name)?;
+    if file.as_fd().is_terminal() {
+        write_text(text, &mut Shown::new(file))
+    } else {
+        write_text(text, &mut file)
+    }
 }
 
-fn write_text<F: io::Write>(part: Part<'_>, file: &mut F) -> Result<(), Unwritten> {
-    match part {
-        Part::Circuit(bench) => written(keep_circuit(bench, &mut Std::new(file))),
-        Part::Stimulus(bench) => written(keep_stimulus(bench, &mut Std::new(file))),
-        Part::Inputs(circuit, frames) => written(write_inputs(circuit, frames, file)),
-        Part::Text(text) => match file.write_all(text) {
-            Ok(()) => Ok(()),
-            Err(error) => Err(Unwritten::of(&error)),
-        },
+fn write_text<F: io::Write>(text: FileText<'_>, file: &mut F) -> Result<(), Unwritten> {
+    match text {
+        FileText::Circuit(bench) => written(keep_circuit(bench, &mut Std::new(file))),
+        FileText::Stimulus(bench) => written(keep_stimulus(bench, &mut Std::new(file))),
+        FileText::Inputs(circuit, frames) => written(write_inputs(circuit, frames, file)),
+        FileText::Bytes(bytes) => Ok(file.write_all(bytes)?),
     }
 }
 

@@ -7,6 +7,7 @@ pub mod ConvertedRuns
 pub mod ConvertedTraces
 pub mod ConvertedVerdicts
 pub mod ConvertedWitnesses
+pub mod CutLemmas
 pub mod DisprovedInduction
 pub mod EitherProofs
 pub mod Examples

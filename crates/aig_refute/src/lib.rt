@@ -3,6 +3,7 @@
 #![tactic(auto)]
 
 mod conversion;
+mod cut;
 mod formula;
 mod laws;
 mod partial_models;
@@ -12,6 +13,7 @@ mod selection;
 mod unrolled_witnesses;
 
 pub use conversion::law_of_conversion;
+pub use cut::law_of_cut;
 pub use formula::{law_of_formula, law_of_induction_formula, law_of_last, law_of_step};
 pub use laws::{
     law_of_alive, law_of_extension, law_of_induction, law_of_one_formula, law_of_parts,

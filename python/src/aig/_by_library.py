@@ -7,11 +7,13 @@ keeps the interpreter's lock. What it writes is of this call alone, but for the 
 from __future__ import annotations
 
 import ctypes
+import warnings
 from ctypes import POINTER, Structure, byref, c_bool, c_size_t, c_uint8, c_uint32, c_uint64, c_void_p
 from functools import lru_cache
 from threading import get_ident
 from typing import Any, Callable, Dict, List, Optional, Tuple, Union
 
+from . import __version__
 from ._engine import FAULT, Edit, Kind
 from ._program import failed, held
 from .errors import EditError, OutOfMemory
@@ -21,6 +23,7 @@ OUT_OF_MEMORY = 11
 # The numbers of the reply `no` by the reasons not to unroll.
 UNROLL_FAULTS = {b"no frames": 9, b"liveness": 12, b"limit": 10}
 FIRST_ROOM = 1 << 16
+LONGEST_VERSION = 64
 
 
 class _Live(Structure):
@@ -52,6 +55,8 @@ CALLS: Dict[str, List[Any]] = {
     "edits": [_BENCH, *_BUFFER, POINTER(c_size_t), _REPORT],
     "value": [_BENCH, c_uint32, c_uint32, POINTER(c_uint8)],
     "values": [_BENCH, *_BUFFER, *_BUFFER],
+    "row": [_BENCH, c_uint32, *_BUFFER, *_BUFFER],
+    "replace_rows": [_BENCH, *_BUFFER],
     "sizes": [_BENCH, POINTER(_Sizes)],
     "trace": [_BENCH, *_ROOM],
     "unrolled": [_BENCH, c_bool, *_ROOM],
@@ -63,15 +68,31 @@ Calls = Dict[str, Callable[..., int]]
 
 @lru_cache(maxsize=None)
 def loaded(path: str) -> Optional[Calls]:
-    """The calls of the library at a path, or None if it does not load or lacks one of them."""
+    """The calls of the library at a path. None, and one line of warning, if it does not load, lacks one of them, or is
+    of another version than this package: its structs may be larger. A process gives the same answers."""
     try:
-        library = ctypes.PyDLL(path)
-        calls = {name: getattr(library, f"aig_live_{name}") for name in CALLS}
-    except (OSError, AttributeError):
+        return _calls(path)
+    except (OSError, AttributeError) as why:
+        warnings.warn(f"a process holds each bench: {why}", RuntimeWarning, stacklevel=5)
         return None
+
+
+def _calls(path: str) -> Calls:
+    library = ctypes.PyDLL(path)
+    version = _version(library.aig_version)
+    if version != __version__:
+        raise OSError(f"{path} has version {version}, and this package {__version__}")
+    calls = {name: getattr(library, f"aig_live_{name}") for name in CALLS}
     for name, call in calls.items():
         call.argtypes, call.restype = CALLS[name], c_uint8
     return calls
+
+
+def _version(call: Any) -> str:
+    """What the library says that its version is."""
+    call.argtypes, call.restype = _ROOM, c_uint8
+    room, length = ctypes.create_string_buffer(LONGEST_VERSION), c_size_t(0)
+    return room.raw[: length.value].decode("latin-1") if call(*_lent(room), byref(length)) == DONE else "unknown"
 
 
 def _lent(buffer: Union[bytes, memoryview, "ctypes.Array[Any]"], numbers: int = 1) -> Tuple[Any, int]:
@@ -126,17 +147,29 @@ class ByLibrary:
         status = self._value(self._bench, frame, literal, byref(found))
         return FAULT + status if status else found.value
 
-    def values(self, cells: memoryview) -> bytes:
-        room = ctypes.create_string_buffer(len(cells) // 2)
-        status = self._calls["values"](self._bench, *_lent(cells, 2), *_lent(room))
+    def values(self, cells: memoryview, room: memoryview) -> None:
+        self._done(self._calls["values"](self._bench, *_lent(cells, 2), *_lent(room)))
+
+    def row(self, frame: int, literals: memoryview, room: memoryview) -> None:
+        self._done(self._calls["row"](self._bench, frame, *_lent(literals), *_lent(room)))
+
+    def replace(self, rows: bytes) -> int:
+        return self._calls["replace_rows"](self._bench, *_lent(rows.translate(_VALUES, b"\n")))
+
+    def _done(self, status: int) -> None:
         if status:
-            raise RuntimeError(f"the library answered cells with status {status}")
-        return room.raw
+            raise RuntimeError(f"the library answered a question with status {status}")
+
+    def _sizes(self) -> _Sizes:
+        sizes = _Sizes()
+        self._done(self._calls["sizes"](self._bench, byref(sizes)))
+        return sizes
 
     def variables(self) -> int:
-        sizes = _Sizes()
-        self._calls["sizes"](self._bench, byref(sizes))
-        return int(sizes.max_var)
+        return int(self._sizes().max_var)
+
+    def frames(self) -> int:
+        return int(self._sizes().frames)
 
     def _text(self, name: str, *words: bool) -> Tuple[int, bytes]:
         """The status of a call that writes a text into a room, and the text."""

@@ -7,7 +7,7 @@ import tempfile
 from pathlib import Path
 from typing import Iterable, List, NoReturn, Tuple
 
-from ._engine import FAULT, LETTERS, Edit, Kind
+from ._engine import FAULT, LETTERS, Edit
 from ._program import failed, held, program
 from .errors import EditError
 
@@ -41,7 +41,8 @@ class ByProgram:
                 raise
         # The program has read these files, and their descriptors will be those of other ones.
         self._words[-3:-1] = ["", ""]
-        self._variables = int(file.split(None, 2)[1])  # the program accepted this header
+        # the program accepted this header, and these rows
+        self._variables, self._frames = int(file.split(None, 2)[1]), rows.count(b"\n")
 
     # -- lines and replies
 
@@ -73,6 +74,8 @@ class ByProgram:
         number = _fault(reply)
         if not number and reply != "ok":
             raise ValueError(f"the bench does not know the line {line!r}")
+        if not number:
+            self._note(line)
         return number
 
     def _text(self, line: str) -> bytes:
@@ -94,15 +97,20 @@ class ByProgram:
             part = lines[begin : begin + MOST_LINES]
             self._send("".join(line + "\n" for line in part))
             replies += [self._reply() for _ in part]
-        self._variables += sum(line.startswith("g") and reply == "ok" for line, reply in zip(lines, replies))
+        for line, reply in zip(lines, replies):
+            if reply == "ok":
+                self._note(line)
         return replies
+
+    def _note(self, line: str) -> None:
+        """Counts what an edit adds or removes."""
+        self._variables += line[:1] == "g"
+        self._frames += {"+": 1, "-": -1}.get(line[:1], 0)
 
     # -- an engine
 
     def edit(self, edit: Edit) -> int:
-        status = self._status(edit.line)
-        self._variables += edit.kind == Kind.APPEND and not status
-        return status
+        return self._status(edit.line)
 
     def edits(self, edits: memoryview) -> Tuple[int, int]:
         for done, at in enumerate(range(0, len(edits), 4)):
@@ -119,12 +127,25 @@ class ByProgram:
     def value(self, frame: int, literal: int) -> int:
         return _value(self._ask(f"v {frame} {literal}"))
 
-    def values(self, cells: memoryview) -> bytes:
-        lines = [f"v {cells[at]} {cells[at + 1]}" for at in range(0, len(cells), 2)]
-        return bytes(map(_value, self.script(lines)))
+    def values(self, cells: memoryview, room: memoryview) -> None:
+        self._ask_all((f"v {cells[at]} {cells[at + 1]}" for at in range(0, len(cells), 2)), room)
+
+    def row(self, frame: int, literals: memoryview, room: memoryview) -> None:
+        self._ask_all((f"v {frame} {literal}" for literal in literals), room)
+
+    def _ask_all(self, lines: Iterable[str], room: memoryview) -> None:
+        room[:] = bytes(map(_value, self.script([*lines])))
+
+    def replace(self, rows: bytes) -> int:
+        file, _ = self._ended()
+        self._begin(file, rows)
+        return 0
 
     def variables(self) -> int:
         return self._variables
+
+    def frames(self) -> int:
+        return self._frames
 
     def trace(self) -> bytes:
         return self._text("t")
@@ -133,13 +154,18 @@ class ByProgram:
         return self._text("u")
 
     def saved(self) -> Tuple[bytes, bytes]:
+        file, rows = self._ended()
+        self._begin(file, rows)
+        return file, rows
+
+    def _ended(self) -> Tuple[bytes, bytes]:
+        """The circuit and the rows that the program writes as it ends."""
         self._lines.close()
         self._replies.read()
         if self.process.wait() != 0:
             self._fail()
         file, rows = (path.read_bytes() for path in self._kept)
         self.close()
-        self._begin(file, rows)
         return file, rows
 
     def close(self) -> None:

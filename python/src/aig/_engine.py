@@ -12,6 +12,8 @@ MOST = (1 << 32) - 1
 NO_KIND, NO_VALUE = 252, 253
 # A value over 2 is this, and the number of the fault.
 FAULT = 16
+# The fault of a frame that is not there.
+NO_FRAME = 6
 LETTERS = "01x"
 
 
@@ -70,11 +72,20 @@ class Engine(Protocol):
     def value(self, frame: int, literal: int) -> int:
         """The value of a literal at a frame: 0, 1, 2 for x, or `FAULT` and the number of the fault."""
 
-    def values(self, cells: memoryview) -> bytes:
-        """The values of cells, each a frame and a literal."""
+    def values(self, cells: memoryview, room: memoryview) -> None:
+        """Writes the values of cells, each a frame and a literal, to a room that has a byte for each."""
+
+    def row(self, frame: int, literals: memoryview, room: memoryview) -> None:
+        """Writes the values of literals at a frame to a room that has a byte for each."""
+
+    def replace(self, rows: bytes) -> int:
+        """The status of replacing all rows by those of a stimulus, which are as many and as long."""
 
     def variables(self) -> int:
         """The greatest variable."""
+
+    def frames(self) -> int:
+        """How many frames there are."""
 
     def trace(self) -> bytes:
         """The trace of all frames."""

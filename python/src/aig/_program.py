@@ -72,6 +72,20 @@ def run(
     return out + rest
 
 
+def answers(line: str, files: Sequence[bytes]) -> List[str]:
+    """What the prompt answers to a line about a circuit and its rows. A refusal is a ValueError."""
+    with held(*files) as (paths, descriptors):
+        words = ["shell", *paths]
+        done = subprocess.run([program(), *words], input=f"{line}\n".encode(), pass_fds=descriptors, check=False,
+                              stdout=subprocess.PIPE, stderr=subprocess.PIPE)
+        if done.returncode or done.stderr:
+            raise failed(words, done.returncode, done.stderr)
+    lines = done.stdout.decode().splitlines()
+    if lines and lines[0].startswith("no: "):
+        raise ValueError(lines[0][len("no: "):])
+    return lines
+
+
 def failed(words: Sequence[str], status: int, said: bytes) -> Exception:
     """The error of a run with these arguments. Its files have to be there still."""
     explained = explanation(words, status, said, has_our_streams=False) if said else ""

@@ -34,8 +34,9 @@ def program() -> str:
 
 
 def library() -> Optional[str]:
-    """The path of the library: `$AIG_LIBRARY`, else the one beside the program, as `make install`, the wheel or
-    `make lib` put it there. None if there is none, or if AIG_LIBRARY is empty."""
+    """The path of the library: `$AIG_LIBRARY`; else the one that pip installed with this package, unless AIG_PROGRAM
+    names another program; else the one beside the program, as `make install` or `make lib` put it there. None if there
+    is none, or if AIG_LIBRARY is empty."""
     named = os.environ.get("AIG_LIBRARY")
     if named is not None:
         if named and not os.path.isfile(named):
@@ -45,4 +46,6 @@ def library() -> Optional[str]:
 
     folder = os.path.dirname(os.path.realpath(shutil.which(program()) or ""))
     places = [os.path.join(folder, *names) for names in (("..", "lib", "libaig.so.0"), ("lib", "libaig.so"))]
+    if not os.environ.get("AIG_PROGRAM"):
+        places.insert(0, os.path.join(os.path.dirname(os.path.abspath(__file__)), "libaig.so"))
     return next((place for place in places if os.path.isfile(place)), None)

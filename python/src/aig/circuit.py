@@ -79,16 +79,7 @@ class Circuit:
 
     def literal(self, signal: Signal) -> int:
         """The literal of a signal."""
-        if isinstance(signal, int):
-            return signal
-        try:
-            found = self.find(signal).literal
-        except KeyError:
-            if not signal.startswith("!"):
-                raise
-            return self.literal(signal[1:]) ^ 1
-        assert found is not None  # only justice properties have no literal
-        return found
+        return self.signals.literal(signal)
 
     # -- other files
 
@@ -105,6 +96,16 @@ class Circuit:
         letter = {"bad": "b", "outputs": "o"}[source]
         options = [f"--property={self.find(which, letter).position}" for which in properties]
         return Circuit(run("select", "--to", "aig", "--from", source, "--as", target, *options, files=[self.file]))
+
+    def cut(self, free: Iterable[Signal] = (), starts: Iterable[Signal] = (), constraints: Iterable[Signal] = ()
+            ) -> Circuit:
+        """The circuit in which these may be anything: next states of latches and values of gates, initial values of
+        latches, and constraints. If no run of it reaches a property, none of this circuit does. All else keeps its
+        place and literal; new inputs come after the others."""
+        lines = [f"f {self.literal(signal)}\n" for signal in free]
+        lines += [f"r {self.literal(signal)}\n" for signal in starts]
+        lines += [f"c {self.find(which, 'c').position}\n" for which in constraints]
+        return Circuit(run("cut", "--to", "aag", files=[self.file], named={"--cuts": "".join(lines).encode()}))
 
     def unroll(self, frames: int) -> Circuit:
         """The circuit unrolled for so many frames, without latches."""

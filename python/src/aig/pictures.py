@@ -2,7 +2,7 @@
 
 from __future__ import annotations
 
-from typing import TYPE_CHECKING, List
+from typing import TYPE_CHECKING, List, Optional
 
 if TYPE_CHECKING:
     from .runs import Trace, Witness
@@ -20,16 +20,18 @@ def svg_of_witness(witness: Witness) -> str:
     return waveform(told.lanes, told.run.frames, told.run.frames - 1, f"run to {witness.property}", "reached")
 
 
-def svg_of_trace(trace: Trace) -> str:
-    """The inputs, latches and outputs of a run."""
+def svg_of_trace(trace: Trace, before: Optional[Trace] = None) -> str:
+    """The inputs, latches and outputs of a run. Thick lines are values that another run before does not have."""
     from .verdicts.signals import Names, labels
     from .verdicts.svg import Lane, waveform
 
-    rows = {"i": trace.inputs, "l": trace.states, "o": trace.outputs}
     signals = Names(trace.entries.all).all
     lanes: List[Lane] = []
     for label, (_, letter, positions) in zip(labels(signals[:MOST_LANES]), signals):
-        lanes.append(Lane(label, ["".join(row[at] for at in reversed(positions)) for row in rows[letter]]))
+        values, others = (["".join(row[at] for at in reversed(positions)) for row in run.section(letter)] if run else []
+                          for run in (trace, before))
+        keys = frozenset(at for at, value in enumerate(values) if before and others[at : at + 1] != [value])
+        lanes.append(Lane(label, values, keys))
     left = len(signals) - len(lanes)
     return waveform(lanes, len(trace), None, f"run of {len(trace)} frames" + (f", {left} more signals" if left else ""))
 

@@ -5,14 +5,14 @@ from __future__ import annotations
 from typing import Any, Iterable, Mapping, Sequence, Union
 
 from .entries import Entries
-from .values import letter, numpy
+from .values import letter, letters_of, numpy
 
 Row = Union[str, Sequence[object], Mapping[str, object]]
 
 
 def stimulus(entries: Entries, rows: Iterable[Row]) -> bytes:
-    """The stimulus of these rows: texts such as `01x`, sequences of values, dictionaries by name (x for an input that
-    is left out), or an array of numpy. Bytes are a stimulus already."""
+    """The stimulus of these rows: texts such as `01x`, sequences of values, dictionaries by name, also of vectors (x for
+    an input that is left out), or an array of numpy. Bytes are a stimulus already."""
     if isinstance(rows, (bytes, bytearray)):
         return bytes(rows)
     if numpy is not None and isinstance(rows, numpy.ndarray) and rows.ndim == 2 and rows.dtype.kind in "biu":
@@ -27,7 +27,10 @@ def _line(entries: Entries, row: Row) -> str:
         return "".join(map(letter, row))
     letters = ["x"] * len(entries.section("i"))
     for name, value in row.items():
-        letters[entries.find(name, "i").position] = letter(value)
+        bits = entries.bits(name, "i")
+        given = letter(value) if len(bits) == 1 else letters_of(value, len(bits))
+        for bit, it in zip(bits, reversed(given)):
+            letters[bit.position] = it
     return "".join(letters)
 
 

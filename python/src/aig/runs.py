@@ -2,8 +2,8 @@
 
 from __future__ import annotations
 
-import re
-from typing import TYPE_CHECKING, Any, List, Optional, Tuple, Union, overload
+from itertools import zip_longest
+from typing import TYPE_CHECKING, Any, Dict, List, Optional, Sequence, Tuple, Union, overload
 
 from ._program import run
 from .entries import Entries
@@ -17,11 +17,12 @@ class Trace:
     """The values of a run: `trace["count[0]"]` is a text with a letter per frame, `trace["count[0]", 3]` one value.
 
     states, inputs, outputs  a text per frame, with a letter per latch, input or output
+    bad                      a text per frame, with a letter per bad state property; nothing if that was not asked for
     """
 
-    def __init__(self, entries: Entries, text: bytes):
+    def __init__(self, entries: Entries, text: bytes, bad: Sequence[str] = ()):
         self.text = text.decode()
-        self.entries = entries
+        self.entries, self.bad = entries, bad
         columns = [line.split(" ") for line in self.text.split("\n")[:-1]]
         self.states: List[str] = [line[0] for line in columns]
         self.inputs: List[str] = [line[1] for line in columns]
@@ -44,25 +45,21 @@ class Trace:
             name, frame = key
             return value_of(self[name][frame])
         entry = self.entries.find(key, "ilo")
-        rows = {"i": self.inputs, "l": self.states, "o": self.outputs}[entry.letter]
-        return "".join(row[entry.position] for row in rows)
+        return "".join(row[entry.position] for row in self.section(entry.letter))
+
+    def section(self, letter: str) -> Sequence[str]:
+        """The texts of the inputs (`i`), latches (`l`), outputs (`o`) or properties (`b`), one per frame."""
+        return {"i": self.inputs, "l": self.states, "o": self.outputs, "b": self.bad}[letter]
 
     def vector(self, name: str) -> List[Value]:
         """The numbers, one per frame, of the signals `NAME[n]`, `NAME[n+1]`, .. of one section; X where a bit is x.
         `NAME[n]` is the least significant bit. A vector [0:7] of Verilog has its bits in the other order, and is rejected:
         put its bits together yourself."""
-        pattern = re.compile(re.escape(name) + r"\[(0|[1-9][0-9]*)\]")
-        for letter in "ilo":
-            matched = ((pattern.fullmatch(word), entry) for entry in self.entries.section(letter) for word in entry.words)
-            bits = {int(match[1]): entry.position for match, entry in matched if match}
-            rising = sorted(bits)
-            if bits and rising == list(range(rising[0], rising[0] + len(bits))):
-                places = [bits[number] for number in reversed(rising)]
-                if len(bits) > 1 and places == sorted(places):
-                    raise KeyError(f"{name!r} has falling indices: its bit {rising[-1]} may be the least significant one")
-                columns = [self[f"{letter}{place}"] for place in places]
-                return [number_of("".join(letters)) for letters in zip(*columns)]
-        raise KeyError(f"there is no vector {name!r}")
+        bits = self.entries.vector(name)
+        if not bits:
+            raise KeyError(f"there is no vector {name!r}")
+        columns = [self[it.place] for it in reversed(bits)]
+        return [number_of("".join(letters)) for letters in zip(*columns)]
 
     def array(self, section: str = "outputs") -> Any:
         """The values of `states`, `inputs` or `outputs` as an array of numpy, a row per frame, with -1 for x."""
@@ -85,6 +82,31 @@ class Trace:
         from .pictures import scrolling
 
         return scrolling(self.svg())
+
+
+# Of two runs: by signal and frame, the value of each.
+Difference = Dict[str, Dict[int, Tuple[Optional[Value], Optional[Value]]]]
+
+
+def difference(one: Trace, other: Trace) -> Difference:
+    """The values that two runs of circuits with the same inputs, latches, outputs and properties do not share. A frame
+    that a run does not have has None."""
+    from .verdicts.signals import Names, Signal, labels
+
+    properties = [Signal(it.label, "b", (it.position,)) for it in one.entries.section("b")]
+    signals = [*Names(one.entries.all).all, *properties]
+    found: Difference = {}
+    for label, (_, letter, positions) in zip(labels(signals), signals):
+        rows = zip_longest(*(["".join(row[at] for at in reversed(positions)) for row in run.section(letter)]
+                             for run in (one, other)))
+        pairs = {frame: (_number(was), _number(now)) for frame, (was, now) in enumerate(rows) if was != now}
+        if pairs:
+            found[label] = pairs
+    return found
+
+
+def _number(letters: Optional[str]) -> Optional[Value]:
+    return None if letters is None else number_of(letters)
 
 
 def explanation(

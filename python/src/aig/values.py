@@ -43,6 +43,18 @@ def letter(value: object) -> str:
     return found
 
 
+def letters_of(value: object, count: int) -> str:
+    """The letters of a vector of so many bits, the most significant first: of a number, of X or None for x in each bit,
+    or so many letters as they are."""
+    if isinstance(value, str) and len(value) == count and not value.strip("01x"):
+        return value
+    if value is X or value is None or isinstance(value, str) and value == "x":
+        return "x" * count
+    if isinstance(value, SupportsInt) and int(value) == value and 0 <= int(value) < 1 << count:
+        return f"{int(value):0{count}b}"
+    raise ValueError(f"a value of {count} bits is a number below {1 << count}, X, or {count} letters, and not {value!r}")
+
+
 def value_of(text: str) -> Value:
     """The value of a letter."""
     return X if text == "x" else int(text)

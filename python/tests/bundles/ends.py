@@ -2,12 +2,18 @@
 
 from __future__ import annotations
 
+import contextlib
 import json
 import os
+import pty
+import re
 import shutil
 import signal
+import subprocess
 import sys
+import threading
 import time
+import unittest.mock
 from concurrent.futures import ProcessPoolExecutor
 from pathlib import Path
 
@@ -15,12 +21,14 @@ from aig.verdicts import workers
 from aig.verdicts.decide import Bounds, Programs
 from aig.verdicts.design import read_aiger
 from aig.verdicts.session import Session
+from aig.verdicts.tools import Stop
 from bundles.common import (
-    COMMAND, FEW, HERE, SMALL_SOLVER, called, ended, judged, manifest_of, process_of, rows_of, same_manifests,
+    COMMAND, FEW, HERE, SMALL_SOLVER, SOURCES, called, ended, judged, manifest_of, process_of, rows_of, same_manifests,
     started, tool,
 )
 from bundles.searches import KNOWS, run as run_of
-from library.runs import SECONDS
+from library import supervised
+from library.runs import SECONDS, LeftOut
 
 KNOWN = {"later": "unreachable within 4", "three": "unreachable", "two": "confirmed"}
 
@@ -100,6 +108,85 @@ def in_the_middle(program, tally):
         tally.compare(f"stops: in the middle: {name}: the rest", later, KNOWN)
         tally.check(f"stops: in the middle: {name}: no stop, later",
                     not any("stopped" in row.get("notes", []) for row in rows_of(name).values()))
+
+
+def total(program, tally, _):
+    """The time of the whole run: it ends as one that was stopped, with the status of its table, and goes on later. Where
+    Yosys has not ended by then there is no table."""
+    hangs = Path("hangs").resolve()
+    solver = tool("hangs.sh", f'case $1 in --*) exec {SMALL_SOLVER} "$@";; esac; : > {hangs}; exec sleep 1000')
+    with unittest.mock.patch.object(Stop, "after", late_when(hangs.exists)):
+        status, out, err = called("run", FEW, "--out", "late", "--abc", "", "-j", "1", "--solver", solver, "--total", "2h")
+    tally.check("total: the table", status == 4 and out.count("undecided") == len(KNOWN), (status, out))
+    tally.compare("total: the terminal", err.splitlines()[-2],
+                  "aig-verdicts: the time of --total is over; the same command goes on")
+    run(out="late")
+    tally.compare("total: the rest", {key: row["verdict"] for key, row in rows_of("late").items()}, KNOWN)
+    tally.compare("total: enough of it", run("--total", "1h", out="early")[0], run(out="other")[0])
+    Path("a.v").write_text("module a(input x); assert property (x); endmodule\n")
+    tool("yosys", "exec sleep 1000")
+    process = process_of(program, "env", f"PATH={Path().resolve()}:{os.environ['PATH']}", sys.executable, *COMMAND, "run", "a.v",
+                         "--total", "1s")
+    status, out, err = ended(process)
+    tally.compare("total: Yosys", (status, out, err.splitlines()[-1:]), (4, "", ["aig-verdicts: the time of --total is over"]))
+
+
+def waits(program, tally, _):
+    """While Yosys makes the circuit a line says so: on a terminal with the seconds, and else once if it is asked for."""
+    yosys, slept = shutil.which("yosys"), Path("slept").resolve()
+    if yosys is None:
+        raise LeftOut("there is no yosys")
+    Path("a.v").write_text("module a(input x); ok: assert property (x); endmodule\n")
+    tool("yosys", f'[ "$1" = -V ] || [ -f {slept} ] || {{ : > {slept}; sleep 6; }}; exec {yosys} "$@"')
+    words = ("env", f"PATH={Path().resolve()}:{os.environ['PATH']}", sys.executable, *COMMAND, "run", "a.v", "--abc", "",
+             "--solver", SMALL_SOLVER, "--frames", "2", "--no-simulator")
+    for name, more, count in (("once", ("-v",), 1), ("not", (), 0), ("quiet", ("-q",), 0)):
+        _, _, err = ended(process_of(program, *words, *more))
+        tally.compare(f"waits: {name}", err.count("aig-verdicts: yosys makes the circuit ..\n"), count)
+        slept.unlink()
+    shown = on_terminal(program, words)
+    tally.check("waits: on a terminal", re.search(r"\ryosys makes the circuit, \d+ s\x1b\[K(?:.*)\r\x1b\[K", shown, re.DOTALL),
+                shown)
+
+
+def on_terminal(program, words):
+    """What a run writes to standard error, if that is a terminal."""
+    leader, follower = pty.openpty()
+    environment = {**os.environ, "PYTHONPATH": SOURCES, "AIG_PROGRAM": program.path}
+    process = supervised.Popen([str(word) for word in words], stdin=subprocess.DEVNULL, stdout=subprocess.DEVNULL,
+                               stderr=follower, env=environment)
+    os.close(follower)
+    shown = b""
+    with contextlib.suppress(OSError):  # no process has the terminal any more
+        while True:
+            shown += os.read(leader, 4096)
+    process.wait()
+    os.close(leader)
+    return shown.decode()
+
+
+def late_when(is_there):
+    """A time that is over as soon as something is there."""
+    @contextlib.contextmanager
+    def after(stop, seconds):
+        assert seconds == 7200, seconds
+        ended = threading.Event()
+
+        def wait():
+            while not ended.wait(0.05):
+                if is_there():
+                    stop.late()
+                    return
+
+        watcher = threading.Thread(target=wait)
+        watcher.start()
+        try:
+            yield
+        finally:
+            ended.set()
+            watcher.join()
+
+    return after
 
 
 def killed(program, tally, slow):

@@ -296,7 +296,7 @@ def _place(path, manifest):
 
 
 def _format(path, manifest):
-    manifest["format"] = "aig-verdicts 3"
+    manifest["format"] = "aig-verdicts 4"
 
 
 def _no_options(path, manifest):

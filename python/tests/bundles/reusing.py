@@ -5,6 +5,7 @@ from __future__ import annotations
 
 import json
 import re
+import signal
 from pathlib import Path
 
 import aig
@@ -12,7 +13,8 @@ from aig._program import run as call
 from aig.verdicts.bundle import Bundle
 from aig.verdicts.renamed import Renamed
 
-from .common import SMALL_SOLVER, called, kept, manifest_of, rows_of, tool, write_manifest
+from .common import SMALL_SOLVER, called, ended, kept, manifest_of, rows_of, started, tool, write_manifest
+from .ends import wait_for
 
 
 def renamed(circuit, is_turned):
@@ -87,6 +89,62 @@ def kept_in_its_folder(tally, old):
     tally.check("reusing: all files are there", all((folder / name).is_file() for name in sums))
     _, _, err = run("renamed.aag", "-o", folder, "--frames", "8")
     tally.check("reusing: the same again has no line", "since" not in err, err)
+
+
+def stopped_in_its_folder(program, tally, _):
+    """A run in the folder of old results that is stopped leaves them, and the next one begins with them."""
+    old = without_sources(kept("every"))
+    circuit, hangs = Bundle(old).circuit(), Path("hangs").resolve()
+    Path("turned.aag").write_bytes(renamed(circuit, True))
+    solver = tool("hangs.sh", f'case $1 in --*) exec {SMALL_SOLVER} "$@";; esac; : > {hangs}; exec sleep 1000')
+    process = started(program, "run", "turned.aag", "-o", old, "--abc", "", "--solver", solver, "-j", "1")
+    wait_for(process, hangs.exists)
+    process.send_signal(signal.SIGINT)
+    status, _, err = ended(process)
+    tally.compare("reusing: stopped", (status, Bundle(old / "before").circuit()), (130, circuit))
+    status, out, err = run("turned.aag", "-o", old, "--frames", "8", solver=SMALL_SOLVER)
+    tally.check("reusing: the next run", "since the sources before: " in err and status == 5, (status, err))
+    origins = {row.get("origin") for row in rows_of(old).values()}
+    tally.check("reusing: what it came from", {"old run", "old certificate"} <= origins, origins)
+    tally.check("reusing: nothing is left of the old ones", not (old / "before").exists())
+
+
+def open_rows(_, tally, __):
+    """An open row is searched again, but for one whose bound is enough: with --keep-open, if the solver and the bounds are
+    those of the old run."""
+    log = Path("log").resolve()
+    solver = tool("log.sh", f'case $1 in --*) ;; *) echo x >> {log};; esac; exec {SMALL_SOLVER} "$@"')
+    Path("open.aag").write_bytes(OPEN)
+    Path("renamed.aag").write_bytes(OPEN.replace(b"l0 a", b"l0 first"))
+    words = ("--frames", "3", "--only", "far")
+    run("open.aag", "-o", "old", *words, solver=solver)
+    tally.compare("reusing: an open row", rows_of("old")["far"]["verdict"], "unreachable within 3")
+    for name, more, is_kept in (("again", (), False), ("kept", ("--keep-open",), True),
+                                ("farther", ("--keep-open", "--frames", "4"), False)):
+        log.write_text("")
+        run("renamed.aag", "--since", "old", "-o", name, *words, *more, solver=solver)
+        found = rows_of(name)["far"]["verdict"], log.read_text() == ""
+        tally.compare(f"reusing: an open row: {name}", found, (f"unreachable within {4 if name == 'farther' else 3}", is_kept))
+
+
+# A counter of three bits, whose property fails at 7. Three frames do not see it, and no induction of three holds.
+OPEN = b"""aag 10 0 3 0 7 1
+2 3
+4 10
+6 21
+14
+8 2 4
+12 3 5
+10 9 13
+14 8 6
+16 8 7
+18 9 6
+20 17 19
+l0 a
+l1 b
+l2 c
+b0 far
+"""
 
 
 def lying_baselines(_, tally, __):

@@ -31,7 +31,7 @@ WORDS = (
     (["unroll", "--frames", "3\x1b", "--to", "aag", "a"], r"3\x1b"),
     (["unroll", "--frames=\u0663", "--to", "aag", "a"], r"\xd9\xa3"),
     (["sim", "-\x1b", "a", "b"], "unexpected argument '-\\' found"),
-    (["--progress=\x1b", "info", "a"], r"\x1b"),
+    (["--version=\x1b", "info", "a"], r"\x1b"),
     (["help", "\x1b"], r"\x1b"),
 )
 
@@ -49,14 +49,12 @@ def command(program, tally, _):
     little = plain.run("info", "many", preexec_fn=lambda: resource.setrlimit(resource.RLIMIT_AS, (2**23, 2**23)))
     said = program.explained(["info", "many"], little).err
     tally.check("explain: out of memory", re.fullmatch(rb"aig: (circuit: )?memory\n  out of memory: .*\n", said), said)
-    said = explanation(["info", "cycle"], 1, b"\raig: circuit 5 of 9 bytes, 3 s\x1b[K\r\x1b[Kaig: circuit: cycle 2\n")
-    tally.check("explain: a message after a line of progress", "is on a cycle" in said, said)
 
 
 def arguments(program, plain, tally):
     """The program gets all arguments as they are, and its output, message and status stay."""
     for asked in (["check", "two_gates", "missing"], ["check", "--trace", "two_gates", "missing"],
-                  ["--progress", "check", "two_gates", "missing"], ["check", "two_gates", "--progress", "missing"],
+                  ["check", "two_gates", "--trace", "missing"],
                   ["check", "--", "two_gates", "missing"]):
         wanted, said = plain.run(*asked), program.command.run(*asked)
         tally.check(f"explain: {asked}", explains(said, wanted), said)

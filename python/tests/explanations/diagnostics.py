@@ -66,6 +66,7 @@ CASES = (
     ("is too large", ["bench", "two_gates", "many.stim", "script"], "at most 65,536 rows"),
     ("is too large", ["bench", "many", "empty.stim", "script"], "at most 67,108,864"),
     ("is too large", ["reduce", "wide", "rows.wit"], "at most 67,108,864"),
+    ("no part of the circuit", ["cut", "--to", "aag", "--cuts", "zero.drat", "two_gates"], "line 1 is `"),
     ("or literal has this name", ["why", "--of", "cuont", COUNTER, f"{EXAMPLES}/counter.stim"], "do you mean `count`?"),
     ("does not have this frame", ["why", "--of", "o0", "--frame", "8", COUNTER, f"{EXAMPLES}/counter.stim"],
      "the last frame is 7"),

@@ -58,6 +58,16 @@ def others(rows):
                  ["select", "--to", "aag", "--names", write("names", text), "wraps"], "names: lines",
                  [f"lines with an LF at their end: {text.count(chr(10))}", *notes,
                   "wanted: one line for each property that is written; an empty line gives it no name"])
+    for text, number, shown, notes in (("f 4\nf 3\n", 2, "f 3", []), ("f 4\nf 4", 2, "f 4", ["it has no newline at its end"]),
+                                       ("c 0\r\n", 1, "c 0\\x0d", []), ("\n", 1, "", [])):
+        rows.row(f"a line of cuts: {text!r}", ["cut", "--to", "aag", "--cuts", write("cuts", text), "wraps"], f"cuts: line {number}",
+                 [f"line {number} is `{shown}`", *notes,
+                  "wanted: `f L`, `r L` or `c P`, and a newline: L is the literal of a latch, or for f of a gate, and P the"
+                  " position of a constraint, counted from 0", "aig info --names CIRCUIT prints the names of all entries"])
+    rows.row("a cut circuit that is too large", ["cut", "--to", "aag", "--cuts", write("cuts", "f 2\n"),
+             write("g", "aag 4194303 0 1 1 0\n2 0\n2\n")], "cut: limit",
+             ["a circuit has at most 4,194,303 variables and inputs: with one for each latch or gate that is free, the cut"
+              " circuit would have more"])
     rows.row("a property that no run can reach", ["witness", "--property", "7", "wraps", write("s", "1\n")],
              "witness: property", ["the circuit has no bad state property at this position",
                                    "positions count from 0: aig info CIRCUIT prints the number of properties"])

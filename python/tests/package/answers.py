@@ -13,6 +13,16 @@ ROWS = ["0" * (frame + 1) + "1" + "0" * (11 - frame) for frame in range(12)] + [
 # The latches a and b take the inputs, and the bad state is (a | b) & (a | !b) & (!a | b) & (!a | !b). Propagation shows
 # that the resets are not bad. For the step it needs the clause of the first input at frame 0.
 NEVER = "aag 11 2 2 0 7 1\n2\n4\n6 2\n8 4\n22\n10 9 7\n12 8 7\n14 9 6\n16 8 6\n18 13 11\n20 17 15\n22 20 18\n"
+# A circuit with names, and what it is with parts that are cut.
+CUT = "aag 4 1 2 0 1 1 2\n2\n4 8 1\n6 4\n8\n2\n6\n8 4 2\ni0 i\nl0 first\nl1 second\nb0 bad\nc1 held\n"
+NAMES = "i0 i\nl0 first\nl1 second\nb0 bad\nc1 held\n"
+CUTS = (
+    ("nothing", {}, CUT),
+    ("a latch and a gate", {"free": ["second", 8]},
+     "aag 6 3 2 0 1 1 2\n2\n10\n12\n4 8 1\n6 10\n8\n2\n6\n8 12 1\n" + NAMES),
+    ("an initial value", {"starts": ["first"]}, "aag 4 1 2 0 1 1 2\n2\n4 8 4\n6 4\n8\n2\n6\n8 4 2\n" + NAMES),
+    ("constraints", {"constraints": ["held", 0]}, "aag 4 1 2 0 1 1 2\n2\n4 8 1\n6 4\n8\n1\n1\n8 4 2\n" + NAMES),
+)
 
 
 def many(program, tally, _):
@@ -56,6 +66,10 @@ def many(program, tally, _):
     outputs = chain.select(["p7"], target="outputs")
     tally.compare("properties as outputs", outputs.simulate(rows)["p7"], "0" * 7 + "1" + "0" * 5)
     tally.compare("unrolled", chain.unroll(3).info()["inputs"], 39)
+    cut = aig.Circuit(CUT)
+    for name, options, text in CUTS:
+        tally.compare(f"cut: {name}", cut.cut(**options).file.decode(), text)
+    tally.compare("cut: an input", raised(cut.cut, ["i"]).reason, "line 1")
     certified = chain.certified(NO_CLAIM, 12)
     first = chain.certified(NO_CLAIM)
     error = raised(certified.refute, proof_of(first.cnf()))

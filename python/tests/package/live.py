@@ -5,13 +5,16 @@ import os
 import pickle
 import random
 import resource
+import shutil
 import threading
+import warnings
 from array import array
 from pathlib import Path
 
 import aig
-from library import runs
-from library.runs import LeftOut
+from aig._by_library import CALLS
+from library import runs, supervised
+from library.runs import LeftOut, leave_out
 from package.bench import bench
 from package.common import example, raised, setting
 from package.random_benches import Calls, circuit_of, said
@@ -19,7 +22,7 @@ from package.random_benches import Calls, circuit_of, said
 # So many benches of more than half a megabyte are opened, and may keep so many kilobytes in all.
 COLLECTED, KEPT = 60, 15 * 1024
 # Random calls on each pair of benches.
-CALLS = 120
+COUNT = 120
 
 
 def library_of(program, installed):
@@ -63,12 +66,12 @@ def beside(tally, path, seed, sizes):
     with setting("AIG_LIBRARY", ""):
         others = calls.circuit.bench(rows)
     with ours, others:
-        for at in range(CALLS):
+        for at in range(COUNT):
             name, words = calls.any()
             found, wanted = said(ours, name, words), said(others, name, words)
             tally.compare(f"seed {seed}, call {at}: {name}{words}"[:200], found, wanted)
             calls.note(name, wanted)
-    return CALLS
+    return COUNT
 
 
 def large(tally, path):
@@ -143,7 +146,8 @@ def afterwards(tally):
     asked = [("value", (2, 0)), ("values", ([2], [0])), ("values", (array("I", [0, 2]),)), ("trace", ()),
              ("unroll", ()), ("set", (0, 0, 1)), ("append", ("10",)), ("pop", ()), ("rewire", (14, 2, 2)),
              ("reset", ("count[0]", 1)), ("add_gate", (2, 2)), ("set_output", ("wrap", 1)), ("edits", ([("pop",)],)), ("script", (["-"],)),
-             ("save", ())]
+             ("save", ()), ("value", ("count", 0)), ("frame", (0,)), ("set", ("clear", 0, 1)), ("replace_rows", (["10"] * 2,)),
+             ("why", ("count",)), ("why", ()), ("check", ()), ("witness", ()), ("diff", ()), ("wave", ()), ("svg", ())]
     for library in (os.environ["AIG_LIBRARY"], ""):
         with setting("AIG_LIBRARY", library), example("counter.aag").bench(["10"] * 2) as opened:
             errors = []
@@ -161,6 +165,8 @@ def afterwards(tally):
             for name, words in asked:
                 error = raised(getattr(opened, name), *words)
                 tally.check(f"closed: {name}", isinstance(error, ValueError) and "closed" in str(error), error)
+            for name in ("rows", "frames"):
+                tally.check(f"closed: {name}", isinstance(raised(getattr, opened, name), ValueError))
 
 
 def rejected(tally, path):
@@ -206,7 +212,51 @@ def libraries(program, tally, _):
         error = raised(aig._where.library)
         tally.check("a library that is not there", isinstance(error, FileNotFoundError), error)
     loaded = [line.split()[-1] for line in Path("/proc/self/maps").read_text().splitlines() if "libc.so.6" in line]
-    for name in ("build/lib/libaig.so", *loaded[:1]):
-        with setting("AIG_LIBRARY", name), example("counter.aag").bench(["10"]) as opened:
-            tally.compare(f"{os.path.basename(name)} has no benches",
-                          (type(opened._engine).__name__, opened.value("enable", 0)), ("ByProgram", 1))
+    for name, why in (("build/lib/libaig.so", "too short"), *((it, "aig_version") for it in loaded[:1])):
+        tally.compare(f"{os.path.basename(name)} has no benches", by_process(tally, name, why), True)
+    inside = os.path.dirname(aig.__file__) + "/libaig.so"
+    with setting("AIG_PROGRAM", None), setting("AIG_LIBRARY", None), setting("PATH", f"{where}/build"):
+        found = aig._where.library() if shutil.which("aig") else None
+    tally.compare("the one of the wheel comes first", found, inside if os.path.exists(inside) else found)
+    other_versions(tally)
+
+
+def by_process(tally, library, why):
+    """Whether a process holds benches where there is this library. One line says why, the first time alone."""
+    with setting("AIG_LIBRARY", library), warnings.catch_warnings(record=True) as said:
+        warnings.simplefilter("always")
+        for _ in range(2):
+            with example("counter.aag").bench(["10"]) as opened:
+                found = type(opened._engine).__name__, opened.value("enable", 0)
+    lines = [str(it.message) for it in said]
+    tally.check(f"said of {library}", len(lines) == 1 and why in lines[0] and "\n" not in lines[0], lines)
+    tally.compare(f"where it is said of {library}", [it.filename for it in said], [__file__])
+    return found == ("ByProgram", 1)
+
+
+def other_versions(tally):
+    """A library of another version has calls that say that memory ran out: none of them is called."""
+    if not shutil.which("cc"):
+        leave_out("libraries: other versions", "there is no cc")
+        return
+    calls = "".join(f"unsigned char aig_live_{name}(void) {{ return 3; }}\n" for name in CALLS)
+    for at, (version, said) in enumerate((("0.2.9", "0.2.9"), (aig.__version__ + ".1", aig.__version__ + ".1"),
+                                          (aig.__version__[:-1], aig.__version__[:-1]), ("9" * 80, "unknown"), ("", ""))):
+        runs.write("other.c", VERSION % version + calls)
+        supervised.run(["cc", "-shared", "-fPIC", "other.c", "-o", f"other{at}.so"], check=True)
+        why = f"has version {said}, and this package {aig.__version__}"
+        tally.check(f"a library of version {version}", by_process(tally, os.path.abspath(f"other{at}.so"), why))
+
+
+# The call of a library that says its version.
+VERSION = """#include <string.h>
+unsigned char aig_version(char *room, size_t room_length, size_t *length)
+{
+    const char *version = "%s";
+    if (strlen(version) > room_length)
+        return 2;
+    *length = strlen(version);
+    memcpy(room, version, *length);
+    return 0;
+}
+"""

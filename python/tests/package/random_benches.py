@@ -18,17 +18,17 @@ def circuit_of(chance, inputs, latches, gates):
     for at in range(gates):
         literal = 2 * (inputs + latches + at + 1)
         lines.append(f"{literal} {chance.randrange(literal)} {chance.randrange(literal)}")
-    lines += [f"i{at} in[{at}]" for at in range(inputs)]
+    lines += [f"i{at} in[{at}]" for at in range(inputs)] + [f"l{at} st[{at}]" for at in range(latches)]
     return aig.Circuit("\n".join(lines) + "\n")
 
 
 def said(bench, name, words):
     """What a call answers, or what it raises."""
     try:
-        found = getattr(bench, name)(*words)
-    except (aig.EditError, ValueError, KeyError) as error:
+        found = getattr(bench, name)(*words) if name != "rows" else bench.rows
+    except (aig.AigError, ValueError, KeyError) as error:
         return type(error).__name__, str(error), getattr(error, "number", None), getattr(error, "done", None)
-    if name == "trace":
+    if name in ("trace", "witness"):
         return found.text
     return (found[0].file, found[1]) if name == "save" else found
 
@@ -63,7 +63,17 @@ class Calls:
     def any(self):
         """A call: the name of a method, and its arguments."""
         name = self.chance.choice(("set", "append", "pop", "rewire", "reset", "add_gate", "set_output", "value",
-                                   "value", "values", "cells", "edits", "array", "trace", "unroll", "save"))
+                                   "value", "values", "cells", "edits", "array", "trace", "unroll", "save", "vector",
+                                   "frame", "replace_rows", "prompt"))
+        if name == "vector":
+            return self.of_vector()
+        if name == "frame":
+            return name, (self.frame(),)
+        if name == "replace_rows":
+            return name, ([self.row() for _ in range(self.frames + (self.chance.random() < 0.1))],)
+        if name == "prompt":
+            return self.chance.choice((("diff", ()), ("rows", ()), ("check", ()), ("witness", ()), ("wave", ()),
+                                       ("why", ("in", 0, 2)), ("why", ("o0", None, 2))))
         if name == "cells":
             return "values", (array("I", [it for _ in range(self.chance.randrange(40)) for it in self.cell()]),)
         if name == "array":
@@ -85,6 +95,13 @@ class Calls:
 
     def literal(self):
         return self.chance.randrange(2 * self.variables + 2 + 3 * (self.chance.random() < 0.05))
+
+    def of_vector(self):
+        """A call of a vector."""
+        value = self.chance.choice((aig.X, self.chance.getrandbits(self.inputs + 1)))
+        return self.chance.choice((("value", ("in", self.frame())), ("value", ("!st", self.frame())),
+                                   ("set", ("in", self.frame(), value)), ("reset", ("st", value)),
+                                   ("edits", ([("set", "in", self.frame(), value), self.edit(), self.edit()],))))
 
     def cell(self):
         return self.frame(), self.literal()

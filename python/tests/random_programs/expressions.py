@@ -9,7 +9,7 @@ from .scope import Routine, Scope, Value, Variable
 from .tree import Tree, expression, joined
 
 # Up to this width Yosys takes little time for a division and for a product.
-DIVISION, PRODUCT = 10, 14
+DIVISION, PRODUCT = 7, 9
 
 
 class Expressions:
@@ -240,6 +240,10 @@ class Expressions:
 
     def called(self, scope: Scope, function: Routine, depth: int) -> Tree:
         values = [self.argument(scope, min(depth, 2), it.variable.width) for it in function.arguments]
+        changing = [it for it in scope.variables if not it.is_constant]
+        if changing and self.random.random() < 0.9:  # much of a function that gets constants alone is rejected
+            at = self.random.randrange(len(values))
+            values[at] = self.read(scope, self.random.choice(changing), 40).tree
         return expression(f"{function.name}(", joined(values), ")")
 
     def argument(self, scope: Scope, depth: int, width: int) -> Tree:

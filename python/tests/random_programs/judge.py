@@ -5,19 +5,20 @@ from __future__ import annotations
 import enum
 import os
 import re
-import resource
-import signal
 import subprocess
-import sys
 from dataclasses import dataclass
+from functools import partial
 from pathlib import Path
-from typing import List, Optional
+from typing import List
 
-from library import supervised
+from aig.verdicts.decide import Bounds, Found, Task
+from aig.verdicts.design import Reading, read_verilog
+from aig.verdicts.search import Search
+from aig.verdicts.tools import Stop, ToolFailed
 
+from .apart import TooLong, apart, run_apart
 from .program import SUM_WIDTH, TOP, Program
 
-PACKAGE = Path(__file__).resolve().parent.parent.parent / "src"
 FILE = "program.v"
 # What each process may take of the processor: that of a simulation, and each one of a run of aig-verdicts.
 SIMULATION_SECONDS, PROCESSOR_SECONDS = 2, 20
@@ -50,26 +51,8 @@ class Judgement:
         return f"{self.outcome.name} " + " ".join(re.sub(r"\S*[\\$`]\S*|\d+", "..", line).split())
 
 
-_OVER = (-signal.SIGXCPU, -signal.SIGKILL)
-
-
-class TooLong(Exception):
-    """A process took more of the processor than it may."""
-
-
-def _called(words: List[str], folder: Path, most: int) -> subprocess.CompletedProcess[str]:
-    def bounded() -> None:
-        resource.setrlimit(resource.RLIMIT_CPU, (most, most + 1))
-
-    settings = {**os.environ, "PYTHONPATH": str(PACKAGE)}
-    try:
-        done = supervised.run(words, cwd=folder, env=settings, stdin=subprocess.DEVNULL, capture_output=True, text=True,
-                              timeout=SECONDS, errors="replace", preexec_fn=bounded)
-    except subprocess.TimeoutExpired as error:
-        raise TooLong(words[0]) from error
-    if done.returncode in _OVER or re.search(r"status -(24|9)\b|did not end in", done.stderr):
-        raise TooLong(words[0])
-    return done
+def _called(words: List[str], folder: Path) -> subprocess.CompletedProcess[str]:
+    return run_apart(words, folder, SIMULATION_SECONDS, SECONDS)
 
 
 def _bench(program: Program) -> str:
@@ -92,8 +75,8 @@ def said_by_icarus(program: Program, folder: Path) -> Judgement:
         (folder / name).write_text(text)
     try:
         words = ["iverilog", "-g2012", "-o", "bench.vvp", "bench.v", FILE]
-        built = _called(words, folder, SIMULATION_SECONDS)
-        ran = _called(["vvp", "-n", "bench.vvp"], folder, SIMULATION_SECONDS) if built.returncode == 0 else built
+        built = _called(words, folder)
+        ran = _called(["vvp", "-n", "bench.vvp"], folder) if built.returncode == 0 else built
     except TooLong as error:
         return Judgement(Outcome.UNREAD, str(error))
     said = re.search(r"^total ([01xz]+)$", ran.stdout, re.M)
@@ -118,29 +101,39 @@ def judged(program: Program, folder: Path) -> Judgement:
         if icarus.outcome is not Outcome.AGREES:
             return icarus
         (folder / FILE).write_text(with_assertions(program, icarus.reason))
-        words = ["run", FILE, "--top", TOP, "--out", "out", "--jobs", "1", "--abc", "", "--no-conditions", "--no-simulator"]
-        words = [sys.executable, "-m", "aig.verdicts", *words, "--frames", str(program.cycles + 2)]
-        done = _called(words, folder, PROCESSOR_SECONDS)
+        return apart(partial(_by_circuit, folder, program.cycles), PROCESSOR_SECONDS, SECONDS)
     except TooLong as error:
         return Judgement(Outcome.TOO_LONG, str(error))
-    if done.returncode == 1:
-        return _rejected(done.stderr)
-    wrong = _wrong(done.stdout, program.cycles) if done.returncode == 5 else f"status {done.returncode}: {done.stdout}"
-    return Judgement(Outcome.DIFFERS, wrong + done.stderr) if wrong else Judgement(Outcome.AGREES)
+
+
+def _by_circuit(folder: Path, cycles: int) -> Judgement:
+    """What `aig` says of the circuit of the program. It reads the copy in the folder that is current."""
+    os.chdir(folder)
+    try:
+        design = read_verilog([Path(FILE)], Reading(TOP, conditions=False, wires=False, seconds=SECONDS), Stop())
+    except ToolFailed as error:
+        return _rejected(str(error))
+    verdicts = {it.name: _verdict(design.circuit, it.position, cycles + 1, folder) for it in design.assertions}
+    wanted = {"agrees": f"holds within {cycles + 1}", "differs": f"fails at {cycles + 1}"}
+    return Judgement(Outcome.AGREES) if verdicts == wanted else Judgement(Outcome.DIFFERS, f"{verdicts}, and not {wanted}")
+
+
+def _verdict(circuit: bytes, position: int, frames: int, folder: Path) -> str:
+    """What `aig` confirms of runs of so many frames: a proof that there is none, or a run."""
+    found = Found(position)
+    search = Search(Task.of(circuit, position, Bounds(frames=frames)), circuit, folder, Stop(), found)
+    said = search.reach(frames)
+    if said.proof is not None and search.bound():
+        return f"holds within {found.frames}"
+    if said.model is not None and search.confirmed(search.witness(frames, said.model)):
+        return f"fails at {found.frames}"
+    raise TooLong("; ".join(found.notes))
 
 
 def _rejected(said: str) -> Judgement:
     """A message is right if it has the line of the program."""
+    if re.search(r"status -(24|9)\b|signal (24|9)\b|did not end in", said):
+        raise TooLong(said)
     place = re.search(rf"\b{re.escape(FILE)}:[1-9]\d*", said)
     outcome = Outcome.REJECTED if place else Outcome.NOWHERE
     return Judgement(outcome, said.strip())
-
-
-def _wrong(table: str, cycles: int) -> str:
-    """What the table says that Icarus Verilog does not."""
-    rows = {line.split()[3]: line for line in table.splitlines() if len(line.split()) > 4}
-    agrees, differs = rows.get("agrees", ""), rows.get("differs", "")
-    bound = re.search(r" holds within (\d+)", agrees)
-    is_proved = bool(bound and int(bound[1]) > cycles) or bool(re.search(r" holds +(induction|invariant)", agrees))
-    is_found = re.search(rf" fails .*\b{cycles + 1}\b", differs)
-    return "" if is_proved and is_found else f"the table is {table!r}\n"

@@ -12,6 +12,8 @@ from .tree import Kind, Tree, item, text
 
 SUM_WIDTH = 64
 TOP = "top"
+# How often a program has few modules and blocks: Yosys takes a third of the time for it.
+SMALL = 0.75
 
 
 @dataclass
@@ -31,14 +33,15 @@ def program(seed: int) -> Program:
     edge = random.choice(["posedge", "posedge", "posedge", "negedge"])
     parts: List[Tree] = []
     children: List[Module] = []
-    for _ in range(random.choice([0, 1, 1, 1, 2])):
+    is_small = random.random() < SMALL
+    for _ in range(random.choice([0, 0, 1] if is_small else [0, 1, 1, 1, 2])):
         children.append(_module(modules, edge, children[:1]))
         parts.append(children[-1].tree)
     again = [random.choice(children)] if children and random.random() < 0.3 else []
-    parts.append(_top(modules, edge, children + again))
+    parts.append(_top(modules, edge, children + again, random.choice([0, 1, 2] if is_small else [0, 1, 2, 3])))
     words = [f"@{place} {random.getrandbits(4):x} // word {place}\n" for place in WORDS_OF_FILE]
     files = {WORDS: "".join(words)} if modules.reads_file else {}
-    return Program(Tree(Kind.TEXT, [*parts]), edge, random.randint(8, 12), files)
+    return Program(Tree(Kind.TEXT, [*parts]), edge, random.randint(6, 9), files)
 
 
 def _parameters(modules: Modules, inside: Inside, is_top: bool) -> List[str]:
@@ -112,7 +115,7 @@ always @({clock}) {{rst, rst_n}} <= rst && !rst_n ? 2'b01 : {{bits[7:6] == 0, bi
 """
 
 
-def _top(modules: Modules, edge: str, children: Sequence[Module]) -> Tree:
+def _top(modules: Modules, edge: str, children: Sequence[Module], steps: int) -> Tree:
     random = modules.random
     resets = [("posedge", "rst"), ("negedge", "rst_n")]
     random.shuffle(resets)
@@ -121,7 +124,7 @@ def _top(modules: Modules, edge: str, children: Sequence[Module]) -> Tree:
     clock = inside.clocks.clock
     first = _RANDOM.format(seed=random.getrandbits(31) + 1, clock=clock) + _RESETS.format(clock=clock)
     inside.state += [Variable("bits", 32), Variable("cycle", 6)]
-    modules.filled_in(inside, children, random.choice([0, 1, 2, 3]))
+    modules.filled_in(inside, children, steps)
     values = [it for it in inside.readable if not it.is_constant and it.name not in ("bits", "cycle")]
     return text(f"module {TOP} (input clk);\n", first, *inside.items, _sum(inside.clocks, values), "endmodule\n")
 

@@ -64,8 +64,11 @@ class Statements:
 
     def operator_assignment(self, scope: Scope, written: Tree, width: int) -> Tree:
         operator = self.random.choice(["+=", "-=", "&=", "|=", "^=", "<<=", ">>=", ">>>="])
-        most = 3 if operator in ("<<=", ">>=", ">>>=") else width
-        return statement(written, f" {operator} ", self.expressions.value(scope, 1, most).tree, ";")
+        if operator not in ("<<=", ">>=", ">>>="):
+            return statement(written, f" {operator} ", self.expressions.value(scope, 1, width).tree, ";")
+        # Icarus Verilog 11 and 12 shift by another amount where it is a sum, or has a sign
+        amount = self.expressions.value(scope, 0, 3)
+        return statement(written, f" {operator} ", *(["{", amount.tree, "}"] if amount.is_signed else [amount.tree]), ";")
 
     def several(self, scope: Scope, blocks: bool) -> Tuple[Tree, int]:
         """Several targets in braces, each once."""
@@ -184,7 +187,7 @@ class Statements:
     def head(self, variable: LoopVariable, low: int, high: int, step: int) -> str:
         """The head of a loop. Where its numbers have no width, the width of a narrow variable must not matter inside."""
         random, name = self.random, variable.name
-        is_exact = variable.type != "integer" and random.random() < 0.6
+        is_exact = variable.type != "integer" and random.random() < 0.8
         first, last, by = (variable.literal(it) if is_exact else str(it) for it in (low, high, step))
         if variable.has(low - step) and random.random() < 0.25:
             return f"for ({name} = {last}; {name} >= {first}; {name} = {name} - {by}) begin\n"

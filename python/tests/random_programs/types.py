@@ -41,12 +41,14 @@ def struct(random: Random, names: Names) -> Declared:
 
 
 def _members(random: Random, names: Names, owner: str, count: int, may_nest: bool) -> Tuple[str, List[Variable], int]:
+    """Members, some of them in place of a struct inside: Icarus Verilog 11 ends with an error at one, and in 12 its members
+    are as wide as the whole."""
     text, members, width = "", [], 0
     for _ in range(count):
         name = names.plain("m")
         if may_nest and random.random() < 0.15:
-            inner, found, size = _members(random, names, f"{owner}.{name}", 2, False)
-            text += f"struct packed {{ {inner}}} {name}; "
+            inner, found, size = _members(random, names, owner, 2, False)
+            text += inner
             members += found
         else:
             low = random.choice([1, 2]) if random.random() < _ODD else 0

@@ -1,6 +1,6 @@
 //! Questions to a bench, one or many a call.
 ghost use Rattle.std.specs.Prelude.{◌≡◌, ◌≢◌, ◌⊎◌, ◌<◌, ◌≤◌, ◌↔◌, IfSome, false, length, true};
-ghost use Rattle.aig_c.specs.Live.{CellValue, HasRow, HasSizes, HasValues, LiveValue, TellsValue, is_open};
+ghost use Rattle.aig_c.specs.Live.{CellValue, HasRow, HasSizes, HasValues, IsKeptFrom, LiveValue, TellsValue, is_open};
 
 use crate::answer::DONE;
 use crate::live::handle::AigLive;
@@ -81,6 +81,7 @@ fn cell_value(bench: &Bench<PlaneGrid>, frame: u32, literal: u32) -> u8
 fn write_values(bench: &Bench<PlaneGrid>, cells: &[AigCell], values: &mut [u8])
     requires { length cells.now ≤ length values.old }
     ensures values { HasValues cells.now values.new bench.now }
+    ensures behind { IsKeptFrom (length cells.now) values.old values.new }
 {
     for i in 0..cells.len() {
         values[i] = cell_value(bench, cells[i].frame, cells[i].literal);
@@ -100,6 +101,7 @@ pub extern "C" fn aig_live_values(
     ensures short { is_open bench.old.seat.held ≡ true → (result ≡ 254) ↔ (length values.old < length cells.now) }
     ensures kept { bench.new.seat.held ≡ bench.old.seat.held }
     ensures room_kept { result ≢ 0 → values.new ≡ values.old }
+    ensures behind { IsKeptFrom (length cells.now) values.old values.new }
     ensures statuses { (result ≡ 0) ⊎ (254 ≤ result) }
 {
     let Some(held) = bench.take(alloc) else {
@@ -117,6 +119,7 @@ pub extern "C" fn aig_live_values(
 fn write_row(bench: &Bench<PlaneGrid>, frame: u32, literals: &[u32], values: &mut [u8])
     requires { length literals.now ≤ length values.old }
     ensures values { HasRow frame literals.now values.new bench.now }
+    ensures behind { IsKeptFrom (length literals.now) values.old values.new }
 {
     for i in 0..literals.len() {
         values[i] = cell_value(bench, frame, literals[i]);
@@ -137,6 +140,7 @@ pub extern "C" fn aig_live_row(
     ensures short { is_open bench.old.seat.held ≡ true → (result ≡ 254) ↔ (length values.old < length literals.now) }
     ensures kept { bench.new.seat.held ≡ bench.old.seat.held }
     ensures room_kept { result ≢ 0 → values.new ≡ values.old }
+    ensures behind { IsKeptFrom (length literals.now) values.old values.new }
     ensures statuses { (result ≡ 0) ⊎ (254 ≤ result) }
 {
     let Some(held) = bench.take(alloc) else {

@@ -1,45 +1,64 @@
 //! The files that arguments name, open.
 ghost use Rattle.std.specs.Prelude.{◌≡◌, IfOk, codes, true};
 ghost use Rattle.aig_program.specs.Chosen.{is_given};
-ghost use Rattle.aig_program.specs.ChosenFiles.{IsCircuitOf, IsNamedBy};
+ghost use Rattle.aig_program.specs.ChosenFiles.{HoldsGiven, IsCircuitOf, IsNamedBy};
 
-use aig_cli::text_of;
-use aig_files::{Exit, Part, Source, Terminal, Tracked, open};
+use aig_cli::{has_flag, text_of};
+use aig_command::Given;
+use aig_files::{Exit, Opened, Part, open};
 use clap::ArgMatches;
 use std::fs::Files;
-use std::time::Clock;
 
 /// Opens the file that an argument names.
-pub fn open_named<'m, 't, R: Files + Clock + Eprint>(
-    terminal: &'t Terminal<'t, R>,
+pub fn open_named<'m, R: Files>(
+    rt: &R,
     matches: &'m ArgMatches<'_>,
     name: &str,
     part: Part,
-) -> Result<Source<'m, Tracked<'t, R, R::File>>, Exit>
+) -> Result<Opened<'m, R>, Exit>
     ensures named { IfOk result (IsNamedBy matches.now name.now) }
     ensures given { IfOk result (λ file. is_given matches.now name.now ≡ true) }
 {
     match text_of(matches, name) {
-        Some(file) => open(terminal, file, part),
+        Some(file) => open(rt, file, part),
         None => Err(Exit::NoCommand),
     }
 }
 
-pub fn open_circuit<'m, 't, R: Files + Clock + Eprint>(
-    terminal: &'t Terminal<'t, R>,
+pub fn open_circuit<'m, R: Files>(
+    rt: &R,
     matches: &'m ArgMatches<'_>,
-) -> Result<Source<'m, Tracked<'t, R, R::File>>, Exit>
+) -> Result<Opened<'m, R>, Exit>
     ensures named { IfOk result (IsCircuitOf matches.now) }
 {
-    open_named(terminal, matches, "CIRCUIT", Part::Circuit)
+    open_named(rt, matches, "CIRCUIT", Part::Circuit)
 }
 
-pub fn open_certificate<'m, 't, R: Files + Clock + Eprint>(
-    terminal: &'t Terminal<'t, R>,
+pub fn open_certificate<'m, R: Files>(
+    rt: &R,
     matches: &'m ArgMatches<'_>,
-) -> Result<Source<'m, Tracked<'t, R, R::File>>, Exit>
+) -> Result<Opened<'m, R>, Exit>
     ensures named { IfOk result (IsNamedBy matches.now (codes "certificate")) }
     ensures given { IfOk result (λ file. is_given matches.now (codes "certificate") ≡ true) }
 {
-    open_named(terminal, matches, "certificate", Part::Certificate)
+    open_named(rt, matches, "certificate", Part::Certificate)
+}
+
+/// Opens the file of the run that is given with a circuit, if one is named.
+pub fn open_given<'m, R: Files>(
+    rt: &R,
+    matches: &'m ArgMatches<'_>,
+) -> Result<Given<Opened<'m, R>>, Exit>
+    ensures held { IfOk result (HoldsGiven matches.now) }
+{
+    if text_of(matches, "STIM").is_none() {
+        return Ok(Given::Nothing);
+    }
+    if has_flag(matches, "witness") {
+        let witness = open_named(rt, matches, "STIM", Part::Witness)?;
+        Ok(Given::Witness(witness))
+    } else {
+        let stimulus = open_named(rt, matches, "STIM", Part::Stimulus)?;
+        Ok(Given::Stimulus(stimulus))
+    }
 }

@@ -12,67 +12,60 @@ use aig_base::PropertySection;
 use aig_cli::{has_flag, text_of, texts_of};
 use aig_command::{RunFault, position_in, read_circuit};
 use aig_commands::question::Question;
-use aig_files::{Exit, Part, Source, Terminal, Tracked};
+use aig_files::{Exit, Opened, Part};
 use aig_signals::{PropertyNames, number_of as number_in};
 use clap::ArgMatches;
 use std::alloc::Global;
 use std::fs::Files;
-use std::time::Clock;
 
 /// Opens the circuit, and finds the bad state property that a text names. The circuit is read for that only if the text
 /// is a name: the command then has its bytes.
-fn open_circuit_for<'m, 't, R: Files + AllocGlobal + Clock + Eprint>(
-    terminal: &'t Terminal<'t, R>,
+fn open_circuit_for<'m, R: Files + AllocGlobal>(
+    rt: &R,
     matches: &'m ArgMatches<'_>,
     property: &str,
-) -> Result<(Source<'m, Tracked<'t, R, R::File>>, u32), Exit>
+) -> Result<(Opened<'m, R>, u32), Exit>
     ensures circuit { IfOk result (λ r. IsCircuitOf matches.now r.0) }
     ensures named { IfOk result (λ r. NamesProperty property.now r.0 r.1) }
 {
-    let circuit = open_circuit(terminal, matches)?;
+    let circuit = open_circuit(rt, matches)?;
     let text = property.as_bytes();
     if let Some(position) = number_in(PropertySection::Bad, text) {
         return Ok((circuit, position));
     }
-    let file = circuit.read_whole(terminal.alloc(), Part::Circuit)?;
-    let position = position_in(terminal.alloc(), file.bytes(), PropertySection::Bad, text)?;
+    let file = circuit.read_whole(rt.alloc(), Part::Circuit)?;
+    let position = position_in(rt.alloc(), file.bytes(), PropertySection::Bad, text)?;
     Ok((file.into_source(), position))
 }
 
 /// Opens the circuit, and finds its property.
-pub fn open_circuit_and_property<'m, 't, R: Files + AllocGlobal + Clock + Eprint>(
-    terminal: &'t Terminal<'t, R>,
+pub fn open_circuit_and_property<'m, R: Files + AllocGlobal>(
+    rt: &R,
     matches: &'m ArgMatches<'_>,
-) -> Result<(Source<'m, Tracked<'t, R, R::File>>, u32), Exit>
+) -> Result<(Opened<'m, R>, u32), Exit>
     ensures circuit { IfOk result (λ r. IsCircuitOf matches.now r.0) }
     ensures named { IfOk result (λ r. HoldsProperty matches.now r.0 r.1) }
 {
-    open_circuit_for(terminal, matches, property_text(matches))
+    open_circuit_for(rt, matches, property_text(matches))
 }
 
 /// Opens the circuit, and returns what is asked of its runs: whether one keeps all constraints, or whether one reaches
 /// its property, with `step` by that of an induction.
-pub fn open_circuit_and_runs<'m, 't, R: Files + AllocGlobal + Clock + Eprint>(
-    terminal: &'t Terminal<'t, R>,
+pub fn open_circuit_and_runs<'m, R: Files + AllocGlobal>(
+    rt: &R,
     matches: &'m ArgMatches<'_>,
     step: bool,
-) -> Result<
-    (
-        Source<'m, Tracked<'t, R, R::File>>,
-        Question<Source<'m, Tracked<'t, R, R::File>>>,
-    ),
-    Exit,
->
+) -> Result<(Opened<'m, R>, Question<Opened<'m, R>>), Exit>
     ensures circuit { IfOk result (λ r. IsCircuitOf matches.now r.0) }
     ensures held { IfOk result (λ r. HoldsAsked matches.now step r.0 r.1) }
     ensures plain { IfOk result (λ r. is_certified r.1 ≡ false) }
 {
     let frames = frames_of(matches)?;
     if has_flag(matches, "alive") {
-        let circuit = open_circuit(terminal, matches)?;
+        let circuit = open_circuit(rt, matches)?;
         return Ok((circuit, Question::Alive { frames }));
     }
-    let (circuit, property) = open_circuit_and_property(terminal, matches)?;
+    let (circuit, property) = open_circuit_and_property(rt, matches)?;
     if step {
         Ok((circuit, Question::Step { frames, property }))
     } else {
@@ -81,27 +74,21 @@ pub fn open_circuit_and_runs<'m, 't, R: Files + AllocGlobal + Clock + Eprint>(
 }
 
 /// The same, or whether a run reaches its property by the certificate, which is opened.
-pub fn open_circuit_and_question<'m, 't, R: Files + AllocGlobal + Clock + Eprint>(
-    terminal: &'t Terminal<'t, R>,
+pub fn open_circuit_and_question<'m, R: Files + AllocGlobal>(
+    rt: &R,
     matches: &'m ArgMatches<'_>,
     step: bool,
-) -> Result<
-    (
-        Source<'m, Tracked<'t, R, R::File>>,
-        Question<Source<'m, Tracked<'t, R, R::File>>>,
-    ),
-    Exit,
->
+) -> Result<(Opened<'m, R>, Question<Opened<'m, R>>), Exit>
     ensures circuit { IfOk result (λ r. IsCircuitOf matches.now r.0) }
     ensures held { IfOk result (λ r. HoldsAsked matches.now step r.0 r.1) }
     ensures certificate { IfOk result (λ r. HoldsCertificate matches.now r.1) }
     ensures claimed { IfOk result (λ r. HoldsClaimed matches.now r.1) }
 {
     if text_of(matches, "certificate").is_none() {
-        return open_circuit_and_runs(terminal, matches, step);
+        return open_circuit_and_runs(rt, matches, step);
     }
-    let (circuit, property) = open_circuit_and_property(terminal, matches)?;
-    let certificate = open_certificate(terminal, matches)?;
+    let (circuit, property) = open_circuit_and_property(rt, matches)?;
+    let certificate = open_certificate(rt, matches)?;
     let question = Question::Certified {
         certificate,
         property,
@@ -110,17 +97,17 @@ pub fn open_circuit_and_question<'m, 't, R: Files + AllocGlobal + Clock + Eprint
 }
 
 /// Opens the circuit, and finds its property if one is named.
-pub fn open_circuit_and_reached<'m, 't, R: Files + AllocGlobal + Clock + Eprint>(
-    terminal: &'t Terminal<'t, R>,
+pub fn open_circuit_and_reached<'m, R: Files + AllocGlobal>(
+    rt: &R,
     matches: &'m ArgMatches<'_>,
-) -> Result<(Source<'m, Tracked<'t, R, R::File>>, Option<u32>), Exit>
+) -> Result<(Opened<'m, R>, Option<u32>), Exit>
     ensures circuit { IfOk result (λ r. IsCircuitOf matches.now r.0) }
     ensures named { IfOk result (λ r. HoldsReached matches.now r.0 r.1) }
 {
     let Some(text) = text_of(matches, "P") else {
-        return Ok((open_circuit(terminal, matches)?, None));
+        return Ok((open_circuit(rt, matches)?, None));
     };
-    let (circuit, property) = open_circuit_for(terminal, matches, text)?;
+    let (circuit, property) = open_circuit_for(rt, matches, text)?;
     Ok((circuit, Some(property)))
 }
 
@@ -169,20 +156,20 @@ fn positions_in(
 
 /// Opens the circuit, and finds the properties of a section that are named. The circuit is read for that only if one of
 /// the texts is a name: the command then has its bytes.
-pub fn open_circuit_and_properties<'m, 't, R: Files + AllocGlobal + Clock + Eprint>(
-    terminal: &'t Terminal<'t, R>,
+pub fn open_circuit_and_properties<'m, R: Files + AllocGlobal>(
+    rt: &R,
     matches: &'m ArgMatches<'_>,
     section: PropertySection,
-) -> Result<(Source<'m, Tracked<'t, R, R::File>>, Vec<u32>), Exit>
+) -> Result<(Opened<'m, R>, Vec<u32>), Exit>
     ensures circuit { IfOk result (λ r. IsCircuitOf matches.now r.0) }
     ensures named { IfOk result (λ r. AreNamedIn section (property_texts matches.now) r.0 r.1.items) }
 {
-    let circuit = open_circuit(terminal, matches)?;
+    let circuit = open_circuit(rt, matches)?;
     let texts = texts_of(matches, "P").unwrap_or(&[]);
-    if let Some(numbers) = numbers_in(terminal.alloc(), section, texts)? {
+    if let Some(numbers) = numbers_in(rt.alloc(), section, texts)? {
         return Ok((circuit, numbers));
     }
-    let file = circuit.read_whole(terminal.alloc(), Part::Circuit)?;
-    let positions = positions_in(terminal.alloc(), file.bytes(), section, texts)?;
+    let file = circuit.read_whole(rt.alloc(), Part::Circuit)?;
+    let positions = positions_in(rt.alloc(), file.bytes(), section, texts)?;
     Ok((file.into_source(), positions))
 }

@@ -4,13 +4,14 @@ use aig_bench::BenchFault;
 use aig_certificate::StrengthenFault;
 use aig_cnf::CnfFault;
 use aig_command::{RunFault, ScriptFault};
+use aig_cut::CutFault;
 use aig_sat::{ModelFault, ProofFault};
 use aig_sim::{ReachFault, StimFault, WitnessFault};
 use aig_unroll::UnrollFault;
 use std::alloc::Global;
 use std::fmt::Display;
 
-static MESSAGES: [(RunFault, &str, u8); 21] = [
+static MESSAGES: [(RunFault, &str, u8); 22] = [
     (RunFault::Memory, "memory", 3),
     (RunFault::Circuit(Fault::Memory), "circuit: memory", 3),
     (RunFault::Stimulus(StimFault::Memory), "stimulus: memory", 3),
@@ -25,6 +26,7 @@ static MESSAGES: [(RunFault, &str, u8); 21] = [
     (RunFault::Unroll(UnrollFault::Memory), "unroll: memory", 3),
     (RunFault::Cnf(CnfFault::Memory), "cnf: memory", 3),
     (RunFault::Select(SelectFault::Memory), "select: memory", 3),
+    (RunFault::Cut(CutFault::Memory), "cut: memory", 3),
     (RunFault::Proof(ProofFault::Memory), "proof: memory", 3),
     (
         RunFault::StepProof(ProofFault::Memory),

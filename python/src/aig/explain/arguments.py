@@ -5,7 +5,7 @@ from __future__ import annotations
 from typing import Dict, List, Sequence, Set
 
 # Options that have no value, unless it is in this command.
-FLAGS = ("--progress", "--json", "--trace", "--properties", "--alive", "--witness", "--step", "--names", "--help", "-h")
+FLAGS = ("--json", "--trace", "--properties", "--alive", "--witness", "--step", "--names", "--help", "-h")
 VALUED = {"--step": "refute", "--names": "select"}
 # The parts of a run whose files come after the circuit.
 PLACES = {"sim": ["stimulus"], "wave": ["stimulus"], "bench": ["stimulus", "script"], "check": ["witness"],
@@ -24,7 +24,7 @@ class Arguments:
         self.files = dict(zip(PLACES.get(self.command, []), plain[2:]))
         if "--witness" in self.flags and "stimulus" in self.files:
             self.files["witness"] = self.files["stimulus"]
-        for name in ("model", "certificate", "names"):
+        for name in ("model", "certificate", "names", "cuts"):
             if f"--{name}" in self.options:
                 self.files[name] = self.options[f"--{name}"]
         if self.command == "refute" and "--step" in self.options:

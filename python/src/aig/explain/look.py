@@ -21,8 +21,10 @@ WANTED_SYMBOL = ("wanted: `= LIT`, where LIT is a literal of CIRCUIT: aig info -
                  " latches")
 LIMIT = ("a circuit has at most 4,194,303 variables and entries of a kind: the strengthened circuit, and for a formula"
          " the one of its two frames, would have more")
-# The last line of a run that failed: the part, and what is wrong with it. It may take the place of a line of progress.
-MESSAGE = re.compile(rb"(?:\A|\n|\x1b\[K)aig: (?:([a-z ]+): )?([^\n]*)\n\Z")
+WANTED_CUT = ("wanted: `f L`, `r L` or `c P`, and a newline: L is the literal of a latch, or for f of a gate, and P the"
+              " position of a constraint, counted from 0")
+# The last line of a run that failed: the part, and what is wrong with it.
+MESSAGE = re.compile(rb"(?:\A|\n)aig: (?:([a-z ]+): )?([^\n]*)\n\Z")
 
 
 class Look:
@@ -70,7 +72,9 @@ class Look:
             self.of_mapping()
         elif part == "certificate" and fault.split()[0] == "symbol":
             self.of_symbol(fault)
-        elif part in ("select", "property") or (fault in ("limit", "no frames") and arguments.has_certificate
+        elif part == "cuts":
+            self.of_cuts(fault)
+        elif part in ("cut", "select", "property") or (fault in ("limit", "no frames") and arguments.has_certificate
                                                 and part in ("strengthen", "cnf")):
             self.of_known(part, fault)
         elif part in ("stimulus", "witness", "bench") and fault != "frame":
@@ -194,9 +198,23 @@ class Look:
                            "no property of the section has the name that --property gives",
                            "aig info --names CIRCUIT prints the properties with their names:"
                            " 3 or b3 is the one at position 3")
+        elif part == "cut":
+            self.lines.add("a circuit has at most 4,194,303 variables and inputs: with one for each latch or gate that is"
+                           " free, the cut circuit would have more")
         else:
             self.lines.name(self.arguments.files.get("certificate", ""))
             self.lines.add(LIMIT)
+
+    def of_cuts(self, fault: str) -> None:
+        """A line that names nothing which the circuit has."""
+        data, number = self.seen("cuts"), int(fault.split()[-1])
+        if isinstance(data, Hidden):
+            self.lines.add(*data.lines)
+        else:
+            self.lines.add(f"line {number} is `{first(line_of(data, number))}`")
+            if data.count(10) < number:
+                self.lines.add("it has no newline at its end")
+        self.lines.add(WANTED_CUT, PRINTS_NAMES)
 
     def of_mapping(self) -> None:
         """A certificate whose comment has a mapping that is wrong."""

@@ -38,6 +38,12 @@ Check each row of a folder of results, or of a .zip of it, again with aig alone.
 Nothing in the bundle is believed. The sources in it are read only with --yosys, by Yosys, and with --simulate, by Icarus
 Verilog, which runs them: do that in a container if you do not trust them.
 """
+CORES = """\
+Find what the proofs of a folder of results need: registers, their resets, and assumptions.
+
+All else of the circuit is cut at once, by `aig cut`, and the row is proved again. These proofs take the place of the old
+ones, and `recheck` checks them. Rows whose needs are known stay as they are, unless --minimal is given.
+"""
 REPLAY = """\
 Play the failing runs of a bundle in Icarus Verilog, after aig has checked the bundle.
 
@@ -64,6 +70,8 @@ exit status:
   1    a bundle was rejected
 """
 _Raw = argparse.RawDescriptionHelpFormatter
+# A parser, or a group of one.
+Arguments = argparse._ActionsContainer
 
 
 # The files of designs.
@@ -88,6 +96,8 @@ def parser() -> argparse.ArgumentParser:
                      allow_abbrev=False)
     _recheck(verbs.add_parser("recheck", help="check a folder of results again", description=RECHECK, epilog=STATUSES,
                               formatter_class=_Raw, allow_abbrev=False))
+    _cores(verbs.add_parser("cores", help="find what the proofs of a folder of results need", description=CORES,
+                            epilog=STATUSES, formatter_class=_Raw, allow_abbrev=False))
     _compare(verbs.add_parser("compare", help="say what changed between two folders of results", description=COMPARE,
                               formatter_class=_Raw, allow_abbrev=False))
     _replay(verbs.add_parser("replay", help="run the failing runs in Icarus Verilog", description=REPLAY,
@@ -110,6 +120,33 @@ def _replay(replay: argparse.ArgumentParser) -> None:
     replay.add_argument("-v", "--verbose", action="store_true", help="name the signals that are not compared")
 
 
+def _cores(cores: argparse.ArgumentParser) -> None:
+    cores.add_argument("bundle", type=Path, metavar="FOLDER", help="a folder of results")
+    cores.add_argument("--minimal", action="store_true", help="try each part that is left, too: it may take long")
+    cores.add_argument("-j", "--jobs", type=_whole(0, 4096), default=0, metavar="N",
+                       help="questions at once (one per processor)")
+    _programs(cores)
+    cores.add_argument("--drat2lrat", metavar="PROGRAM",
+                       help="the program that adds the hints that a solver did not write (drat2lrat)")
+    _printed(cores)
+    cores.add_argument("-q", "--quiet", action="store_true", help="print the table alone: no progress, no notes")
+    cores.set_defaults(cores=True, hints=False, dask=None, only=[], verbose=False)
+
+
+def _programs(verb: Arguments) -> None:
+    verb.add_argument("--solver", default=Programs().solver, metavar="PROGRAM",
+                      help="a solver that writes proofs in DRAT or LRAT, with the options of cadical, or of kissat "
+                           "if its name begins so (cadical)")
+    verb.add_argument("--abc", default=Programs().abc, metavar="PROGRAM",
+                      help="ABC; '' for none (berkeley-abc, or yosys-abc)")
+
+
+def _printed(verb: Arguments) -> None:
+    verb.add_argument("--json", action="store_true", help="print the manifest in place of the table")
+    verb.add_argument("--junit", type=Path, metavar="FILE", help="write the table as JUnit XML, for a CI server")
+    verb.add_argument("--zip", type=Path, metavar="FILE", help="write the folder of results as a .zip")
+
+
 def _compare(compare: argparse.ArgumentParser) -> None:
     compare.add_argument("old", type=Path, metavar="OLD", help="the bundle of the version before: a folder or a .zip")
     compare.add_argument("new", type=Path, metavar="NEW", help="the bundle of the version now")
@@ -125,9 +162,11 @@ def _compare(compare: argparse.ArgumentParser) -> None:
 
 def _run(run: argparse.ArgumentParser) -> None:
     usual = Bounds()
-    run.add_argument("files", nargs="+", type=Path, metavar="FILE",
+    run.add_argument("files", nargs="*", type=Path, metavar="FILE",
                      help="Verilog sources (.v, .sv), or one circuit (.aig, .aag)")
     of_design = run.add_argument_group("design")
+    of_design.add_argument("-f", "--list", action="append", default=[], type=Path, metavar="LIST", dest="lists",
+                           help="read files and options (+incdir+, +define+, ..) of this list, as a simulator does")
     of_design.add_argument("--top", metavar="MODULE", help="the top module (default: Yosys finds it)")
     of_design.add_argument("-D", "--define", action="append", default=[], metavar="NAME[=VALUE]",
                            help="define a macro")
@@ -153,6 +192,8 @@ def _run(run: argparse.ArgumentParser) -> None:
                         help=f"search runs and inductions of up to N frames ({usual.frames})")
     search.add_argument("--seconds", type=_number(1, 10**7), default=usual.seconds, metavar="S",
                         help=f"limit of one question; a property gets five times as much ({usual.seconds:g})")
+    search.add_argument("--total", type=_time, metavar="TIME",
+                        help="end the search after so long, as 90s, 10m or 2h; the same command goes on (none)")
     search.add_argument("--conflicts", type=_whole(0, 2**31 - 1), default=usual.conflicts, metavar="N",
                         help="limit of one question that is the same on each machine (none)")
     search.add_argument("--megabytes", type=_whole(0, 2**31 - 1), default=usual.megabytes, metavar="N",
@@ -162,11 +203,11 @@ def _run(run: argparse.ArgumentParser) -> None:
     search.add_argument("-j", "--jobs", type=_whole(0, 4096), default=0, metavar="N",
                         help="questions at once (one per processor)")
     search.add_argument("--dask", metavar="ADDRESS", help="ask the workers of a Dask cluster")
-    search.add_argument("--solver", default=Programs().solver, metavar="PROGRAM",
-                        help="a solver that writes proofs in DRAT or LRAT, with the options of cadical, or of kissat "
-                             "if its name begins so (cadical)")
-    search.add_argument("--abc", default=Programs().abc, metavar="PROGRAM",
-                        help="ABC; '' for none (berkeley-abc, or yosys-abc)")
+    _programs(search)
+    search.add_argument("--cores", action="store_true",
+                        help="find what each proof needs, too: registers, their resets and assumptions")
+    search.add_argument("--minimal", action="store_true",
+                        help="with --cores: try each part that is left, too; it may take long")
     search.add_argument("--simulator", default="iverilog", metavar="PROGRAM",
                         help="Icarus Verilog, which plays each run and compares the circuit on random runs (iverilog)")
     search.add_argument("--no-simulator", action="store_true", help="play nothing in a simulator")
@@ -177,9 +218,7 @@ def _run(run: argparse.ArgumentParser) -> None:
     results.add_argument("--drat2lrat", metavar="PROGRAM",
                          help="the program that adds the hints that a solver did not write; it implies --hints "
                               "(drat2lrat)")
-    results.add_argument("--json", action="store_true", help="print the manifest in place of the table")
-    results.add_argument("--junit", type=Path, metavar="FILE", help="write the table as JUnit XML, for a CI server")
-    results.add_argument("--zip", type=Path, metavar="FILE", help="write the folder of results as a .zip")
+    _printed(results)
     shown = results.add_mutually_exclusive_group()
     shown.add_argument("-v", "--verbose", action="store_true",
                        help="print rows as they are decided, also without a terminal")
@@ -219,6 +258,18 @@ def _whole(least: int, most: int) -> Callable[[str], int]:
         return int(text)
     number.__name__ = f"number from {least} to {most}"
     return number
+
+
+_UNITS = {"s": 1, "m": 60, "h": 3600}
+
+
+def _time(text: str) -> int:
+    """Seconds of a time as 90s, 10m or 2h."""
+    number = _whole(1, 10**7)(text[:-1])
+    return number * _UNITS[text[-1]]
+
+
+_time.__name__ = "time (90s, 10m or 2h)"
 
 
 def _number(least: float, most: float) -> Callable[[str], float]:

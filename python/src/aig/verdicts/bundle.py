@@ -11,7 +11,7 @@ from pathlib import Path
 from typing import Any, Dict, List, Optional, Union
 
 from .checked import CIRCUIT, Wrong, expect, sum_of
-from .manifest import MANIFEST, PLAIN, files_of, parsed, row_of
+from .manifest import MANIFEST, PLAIN, WITH_CUTS, files_of, parsed, row_of
 from .row import Row
 
 MOST_BYTES = 1 << 30
@@ -119,6 +119,8 @@ class Bundle:
         self._most = most_bytes
         self.manifest: Dict[str, Any] = parsed(self._read(MANIFEST, min(most_bytes, MOST_OF_MANIFEST)))
         self.rows: List[Row] = [row_of(value) for value in self.manifest["rows"]]
+        has_cuts = any(row.claim is not None and row.claim.cut for row in self.rows)
+        expect((self.manifest["format"] == WITH_CUTS) == has_cuts, "format of MANIFEST.json")
         names = files_of(self.manifest, self.rows)
         expect(len(set(names)) == len(names), "a file belongs to two rows")
         expect(set(names) == set(self.sums), "the sums are not those of the files of the rows, each once")

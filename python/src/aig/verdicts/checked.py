@@ -6,12 +6,14 @@ from __future__ import annotations
 
 import hashlib
 from dataclasses import InitVar, dataclass
-from typing import Callable, Dict, List, Mapping, NamedTuple, Tuple
+from typing import Callable, Dict, List, Mapping, NamedTuple, Optional, Tuple
 
 from ..errors import AigError
 from .tools import Stop, answer
 
 CIRCUIT = "circuit.aig"
+# The circuit without what the file of a row cuts. It is in no bundle: each check makes it.
+CUT = "cut.aag"
 # The position of the row that says whether some run keeps the constraints.
 CONSTRAINTS = -1
 # Lines that `aig` prints.
@@ -46,13 +48,14 @@ class Shown(NamedTuple):
     possible: Tuple[str, ...] = ()
 
 
-# What a verdict is found by, and the files of each. A row that nothing shows has none.
+# What a verdict is found by, and the files of each. A row that nothing shows has none. With a file of cuts the proofs are
+# about the circuit without these parts: what no run reaches there, none reaches in the whole circuit.
 WAYS: Dict[str, Shown] = {
     "run": Shown(("witness",), ("shorter",)),
-    "induction": Shown(("base", "step")),
-    "certificate": Shown(("certificate", "proof")),
+    "induction": Shown(("base", "step"), ("cuts",)),
+    "certificate": Shown(("certificate", "proof"), ("cuts",)),
     "bound": Shown(("base",)),
-    "alive": Shown(("alive",)),
+    "alive": Shown(("alive",), ("cuts",)),
     "kept": Shown(("witness",)),
     "": Shown(),
 }
@@ -74,9 +77,9 @@ class Parts(NamedTuple):
 
 
 def parts_of(words: List[str]) -> Parts:
-    """The parts of a command of a claim."""
-    options, named = words[1:-2], {}
-    for option in ("--step", "--certificate"):
+    """The parts of a command of a claim. Where it has two files at its end, the circuit is the one before the last."""
+    options, named = words[1 : -1 if words[0] == "cut" else -2], {}
+    for option in ("--step", "--certificate", "--cuts"):
         if option in options:
             place = options.index(option)
             named[option] = options[place + 1]
@@ -116,6 +119,16 @@ class Claim:
         return {"run": CONFIRMED, "induction": UNREACHABLE, "certificate": UNREACHABLE, "kept": ALIVE,
                 "bound": f"unreachable within {self.frames}", "alive": f"no run of {self.frames} frames"}[self.by]
 
+    @property
+    def circuit(self) -> str:
+        """What the commands are about: the circuit, or what is left of it."""
+        return CUT if "cuts" in self.files else CIRCUIT
+
+    @property
+    def cut(self) -> List[str]:
+        """The command that writes what is left of the circuit; nothing if all of it is."""
+        return ["cut", "--to", "aag", "--cuts", self.files["cuts"], CIRCUIT] if "cuts" in self.files else []
+
     def commands(self) -> List[Command]:
         """The commands that check the claim. The first one prints its line."""
         files = self.files
@@ -136,7 +149,7 @@ class Claim:
             words = ["check", "--alive", f"--frames={self.frames}", CIRCUIT, files["witness"]]
             return [Command(self.line, words)]
         if self.by == "alive":
-            words = ["refute", "--alive", f"--frames={self.frames}", CIRCUIT, files["alive"]]
+            words = ["refute", "--alive", f"--frames={self.frames}", self.circuit, files["alive"]]
             return [Command(self.line, words)]
         return []
 
@@ -144,7 +157,7 @@ class Claim:
         return self._refuted(f"unreachable within {frames}", [f"--frames={frames}"], [], proof)
 
     def _refuted(self, prints: str, frames: List[str], more: List[str], proof: str) -> Command:
-        return Command(prints, ["refute", *frames, self._property, *more, CIRCUIT, proof])
+        return Command(prints, ["refute", *frames, self._property, *more, self.circuit, proof])
 
 
 # Only this module has it, so only `check` makes a Checked.
@@ -159,12 +172,14 @@ class Checked:
     circuit  the sum of the circuit (SHA-256)
     sums     those of the files, by role
     key      that of this module
+    cuts     the file of what was cut from the circuit; none if the commands were about all of it
     """
 
     claim: Claim
     circuit: str
     sums: Mapping[str, str]
     key: InitVar[object]
+    cuts: Optional[bytes] = None
 
     def __post_init__(self, key: object) -> None:
         if key is not _KEY:
@@ -207,9 +222,23 @@ def check(claim: Claim, circuit: bytes, read: Callable[[str], bytes], stop: Stop
     expect(commands != [] and commands[0].prints == claim.line, f"nothing shows the verdict of {claim.label}")
     if claim.by == "run":
         _look_at_witness(claim, text(claim.files["witness"]))
+    left = _left(claim, circuit, text, stop)
     for command in commands:
-        _ask(claim, command, circuit, text, stop)
-    return Checked(claim, sum_of(circuit), {role: sum_of(text(name)) for role, name in claim.named}, _KEY)
+        _ask(claim, command, left, text, stop)
+    cuts = text(claim.files["cuts"]) if claim.cut else None
+    return Checked(claim, sum_of(circuit), {role: sum_of(text(name)) for role, name in claim.named}, _KEY, cuts)
+
+
+def _left(claim: Claim, circuit: bytes, text: Callable[[str], bytes], stop: Stop) -> bytes:
+    """What the commands of a claim are about: the circuit, or what `aig cut` leaves of it."""
+    if not claim.cut:
+        return circuit
+    options, named, last = parts_of(claim.cut)
+    expect(last == CIRCUIT, f"{claim.label} is about another circuit")
+    try:
+        return answer(stop, "cut", *options, files=[circuit], named={it: text(name) for it, name in named.items()}).out
+    except AigError as error:
+        raise Rejected(claim.label, "cut", error) from None
 
 
 def _look_at_witness(claim: Claim, witness: bytes) -> None:
@@ -223,7 +252,7 @@ def _ask(claim: Claim, command: Command, circuit: bytes, text: Callable[[str], b
     """Has `aig` answer a command, and compares its line and its status."""
     line, words = command
     options, files, last = parts_of(words)
-    expect(words[-2] == CIRCUIT, f"{claim.label} is about another circuit")
+    expect(words[-2] == claim.circuit, f"{claim.label} is about another circuit")
     named = {option: text(file) for option, file in files.items()}
     try:
         said = answer(stop, words[0], *options, files=[circuit, text(last)], named=named, good=(0, 1))

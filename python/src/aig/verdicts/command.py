@@ -1,4 +1,4 @@
-"""The commands `aig-verdicts run`, `demo`, `recheck`, `compare` and `replay`."""
+"""The commands `aig-verdicts run`, `demo`, `recheck`, `cores`, `compare` and `replay`."""
 
 from __future__ import annotations
 
@@ -9,7 +9,6 @@ import io
 import secrets
 import signal
 import sys
-from dataclasses import replace
 from pathlib import Path
 from typing import Any, Callable, Collection, Dict, List, Optional, Sequence, Set
 
@@ -18,6 +17,7 @@ from ..errors import AigError, Crashed
 from .arguments import CIRCUITS, parser, with_verb
 from .audited import audited, options_of
 from .bundle import Bundle
+from .bundled import session_of
 from .checked import CIRCUIT, Wrong
 from .compare import against, compare, last_line, write
 from .decide import Bounds, Programs
@@ -26,24 +26,26 @@ from .decisions import (
 )
 from .demo import written
 from .design import Design, read_aiger
+from .file_lists import listed
 from .folder import PAGE, pack, write_whole
 from .made import made
 from .manifest import as_json, rows_as_json
 from .matching import Version
 from .page import Page
-from .progress import Progress
+from .programs import lost_without, programs_of, tracing
+from .progress import Progress, waiting
 from .recheck import Unanswered, is_kept, is_older, recheck, same_design, same_sources
 from .replay.command import replay
 from .replay.run import Bounds as PlayBounds, simulated
 from .row import Row
 from .runs import comes_back
 from .sections import Pictures
-from .sentences import NOT_COMPARED, short_runs
-from .session import STOPPED, Session
+from .needs_page import Proofs
+from .sentences import NOT_COMPARED, no_proof_needs, of_needs, short_runs
+from .session import STOPPED, Session, Work
 from .sides import side_of, table_of
 from .since import Since, opened, since_of
 from .simulated import Simulated, of_facts
-from .solvers import writes_hints
 from .table import junit, open_notes, plain, text
 from .tools import Clock, Stop, Stopped, ToolFailed, missing, version
 from .workers import Dask
@@ -52,6 +54,8 @@ from .workers import Dask
 MOST_SEEDS = 2**31 - 1
 # So many notes on rows are printed.
 MOST_NOTES = 12
+# What is said where the time of the whole run is over.
+TOTAL = "the time of --total is over"
 _SIGNALS = (signal.SIGINT, signal.SIGTERM)
 
 
@@ -96,6 +100,14 @@ def _say_of_assumptions(alive: Row, circuit: bytes, read: Callable[[str], bytes]
         _said(short_runs(alive))
 
 
+def _say_of_needs(table: Sequence[Judged], circuit: bytes) -> None:
+    """Says which assumptions no proof needs."""
+    proofs = Proofs.of(table)
+    said = no_proof_needs(proofs.unneeded(circuit), len(proofs.known), proofs.others) if proofs.known else ""
+    if said:
+        _said(said)
+
+
 def _page(to: Path, manifest: Dict[str, Any], rows: List[Row], read: Callable[[str], bytes], seconds: Dict[int, float],
           is_unfinished: bool, pictures: Optional[Pictures] = None) -> None:
     table = table_of(rows, read(CIRCUIT), of_facts(manifest.get("simulated", {})))
@@ -103,34 +115,24 @@ def _page(to: Path, manifest: Dict[str, Any], rows: List[Row], read: Callable[[s
     write_whole(to, page.html().encode("utf-8", "replace"))
 
 
-def _lost(words: argparse.Namespace) -> Dict[str, str]:
-    """What is lost without each program that is missing, by what to say of it. A cluster has its own programs."""
-    found = {missing(words.solver): "nothing is shown to hold, and runs are those of ABC alone"}
-    if words.abc:
-        found[missing(words.abc)] = "no invariants and no long runs are found"
-    return {said: lost for said, lost in found.items() if said and not words.dask}
-
-
-def _programs(words: argparse.Namespace) -> Programs:
-    """The programs. Hints are those of `drat2lrat`, or else the solver's own. A cluster has its own programs."""
-    without_hints = Programs(words.solver, words.abc or None)
-    if not words.hints and words.drat2lrat is None:
-        return without_hints
-    name: str = words.drat2lrat if words.drat2lrat is not None else "drat2lrat"
-    said = "" if words.dask else missing(name)
-    if not said:
-        return replace(without_hints, drat2lrat=name)
-    if words.drat2lrat is None and writes_hints(words.solver):
-        return without_hints
-    raise ToolFailed(f"--hints: {said}, and {words.solver} writes no LRAT; the sources of aig have it "
-                     "(tests/hints/drat2lrat.cpp)")
-
-
 def run(words: argparse.Namespace, stop: Stop) -> int:
-    programs, lost = _programs(words), {} if words.quiet else _lost(words)
+    """Finds the verdicts of a design, in the time that there is for all of it."""
+    of_lists = listed(words.lists)
+    words.files, words.include = words.files + of_lists.files, words.include + of_lists.include
+    words.define += of_lists.define
+    if not words.files:
+        raise ToolFailed("the lists name no file")
+    with stop.after(words.total):
+        return _run(words, stop)
+
+
+def _run(words: argparse.Namespace, stop: Stop) -> int:
+    programs, lost = programs_of(words), {} if words.quiet else lost_without(words)
     for said, what in lost.items():
         _said(f"{said}: {what}")
-    design = _design(words, stop)
+    hinting = tracing(words, _said) if words.cores else None
+    with waiting("yosys makes the circuit", words.verbose, words.quiet):
+        design = _design(words, stop)
     only = chosen(design, words.only)
     path = words.out or Path(f"{design.name}.verdicts")
     bounds = Bounds(words.frames, words.conflicts, words.seconds, words.megabytes, words.proof_megabytes)
@@ -145,15 +147,12 @@ def run(words: argparse.Namespace, stop: Stop) -> int:
                 _said(f"an earlier row is not what it says, and is searched again: {wrong}")
             for note in design.notes:
                 _said(note)
-        is_complete = _search(words, session)
-        if not is_complete:  # what was done is written, whatever else the user presses
-            for number in _SIGNALS:
-                signal.signal(number, signal.SIG_IGN)
+        is_complete = _search(words, session, hinting)
         return _results(words, session, is_complete, lost, since)
 
 
-def _search(words: argparse.Namespace, session: Session) -> bool:
-    """Finds the verdicts. Whether all was searched."""
+def _renewing(session: Session) -> Callable[[bool], None]:
+    """What writes the page of a session; it is unfinished or not."""
     pictures: Pictures = {}
 
     def renew(is_unfinished: bool = True) -> None:
@@ -165,21 +164,52 @@ def _search(words: argparse.Namespace, session: Session) -> bool:
             if not is_unfinished:  # else the search goes on without a page
                 raise
 
+    return renew
+
+
+def _search(words: argparse.Namespace, session: Session, hinting: Optional[str]) -> bool:
+    """Finds the verdicts. Whether all was searched."""
+    renew = _renewing(session)
     shown = {row.position for row in session.rows if row.kind in ("assert", "cover")}
     shown &= shown if session.only is None else set(session.only)
-    clock, progress = Clock(), Progress(session.rows, shown, words.verbose, words.quiet, renew)
+    clock, progress = Clock(), Progress(session.rows, shown, words.verbose, words.quiet, lambda: renew(True))
     progress.begin(session.waiting())
-    renew()  # a page of an earlier run would be about something else
+    renew(True)  # a page of an earlier run would be about something else
     if words.dask:
         with contextlib.closing(Dask(words.dask)) as dask:
-            is_complete = session.search(dask.executor, words.jobs, progress, dask.share)
+            is_complete = _work(words, session, hinting, Work(dask.executor, words.jobs, progress, dask.share))
     else:
-        is_complete = session.search(None, words.jobs, progress)
+        is_complete = _work(words, session, hinting, Work(None, words.jobs, progress))
     progress.end()
     if is_complete and not words.no_simulator:
         _simulate(words, session, clock())
     renew(not is_complete)
     return is_complete
+
+
+def _work(words: argparse.Namespace, session: Session, hinting: Optional[str], work: Work) -> bool:
+    """Finds the verdicts, and what their proofs need if that is asked for. Whether all was done."""
+    is_complete = session.search(work.executor, work.workers, work.progress, work.share)
+    return is_complete and (not words.cores or session.narrow(hinting, words.minimal, work))
+
+
+def cores(words: argparse.Namespace, stop: Stop) -> int:
+    """Finds what the proofs of a folder need."""
+    hinting = tracing(words, _said)
+    if not words.bundle.is_dir():
+        raise FileNotFoundError(f"there is no folder of results {words.bundle}")
+    session = session_of(words.bundle, programs_of(words), stop)
+    with contextlib.closing(session):
+        session.open(words.jobs)
+        for wrong in session.rejected:
+            _said(f"a row is not what it says: {wrong}")
+        renew = _renewing(session)
+        progress = Progress(session.rows, set(), False, words.quiet, lambda: renew(True))
+        progress.begin([])
+        is_stopped = not session.narrow(hinting, words.minimal, Work(None, words.jobs, progress))
+        progress.end()
+        renew(is_stopped)
+        return _results(words, session, not is_stopped, (), None)
 
 
 def _simulate(words: argparse.Namespace, session: Session, seconds: float) -> None:
@@ -208,6 +238,9 @@ def _say_notes(table: Sequence[Judged], said: Collection[str]) -> None:
 def _results(words: argparse.Namespace, session: Session, is_complete: bool, said: Collection[str],
              since: Optional[Since]) -> int:
     """Prints and writes what was found, and returns the exit status. What was said is not said again."""
+    if not is_complete:  # what was done is written, whatever else the user presses
+        for number in _SIGNALS:
+            signal.signal(number, signal.SIG_IGN)
     table = table_of(session.rows, session.design.circuit, session.simulated)
     if session.only is not None:
         table = [it for it in table if it.row.position in session.only]
@@ -227,10 +260,11 @@ def _results(words: argparse.Namespace, session: Session, is_complete: bool, sai
     if not words.quiet:
         _say_notes(table, said)
         _say_of_assumptions(session.rows[0], session.design.circuit, session.folder.read)
+        _say_of_needs(table, session.design.circuit)
         if not session.simulated.agrees:
             _said(session.simulated.circuit)
         if not is_complete:
-            _said("stopped; the same command goes on")
+            _said(f"{TOTAL if session.stop.is_late else 'stopped'}; the same command goes on")
         page = plain(str(session.folder.path / PAGE))
         said_last = line_of_run(table, bool(session.design.sources), session.simulated)
         print(f"{plain(said_last)}: {page}", file=sys.stderr)
@@ -239,7 +273,7 @@ def _results(words: argparse.Namespace, session: Session, is_complete: bool, sai
     if is_complete:
         session.folder.forget_before()
     status = changed.status if changed and is_asked else exit_status(table, session.asked)
-    return status if is_complete else INTERRUPTED
+    return status if is_complete or session.stop.is_late else INTERRUPTED
 
 
 def demo(_: argparse.Namespace, stop: Stop) -> int:
@@ -252,7 +286,8 @@ def demo(_: argparse.Namespace, stop: Stop) -> int:
 def again(words: argparse.Namespace, stop: Stop) -> int:
     def say(row: Row) -> None:
         if not words.quiet and not words.json:
-            print(f"{row.label}  {row.verdict}  {plain(row.name)}".rstrip())
+            needs = f"  needs {of_needs(row.needs)}" if row.needs is not None else ""
+            print(f"{row.label}  {row.verdict}  {plain(row.name)}".rstrip() + needs)
 
     if not words.bundle.exists():
         raise FileNotFoundError(f"there is no bundle {words.bundle}")
@@ -282,6 +317,7 @@ def again(words: argparse.Namespace, stop: Stop) -> int:
         _said("that some run keeps the assumptions is a solver's word, as the bundle is of an older version")
     if not words.quiet:
         _say_of_assumptions(bundle.rows[0], bundle.circuit(), bundle.summed)
+        _say_of_needs(table, bundle.circuit())
     if not said.agrees:
         _said(said.circuit)
     of_sources, count = compared(bool(bundle.manifest["sources"]), of_yosys, said), asked(bundle.manifest)
@@ -305,8 +341,8 @@ def _ended(call: Callable[[argparse.Namespace, Stop], int], words: argparse.Name
     try:
         return call(words, stop)
     except (Stopped, KeyboardInterrupt):
-        _said("stopped")
-        return INTERRUPTED
+        _said(TOTAL if stop.is_late else "stopped")
+        return OPEN if stop.is_late else INTERRUPTED
     except BrokenPipeError:
         sys.stdout = open("/dev/null", "w")  # Python would flush the old one, and complain
         return UNREADABLE
@@ -333,14 +369,17 @@ def main(arguments: Optional[List[str]] = None) -> int:
         print(version(program(), stop))
         return 0
     if words.verb is None:
-        reader.error("run, demo, recheck, compare or replay?")
+        reader.error("run, demo, recheck, cores, compare or replay?")
+    if words.verb == "run" and not words.files and not words.lists:
+        reader.error("run: which design? Name its files, or lists of them with -f")
     # A signal that was ignored at the start, as in the background of a shell, stays so.
     before = {number: signal.getsignal(number) for number in _SIGNALS}
     taken = [number for number, handler in before.items() if handler is not signal.SIG_IGN]
     for number in taken:
         signal.signal(number, stop)
     try:
-        return _ended({"run": run, "demo": demo, "recheck": again, "compare": compare, "replay": replay}[words.verb], words, stop)
+        verbs = {"run": run, "demo": demo, "recheck": again, "cores": cores, "compare": compare, "replay": replay}
+        return _ended(verbs[words.verb], words, stop)
     finally:
         for number in taken:
             signal.signal(number, signal.SIG_IGN if stop.stopped else before[number])

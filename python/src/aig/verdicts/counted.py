@@ -60,6 +60,14 @@ class _Loop:
         """Whether Yosys counts it as the standard does."""
         return self._has_own_type() or self._is_counted()
 
+    def stays_above_zero(self) -> bool:
+        """Whether no round has a negative value, as it counts upwards, or down to a bound."""
+        bound, step, first = self._bound(), self._step(), self._known(self._first)
+        if first is None or first < 0 or bound is None or step is None:
+            return False
+        is_up = step.kind != "SUB" and step.value is not None and step.value >= 0
+        return is_up or bound.kind in ("GT", "GE") and bound.value is not None and bound.value >= 0
+
     def _has_own_type(self) -> bool:
         """Whether the first value and the step have the type of the variable."""
         others = [it for it in leaves(self._next) if it.name != self._name]
@@ -148,6 +156,11 @@ class _Loop:
         """The value of a constant that no instance changes, and that is the same in each width."""
         is_wide = self._scope.own_width(node) >= UNSIZED
         return None if names(node) & self._given or grows(node) and not is_wide else self._scope.value(node)
+
+
+def may_be_negative(scope: Scope, node: Node, declared: Type) -> bool:
+    """Whether the variable of a loop may be negative in it, whatever instances give to parameters."""
+    return declared.is_signed and not _Loop(scope, node, declared, {*scope.parameters}).stays_above_zero()
 
 
 def _given(module: Node, parameters: Set[int]) -> Set[str]:

@@ -10,7 +10,7 @@ import zlib
 from contextlib import contextmanager
 from dataclasses import dataclass, field, replace
 from pathlib import Path
-from typing import Dict, Iterator, List, Optional
+from typing import Dict, Iterator, List, Optional, Union
 
 from ..errors import AigError, Crashed
 from .checked import Checked, Claim, Wrong
@@ -102,15 +102,30 @@ class Hint:
 
 
 @dataclass(frozen=True)
+class Narrow:
+    """A row that is decided, and whose proof may need less of the circuit.
+
+    known       its proof
+    drat2lrat   the program that adds hints to a proof that has none
+    is_minimal  whether each part that is left is tried, too
+    """
+
+    known: Hint
+    drat2lrat: Optional[str] = None
+    is_minimal: bool = False
+
+
+@dataclass(frozen=True)
 class Task:
     """What to decide: a property of a circuit, or -1: whether some run keeps all constraints. `hint` is what is known of
-    an earlier version."""
+    an earlier version, and `narrow` a row that is decided: the task is then to find what its proof needs."""
 
     circuit: Optional[Sent]
     position: int
     bounds: Bounds = Bounds()
     programs: Programs = Programs()
     hint: Optional[Hint] = None
+    narrow: Optional[Narrow] = None
 
     @staticmethod
     def of(circuit: bytes, position: int, bounds: Bounds = Bounds(), programs: Programs = Programs()) -> Task:
@@ -161,6 +176,7 @@ def decide(task: Task, stop: Optional[Stop] = None) -> Found:
     """Finds the verdict of a task. A crash of a tool or of `aig`, a full disk or a rejected file makes a note, and no
     exception.
     What is known when the search ends stays, also where the user stops it."""
+    from .narrowing import Narrowing
     from .search import Search
 
     clock = Clock()
@@ -170,7 +186,8 @@ def decide(task: Task, stop: Optional[Stop] = None) -> Found:
             raise ToolFailed("the task came without its circuit")
         circuit = task.circuit.circuit()
         with tempfile.TemporaryDirectory(prefix="aig-verdicts-") as folder:
-            search = Search(task, circuit, Path(folder), stop or Stop(), found)
+            about = (circuit, Path(folder), stop or Stop(), found)
+            search: Union[Narrowing, Search] = Narrowing(task, *about) if task.narrow else Search(task, *about)
             with noted(found):
                 search.search()
             search.keep()

@@ -10,6 +10,7 @@ from typing import TYPE_CHECKING, Any, Callable, Dict, List, Literal, NamedTuple
 from . import sentences
 from .checked import CONFIRMED, UNREACHABLE, Checked, Wrong, expect
 from .cycles import Moment
+from .pieces import Needs
 from .row import LEFT_OUT, UNDECIDED, Row
 from .sentences import DISAGREES, NOT_COMPARED, NOT_SIMULATED, Remark
 
@@ -105,6 +106,12 @@ class Judged:
     def at(self) -> str:
         """When the assertion fails, or the cover is reached, if that is known."""
         return f"at {self.moment}" if self.moment else ""
+
+    @property
+    def needs(self) -> Optional[Needs]:
+        """What the proofs that show it need, if they are about less than the whole circuit."""
+        shown = self.proof or self.row
+        return shown.needs if self.result in ("holds", "never", "vacuous") else None
 
     @property
     def status(self) -> int:

@@ -17,6 +17,7 @@ from .assertions import copies
 from .labels import AS_BLOCKS
 from .lax import ranges_of_words
 from .ranges import Ranges
+from .registers import registers
 from .sources import Sources, look_at_words, places
 from .clocks import timing
 from .timing import Timing
@@ -100,28 +101,48 @@ def read_aiger(path: Path) -> Design:
     return Design(path.stem, circuit, assertions)
 
 
-def read_verilog(
-    sources: Sequence[Path], top: Optional[str], stop: Stop, defines: Sequence[str] = (), conditions: bool = True,
-    wires: bool = True, yosys: str = "yosys", seconds: float = 600.0, include: Sequence[Path] = (), free: Sequence[str] = (),
-    asserts: Sequence[Path] = (), module: str = "",
-) -> Design:
-    """The circuit of a Verilog design. `include` has the folders of files that sources include, and `free` the modules whose
-    outputs are free values. The files of `asserts` are put into a module."""
-    top = top or None
-    look_at_words(top, defines)
-    read = Sources([*sources, *asserts], include)
-    options: Dict[str, object] = {"top": top or "", "defines": list(defines), "conditions": conditions, "wires": wires}
-    if free:
-        options["free"] = sorted(free)
-    if asserts:
-        options.update(asserts=read.apart(asserts), module=module)
+@dataclass(frozen=True)
+class Reading:
+    """How Yosys reads the sources of a design.
+
+    top         the top module; if it is empty, Yosys finds it
+    defines     macros, as NAME or NAME=VALUE
+    conditions  whether the `if` around an assertion has a row
+    wires       whether named wires are kept for the page
+    include     the folders of files that sources include
+    free        the modules whose outputs are free values
+    asserts     the files that are put before the end of `module`
+    yosys       the program, which may take so many seconds for each of its runs
+    """
+
+    top: str = ""
+    defines: Sequence[str] = ()
+    conditions: bool = True
+    wires: bool = True
+    include: Sequence[Path] = ()
+    free: Sequence[str] = ()
+    asserts: Sequence[Path] = ()
+    module: str = ""
+    yosys: str = "yosys"
+    seconds: float = 600.0
+
+
+def read_verilog(sources: Sequence[Path], how: Reading, stop: Stop) -> Design:
+    """The circuit of a Verilog design."""
+    look_at_words(how.top or None, how.defines)
+    read = Sources([*sources, *how.asserts], how.include)
+    options: Dict[str, object] = {"top": how.top, "defines": list(how.defines), "conditions": how.conditions, "wires": how.wires}
+    if how.free:
+        options["free"] = sorted(how.free)
+    if how.asserts:
+        options.update(asserts=read.apart(how.asserts), module=how.module)
 
     def made_of(translated: Dict[str, bytes]) -> _Made:
         with tempfile.TemporaryDirectory(prefix="aig-verdicts-") as name:
             folder = Path(name)
             (folder / "sources").mkdir()
             read.write(folder / "sources", translated)
-            return _Made(folder, read, top, defines, conditions, wires, yosys, seconds, stop, free)
+            return _Made(folder, read, how, stop)
 
     try:
         found = copies(read.texts, read.read, options)
@@ -206,13 +227,12 @@ def _unique(labels: Sequence[str]) -> List[str]:
 class _Made:
     """What Yosys makes of the sources in a folder."""
 
-    def __init__(self, folder: Path, read: Sources, top: Optional[str], defines: Sequence[str], conditions: bool, wires: bool,
-                 program: str, seconds: float, stop: Stop, free: Sequence[str]):
-        runs = yosys.Yosys(folder, program, seconds, stop)
-        first, has_blocks = runs.read_any([f"sources/{name}" for name in read.read], top, defines)
+    def __init__(self, folder: Path, read: Sources, how: Reading, stop: Stop):
+        runs = yosys.Yosys(folder, how.yosys, how.seconds, stop)
+        first, has_blocks = runs.read_any([f"sources/{name}" for name in read.read], how.top, how.defines)
         blocks = [AS_BLOCKS] * has_blocks
         findings.look_at_sources(runs)
-        said = runs.prepare(free)
+        said = runs.prepare(how.free)
         resets = script.resetting()
         runs.run(resets)
         said += runs.settle()
@@ -227,7 +247,7 @@ class _Made:
         one_clock = netlist.one_clock(flat)
         self.timing = timing(flat, one_clock)
         directed = runs.direct(flat)
-        second = script.making(one_clock, conditions, wires)
+        second = script.making(one_clock, how.conditions, how.wires)
         runs.make(second, flat[netlist.top_of(modules)])
         self.notes = said + findings.notes(runs, modules, flat, one_clock)
         self.script = "\n".join([*blocks, *first, script.PREPARED, *resets, script.SETTLED, *flatten, *directed, *second,
@@ -236,13 +256,16 @@ class _Made:
         self._rows(found, order, netlist.checks(modules, self.top))
         self.notes[:0] = read.left_out()
         self._without_rows(read, found.values(), findings.live_places(modules))
-        self.notes += [note for note in [untried(version(program, stop))] if note]
+        self.notes += [note for note in [untried(version(how.yosys, stop))] if note]
         module, clocked = flat[self.top], runs.modules("clocked.json")
         ports = list(module["ports"])
-        hidden = names.hidden_names(runs.text("names"), names.lines_of_x(clocked), names.made_names(clocked))
+        assumed = runs.cells_in("assumed")
+        of_rows = {cell: str(it.position) for cell, it in zip(self._cells, self.assertions) if it.of is None}
+        own = registers(flat, {**of_rows, **{cell: f"assumed_{k}" for k, cell in enumerate(assumed)}})
+        hidden = names.hidden_names(runs.text("names"), names.lines_of_x(clocked), names.made_names(clocked, own), own)
         positions = {cell: position for position, cell in enumerate(order)}
         properties = [(positions[cell], symbol(it.kind, it.name)) for cell, it in zip(self._cells, self.assertions)]
-        assumptions = _assumptions(modules, flat, runs.cells_in("assumed"))
+        assumptions = _assumptions(modules, flat, assumed)
         ranges = Ranges(module, ranges_of_words(runs.text("tree").splitlines()))
         self.circuit = names.named((folder / "made.aig").read_bytes(), hidden, ports, properties, assumptions, ranges)
 

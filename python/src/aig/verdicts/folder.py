@@ -18,12 +18,15 @@ except ImportError:  # no Unix
     fcntl = None  # type: ignore[assignment]
 
 from .bundle import LOCK, MOST_BYTES, PLAIN_FILE, Bundle, PlainFolder, Wrong, sum_of
+from .checked import CUT
 from .manifest import MANIFEST, as_json
 from .row import Row
 
 PAGE, SCRIPT, TIMES = "index.html", "recheck.sh", "times.json"
 # The page of what changed since another version.
 CHANGES = "changes.html"
+# What `recheck.sh` has in place of a circuit that another command writes.
+STREAM = "/dev/stdin"
 # The folder of the results of other sources, until all rows of these are there.
 BEFORE = "before"
 # Of the same year in each .zip, so that the same files give the same bytes.
@@ -133,7 +136,7 @@ class Folder:
     def clean(self) -> None:
         """Removes the files of results that have no row any more."""
         for path in self.path.iterdir():
-            if path.name.endswith((".wit", ".drat", ".lrat", ".cert.aag", ".new")) and path.name not in self.sums:
+            if path.name.endswith((".wit", ".drat", ".lrat", ".cert.aag", ".cuts", ".new")) and path.name not in self.sums:
                 path.unlink()
 
     def write(self, manifest: Dict[str, Any]) -> None:
@@ -163,6 +166,18 @@ check() {
         wrong=1
     fi
 }
+# cut CUTS LINE WORD ..: the same of the circuit without what a file cuts
+cut() {
+    cuts=$1
+    line=$2
+    shift 2
+    if [ "$("$aig" cut --to aag --cuts "$cuts" circuit.aig | "$aig" "$@")" = "$line" ]; then
+        printf '%s: cut --cuts %s, %s\\n' "$line" "$cuts" "$*"
+    else
+        printf 'WRONG: cut by %s, aig %s does not print "%s"\\n' "$cuts" "$*" "$line" >&2
+        wrong=1
+    fi
+}
 # of FILE PROPERTY LINES: the witness has to be for this property, and of this length
 of() {
     if [ "$(sed -n 2p "$1")" != "$2" ] || [ "$(sed -n '$=' "$1")" != "$3" ]; then
@@ -180,9 +195,15 @@ def script(rows: Iterable[Row]) -> bytes:
         claim = row.checked.claim if row.checked is not None else row.claim
         if claim is not None and claim.by == "run":
             lines.append(f"of {claim.files['witness']} {claim.label} {claim.frames + 4}")
-        commands = claim.commands() if claim is not None else []
-        lines += [f"check {shlex.quote(line)} {' '.join(map(shlex.quote, words))}" for line, words in commands]
+        if claim is not None:
+            call = f"cut {claim.files['cuts']}" if claim.cut else "check"
+            lines += [f"{call} {_of_shell([line, *(STREAM if it == CUT else it for it in words)])}"
+                      for line, words in claim.commands()]
     return (_SCRIPT + "\n".join([*lines, "exit $wrong"]) + "\n").encode()
+
+
+def _of_shell(words: Iterable[str]) -> str:
+    return " ".join(map(shlex.quote, words))
 
 
 def pack(folder: Path, to: Path) -> None:

@@ -5,7 +5,7 @@ from __future__ import annotations
 from pathlib import Path
 from typing import Any, Dict, Sequence
 
-from .design import Design, read_verilog
+from .design import Design, Reading, read_verilog
 from .tools import Stop, ToolFailed
 
 
@@ -15,10 +15,10 @@ def made(files: Sequence[Path], stop: Stop, options: Dict[str, Any], include: Se
     The files `asserts` are put into the module."""
     for file in [*files, *asserts]:
         file.open("rb").close()  # a source that is missing is an error of its own
+    how = Reading(options["top"] or "", options["defines"], options["conditions"], options["wires"], include,
+                  options.get("free", ()), asserts, options.get("module", ""))
     try:
-        return read_verilog(files, options["top"], stop, options["defines"], options["conditions"], options["wires"],
-                            include=include, free=options.get("free", ()), asserts=asserts,
-                            module=options.get("module", ""))
+        return read_verilog(files, how, stop)
     except FileNotFoundError as error:
         if error.filename is None:
             raise

@@ -8,7 +8,7 @@ from dataclasses import dataclass, field
 from typing import Any, Callable, Dict, List, Optional, Tuple
 
 from . import simulated, timing
-from .checked import ALIVE, CIRCUIT, CONSTRAINTS, WAYS, Claim, Command, Wrong, expect
+from .checked import ALIVE, CIRCUIT, CONSTRAINTS, CUT, WAYS, Claim, Command, Wrong, expect
 from .decisions import judge
 from .row import KINDS, LEFT_OUT, MOST_FRAMES, ORIGINS, UNDECIDED, Row, name_of
 
@@ -17,8 +17,11 @@ __all__ = ["Wrong", "expect"]
 MANIFEST = "MANIFEST.json"
 SCRIPT_OF_YOSYS = "yosys.ys"
 FORMAT = "aig-verdicts 2"
+# That of bundles in which the proofs of some row are about less than the whole circuit.
+WITH_CUTS = "aig-verdicts 3"
 # That of bundles in which nothing shows that some run keeps the constraints.
 OLDER = "aig-verdicts 1"
+FORMATS = (FORMAT, WITH_CUTS, OLDER)
 # A plain name, or one in a folder.
 PLAIN = re.compile(r"[A-Za-z0-9_+-][A-Za-z0-9._+-]*(/[A-Za-z0-9_+-][A-Za-z0-9._+-]*)?")
 MOST_LINES = 1 << 31
@@ -39,11 +42,19 @@ def rows_as_json(rows: List[Row]) -> List[Dict[str, Any]]:
     for row in rows:
         kept = {key: value for key, value in _parts_of(row).items() if value not in ("", None, [], {})}
         kept = {key: value for key, value in kept.items() if value != 0 or key in ("position", "of")}
-        kept["commands"] = [{"prints": line, "words": ["aig", *command]} for line, command in row.commands()]
+        kept["commands"] = [{"makes": CUT, "words": ["aig", *row.cut]}] * bool(row.cut)
+        kept["commands"] += [{"prints": line, "words": ["aig", *command]} for line, command in row.commands()]
+        if row.needs is not None:
+            kept["needs"] = row.needs.facts()
         if row.position in words:
             kept["result"] = words[row.position]
         made.append(kept)
     return made
+
+
+def format_of(rows: List[Row]) -> str:
+    """The format of a bundle of these rows."""
+    return WITH_CUTS if any(row.cut for row in rows) else FORMAT
 
 
 def results(rows: List[Row]) -> Dict[int, str]:
@@ -91,7 +102,7 @@ def parsed(data: bytes) -> Dict[str, Any]:
         raise Wrong(f"MANIFEST.json is no JSON: {error}") from None
     except RecursionError:
         raise Wrong("MANIFEST.json is too deep") from None
-    expect(type(made) is dict and made.get("format") in (FORMAT, OLDER), f"MANIFEST.json is not of {FORMAT!r}")
+    expect(type(made) is dict and made.get("format") in FORMATS, f"MANIFEST.json is not of {FORMAT!r}")
     for name in ("timing", "simulated"):  # an older version did not write them
         made.setdefault(name, {})
     made.setdefault("translated", [])  # where Yosys read the sources themselves
@@ -182,7 +193,7 @@ class Said:
 def row_of(value: Any) -> Row:
     """The row, if each part of it has its type and each file its one possible name."""
     expect(type(value) is dict, "a row is no object")
-    expect(set(value) <= set(_TYPES) | {"commands", "result"}, "a row has an unknown part")
+    expect(set(value) <= set(_TYPES) | {"commands", "result", "needs"}, "a row has an unknown part")
     row = Said()
     for key, kind in _TYPES.items():
         if key in value:
@@ -227,10 +238,12 @@ def _verdict(row: Said) -> None:
 
 
 def check_results(manifest: Dict[str, Any], rows: List[Row]) -> None:
-    """That the words of the table in the manifest are those of its rows, which are checked."""
+    """That the words of the table in the manifest, and what rows need, are those of its rows, which are checked."""
     words = results(rows)
     for value, row in zip(manifest["rows"], rows):
         expect(value.get("result") == words.get(row.position), f"result of {row.label}")
+        needs = row.needs.facts() if row.needs is not None else None
+        expect(value.get("needs") == needs, f"needs of {row.label}")
 
 
 def files_of(manifest: Dict[str, Any], rows: List[Row]) -> List[str]:

@@ -4,13 +4,12 @@ from __future__ import annotations
 
 import re
 from collections import Counter
-from typing import Any, Dict, Iterator, List, Sequence, Set, Tuple
+from typing import Any, Dict, Iterator, List, Mapping, Sequence, Set, Tuple
 
 from .._program import run as aig
 from .ranges import Ranges
+from .registers import plain
 
-_PAST = re.compile(r"(.*)\$past\$.*:(\d+)\$\d+\$\d+")
-_CLOCKED = re.compile(r"(.*)\$formal\$.*:(\d+)\$\d+_(CHECK|EN)")
 _SAMPLED = re.compile(r"\$auto\$clk2fflogic\.cc:\d+:sample_\w+\$(.+)#sampled\$\d+")
 _PORT = re.compile(r"\$auto\$clk2fflogic\.cc:\d+:execute\$(.+)#(\d+)#(\w+)_q\$\d+")
 _PAST_CLOCK = re.compile(r"\$auto\$clk2fflogic\.cc:\d+:execute\$.+#\d+#past_clk#(.+)\$\d+")
@@ -19,35 +18,33 @@ _NEXT = re.compile(r"(.*)\$0(?:\\|(?=\$))(.+?)(?:\[\d+:\d+\])?(?:\$\d+)?")
 Entry = Tuple[str, int]  # the letter of a section, and a position there
 
 
-def shown_name(wire: str) -> str:
-    """A name that a waveform can show, for a wire that Yosys made: `past_25`; `value_30` and `when_30` of an assertion at
-    a clock in line 30; `q_before` for what a register of several clocks remembers. It is empty if there is none."""
-    wire = wire.replace("$flatten\\", "")
+def shown_name(wire: str, registers: Mapping[str, str]) -> str:
+    """A name that a waveform can show, for a wire that Yosys made: one of `registers`, or `q_before` for what a register of
+    several clocks remembers. It is empty if there is none."""
+    wire = plain(wire)
+    if wire in registers:
+        return registers[wire]
     if wire.startswith("\\") or "$" not in wire:
         return re.sub(r"[:\[\]]+", "_", wire.lstrip("\\")).rstrip("_") if re.fullmatch(r"\\?[A-Za-z_][^{}']*", wire) else ""
     match = _SAMPLED.fullmatch(wire) or _PAST_CLOCK.fullmatch(wire)
     if match:
-        inner = shown_name(match[1])
+        inner = shown_name(match[1], registers)
         return inner and f"{inner}_before"
     match = _PORT.fullmatch(wire)
     if match:
         return f"{match[1]}_{match[3]}{match[2] if match[2] != '0' else ''}_before"
-    match = _PAST.fullmatch(wire)
-    if match:
-        return f"{match[1]}past_{match[2]}"
-    match = _CLOCKED.fullmatch(wire)
-    if match:
-        return f"{match[1]}{'value' if match[3] == 'CHECK' else 'when'}_{match[2]}"
     match = _NEXT.fullmatch(wire)
     if match and not wire.startswith("$auto"):
-        inner = shown_name(match[2])
+        inner = shown_name(match[2], registers)
         return inner and f"{match[1]}{inner}_next"
     return ""
 
 
-def hidden_names(listed: str, lines_of_x: Dict[str, List[int]], made: Dict[Tuple[str, int], str]) -> Dict[int, str]:
+def hidden_names(listed: str, lines_of_x: Dict[str, List[int]], made: Dict[Tuple[str, int], str],
+                 registers: Mapping[str, str]) -> Dict[int, str]:
     """Names of literals whose wires Yosys made. `listed` is what `write_aiger -vmap` wrote; `lines_of_x` has the lines of
-    the sources that read the bits of a free wire: their names are `x_12`. `made` has names of bits of wires."""
+    the sources that read the bits of a free wire: their names are `x_12`. `made` has names of bits of wires, and
+    `registers` those of wires."""
     best: Dict[int, Tuple[bool, str, str, int]] = {}
     wide: Set[str] = set()
     result: Dict[int, str] = {}
@@ -62,7 +59,7 @@ def hidden_names(listed: str, lines_of_x: Dict[str, List[int]], made: Dict[Tuple
         if wire in lines_of_x:
             name = f"x_{lines_of_x[wire][bit]}" if bit < len(lines_of_x[wire]) and lines_of_x[wire][bit] else "x"
         else:
-            name = shown_name(wire)
+            name = shown_name(wire, registers)
         rank = (name.endswith("_next"), name, wire, bit)
         if name and (literal not in best or rank < best[literal]):
             best[literal] = rank
@@ -103,12 +100,12 @@ _ASYNCHRONOUS = "$auto$async2sync.cc"
 _CONTROL = re.compile(r"\$auto\$clk2fflogic\.cc:\d+:sample_control\w*\$(\$.+)#sampled\$\d+")
 
 
-def made_names(clocked: Dict[str, Any]) -> Dict[Tuple[str, int], str]:
+def made_names(clocked: Dict[str, Any], registers: Mapping[str, str]) -> Dict[Tuple[str, int], str]:
     """The names of registers that Yosys made, by the bits of their wires. `q_kept` is what a register q with an asynchronous
     set or reset keeps, or a latch q: the value of q is this one, or that of the set, reset or open latch. `not_rst_before`
     is for several clocks what the inverted reset was."""
     module = next(iter(clocked.values()))
-    public = _shown_bits(module)
+    public = _shown_bits(module, registers)
     inverted = {cell["connections"]["Y"][0]: cell["connections"]["A"][0] for cell in module["cells"].values()
                 if cell["type"] in ("$not", "$logic_not") and len(cell["connections"]["A"]) == 1}
     follows = _follows(module)
@@ -126,13 +123,13 @@ def made_names(clocked: Dict[str, Any]) -> Dict[Tuple[str, int], str]:
     return found
 
 
-def _shown_bits(module: Dict[str, Any]) -> Dict[Any, Tuple[bool, int, str, int]]:
+def _shown_bits(module: Dict[str, Any], registers: Mapping[str, str]) -> Dict[Any, Tuple[bool, int, str, int]]:
     """The name and the index of each bit: that of a wire which is nearest to the top module, or of an assertion's register."""
     shown: Dict[Any, Tuple[bool, int, str, int]] = {}
     counts: Dict[str, int] = {}
     for wire, facts in sorted(module["netnames"].items()):
         is_made = wire.startswith("$")
-        name = wire if not is_made else shown_name(wire) if _CLOCKED.fullmatch(wire) or _PAST.fullmatch(wire) else ""
+        name = registers.get(plain(wire), "") if is_made else wire
         if is_made and name:
             counts[name] = counts.get(name, 0) + 1
             name = name if counts[name] == 1 else f"{name}_{counts[name]}"

@@ -7,13 +7,14 @@ from typing import Any, Callable, Dict, List, Optional, Sequence
 import aig
 
 from .decisions import MEANINGS, Judged, summary
+from .needs_page import STYLE as NEEDS, Proofs, section
 from .row import Row
 from .runs import comes_back
-from .sections import Pictures, Sections, Sources, anchor, marked, place, size, verdict
-from .sentences import GROUPS, NOT_PROVED, NOT_SIMULATED, PROVED, UNPROVED, counted, is_proved, of_assumptions
+from .sections import Pictures, Sections, Sources, anchor, place, size, verdict
+from .sentences import GROUPS, NOT_PROVED, NOT_SIMULATED, PROVED, UNPROVED, counted, is_proved, of_assumptions, of_needs
 from .simulated import of_facts
 from .style import STYLE
-from .svg import STYLE as WAVE, escape
+from .svg import STYLE as WAVE, escape, marked
 
 _LEGEND = ("Thick lines are the values that suffice for it, and hatched boxes are x: any value will do. Numbers are "
            "hexadecimal. Their pale digits are x too: they are those of the run with 0 for each x.")
@@ -40,6 +41,7 @@ class Page:
         groups = list(GROUPS)
         self.summary = summary(table)
         shown = [it for it in table if it.result in groups]  # the summary alone counts what was left out
+        self.proofs = Proofs.of(table)
         self.table = sorted(shown, key=lambda it: (groups.index(it.result), not it.doubt))
         self.circuit = aig.Circuit(read("circuit.aig"))
         self.facts = self.circuit.info()
@@ -50,9 +52,10 @@ class Page:
         return ("<!DOCTYPE html>\n<html lang=en><head><meta charset=utf-8>"
                 '<meta name=viewport content="width=device-width,initial-scale=1">'
                 f'<meta http-equiv=Content-Security-Policy content="{POLICY}">'
-                f"<title>{name}: verdicts</title><style>{STYLE}{WAVE}</style></head><body>"
+                f"<title>{name}: verdicts</title><style>{STYLE}{WAVE}{NEEDS if self.proofs.known else ''}</style></head><body>"
                  f"<h1>{name}</h1><p class=sub>{escape(self.summary)}.</p>"
-                 f"{self._chips()}{self._notes()}{self._design()}{self._simulated()}{self._overview()}{self._groups()}{self._believe()}"
+                 f"{self._chips()}{self._notes()}{self._design()}{self._simulated()}{self._overview()}"
+                f"{self._groups()}{self._unneeded()}{self._believe()}"
                 f"{self._programs()}</body></html>\n")
 
     # -- the top
@@ -101,7 +104,8 @@ class Page:
 
     def _overview(self) -> str:
         times = "<th class=num>search" if self.seconds else ""
-        return ("<table><thead><tr><th>verdict<th>assertion or cover<th>shown by<th class=num>files"
+        needs = "<th>needs" if self.proofs.known else ""
+        return (f"<table><thead><tr><th>verdict<th>assertion or cover<th>shown by{needs}<th class=num>files"
                 f"{times}</tr></thead><tbody>{''.join(map(self._line, self.table))}</tbody></table>")
 
     def _line(self, it: Judged) -> str:
@@ -115,7 +119,14 @@ class Page:
         sizes = size(sum(len(self.read(name)) for name in row.files.values())) if row.files else ""
         return (f"<tr><td>{verdict(it, it.at)}</td>"
                 f'<td class=what><a class=name href="#{anchor(row)}">{escape(row.name)}</a>{where}{text}{doubts}</td>'
-                f"<td class=by>{escape(it.way)}</td><td class=num>{sizes}</td>{time}</tr>")
+                f"<td class=by>{escape(it.way)}</td>{self._needs(it)}<td class=num>{sizes}</td>{time}</tr>")
+
+    def _needs(self, it: Judged) -> str:
+        """The column of needs, if some row has one."""
+        return f"<td>{of_needs(it.needs) if it.needs is not None else ''}</td>" if self.proofs.known else ""
+
+    def _unneeded(self) -> str:
+        return section(self.proofs, self.circuit.file, self.manifest.get("sources", []), self.sources.lines)
 
     # -- the sections
 

@@ -2,9 +2,11 @@
 
 from __future__ import annotations
 
+import contextlib
 import os
 import sys
-from typing import Callable, List, Optional, Sequence, Set
+import threading
+from typing import Callable, Iterator, List, Optional, Sequence, Set
 
 from .decisions import Judge, Judged
 from .row import Row
@@ -14,6 +16,41 @@ from .tools import Clock
 # The page is written while rows come in: so often, and as long as that takes less than a part of the time.
 PAGE_SECONDS = 5.0
 PAGE_PART = 0.05
+# A wait that is longer is said: on a terminal in a line that is renewed so often, and else once if that is asked for.
+WAIT_SECONDS, RENEWED_SECONDS = 5.0, 1.0
+
+
+@contextlib.contextmanager
+def waiting(what: str, is_verbose: bool, is_quiet: bool) -> Iterator[None]:
+    """Says on standard error that something long is going on, as that Yosys makes the circuit."""
+    ended, is_terminal = threading.Event(), sys.stderr.isatty()
+    is_said = not is_quiet and (is_terminal or is_verbose)
+    teller = threading.Thread(target=_tell, args=(what, ended, is_terminal), daemon=True)
+    if is_said:
+        teller.start()
+    try:
+        yield
+    finally:
+        ended.set()
+        if is_said:
+            teller.join()
+
+
+def _tell(what: str, ended: threading.Event, is_terminal: bool) -> None:
+    clock = Clock()
+    if ended.wait(WAIT_SECONDS):
+        return
+    if not is_terminal:
+        sys.stderr.write(f"aig-verdicts: {what} ..\n")
+        sys.stderr.flush()
+        return
+    while True:
+        sys.stderr.write(f"\r{what}, {clock():.0f} s\x1b[K")
+        sys.stderr.flush()
+        if ended.wait(RENEWED_SECONDS):
+            sys.stderr.write("\r\x1b[K")
+            sys.stderr.flush()
+            return
 
 
 class Progress:

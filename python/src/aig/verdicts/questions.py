@@ -3,6 +3,7 @@ an earlier one is taken for an answer."""
 
 from __future__ import annotations
 
+import copy
 import tempfile
 from pathlib import Path
 from typing import Dict, List, Mapping, NamedTuple, Optional, Sequence, Tuple
@@ -23,10 +24,11 @@ FILE_TOO_LARGE = -25
 
 
 class Answer(NamedTuple):
-    """A model, or a proof that there is none, or neither."""
+    """A model, or a proof that there is none, or neither; and the formula."""
 
     model: Optional[bytes] = None
     proof: Optional[bytes] = None
+    formula: bytes = b""
 
 
 class Confirmed(NamedTuple):
@@ -55,6 +57,16 @@ class Questions:
     def aig(self, command: str, *options: str, files: Sequence[bytes], named: Mapping[str, bytes] = {},
             good: Sequence[int] = (0,)) -> bytes:
         return ask(self.stop, command, *options, files=files, named=named, good=good)
+
+    def about(self, circuit: bytes) -> Questions:
+        """Questions about another circuit, with the same bounds, time and notes."""
+        other = copy.copy(self)
+        other.circuit = circuit
+        return other
+
+    def cut(self, cuts: bytes) -> bytes:
+        """The circuit without what a file cuts."""
+        return self.aig("cut", "--to", "aag", files=[self.circuit], named={"--cuts": cuts})
 
     def confirm(self, claim: Claim, files: Dict[str, bytes]) -> Confirmed:
         """What `aig` confirms of a claim, whose files are there by their roles. Its proofs get hints if there is a
@@ -86,21 +98,23 @@ class Questions:
     def _proofs_with_hints(self, program: str, claim: Claim, files: Mapping[str, bytes]) -> Dict[str, bytes]:
         """The proofs of a claim with hints, by their roles."""
         made, roles = {}, {name: role for role, name in claim.named}
+        about = self.about(self.cut(files["cuts"])) if "cuts" in files else self
         for options, named, last in (parts_of(words) for _, words in claim.commands() if words[0] == "refute"):
             others = {option: files[roles[name]] for option, name in named.items() if option != "--step"}
             for name in (last, named.get("--step")):
                 if name is not None:
                     role = roles[name]
-                    made[role] = self._with_hints(program, role, files[role], options, others)
+                    more = ["--step"] * (role == "step")
+                    made[role] = about._with_hints(program, files[role], [*more, *options], others)
         return made
 
-    def _with_hints(self, program: str, role: str, proof: bytes, options: Sequence[str],
-                    named: Mapping[str, bytes]) -> bytes:
-        """The proof with hints. If the program fails, it is the proof as it was, and a note says why."""
+    def _with_hints(self, program: str, proof: bytes, options: Sequence[str], named: Mapping[str, bytes]) -> bytes:
         if has_hints(proof):
             return proof
-        more = ["--step"] * (role == "step")
-        formula = self.aig("cnf", *more, *options, files=[self.circuit], named=named)
+        return self.with_hints(program, self.aig("cnf", *options, files=[self.circuit], named=named), proof)
+
+    def with_hints(self, program: str, formula: bytes, proof: bytes) -> bytes:
+        """The proof of a formula with hints. If the program fails, it is the proof as it was, and a note says why."""
         words = [program, "--trim", "cnf", "drat", "lrat"]
         try:
             ran, [made] = self.tool(words, self._bounds.seconds, {"cnf": formula, "drat": proof}, "lrat")
@@ -113,9 +127,9 @@ class Questions:
         self.note(f"no hints: {said}")
         return proof
 
-    def solve(self, what: str, *options: str) -> Answer:
+    def solve(self, what: str, *options: str, named: Mapping[str, bytes] = {}) -> Answer:
         """A question of the search."""
-        return self._solve(what, options, {}, self.seconds_left())
+        return self._solve(what, options, named, self.seconds_left())
 
     def checking(self, what: str, *options: str, named: Mapping[str, bytes] = {}) -> Answer:
         """A question that checks an answer of another program. It has a time of its own."""
@@ -140,7 +154,7 @@ class Questions:
         if ran.status == SATISFIABLE:
             return Answer(model=ran.out)
         if ran.status == UNSATISFIABLE and proof is not None:
-            return Answer(proof=proof)
+            return Answer(proof=proof, formula=formula)
         self.note(f"{what}: {why(solver, ran, self._bounds.seconds)}")
         return Answer()
 

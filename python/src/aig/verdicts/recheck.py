@@ -18,6 +18,7 @@ from .design import Design, properties, symbol
 from .equal import do_the_same
 from .made import made
 from .manifest import OLDER, SCRIPT_OF_YOSYS, check_results
+from .pieces import needs_of
 from .row import Row, has_constraints
 from .sentences import EQUAL_CIRCUIT, SAME_CIRCUIT
 from .sources import Sources, places
@@ -96,7 +97,7 @@ def recheck(path: Path, sums: bool = True, say: Callable[[Row], None] = lambda _
     check_names(bundle.rows, _properties(circuit, stop), bool(bundle.manifest["options"]))
     if not is_older(bundle):
         expect(is_kept(bundle.rows[0], circuit, stop), "no run shows that the assumptions can be kept")
-    read, known = bundle.summed if sums else bundle.read, sum_of(circuit)
+    read = bundle.summed if sums else bundle.read
     for name in bundle.sums:
         if name.startswith(("sources/", "translated/")) or name == SCRIPT_OF_YOSYS:
             read(name)
@@ -105,7 +106,7 @@ def recheck(path: Path, sums: bool = True, say: Callable[[Row], None] = lambda _
         try:
             for row, check in zip(bundle.rows, checks):
                 try:
-                    _take(row, check.result(), known)
+                    _take(row, check.result(), circuit)
                 except Unanswered:
                     raise
                 except Wrong as error:
@@ -119,13 +120,13 @@ def recheck(path: Path, sums: bool = True, say: Callable[[Row], None] = lambda _
     return bundle
 
 
-def _take(row: Row, checked: Optional[Checked], circuit: str) -> None:
+def _take(row: Row, checked: Optional[Checked], circuit: bytes) -> None:
     """Gives a row the verdict that it claims, if it claims one."""
     claims = row.claim is not None and row.claim.by != ""
     expect(claims == (checked is not None), f"{row.label} was not checked")
     if checked is not None:
         expect(checked.claim == row.claim, f"{row.label} has another claim")
-        row.take(checked, circuit)
+        row.take(checked, sum_of(circuit), needs_of(circuit, checked.cuts))
 
 
 def same_sources(bundle: Bundle, files: Sequence[Path], include: Sequence[Path]) -> None:

@@ -6,6 +6,7 @@ from dataclasses import dataclass, field
 from typing import Dict, Final, List, Optional
 
 from .checked import CONFIRMED, CONSTRAINTS, UNREACHABLE, Checked, Claim, Command, expect
+from .pieces import Needs
 
 KINDS = ("assert", "cover", "condition", "constraints")
 # In place of a verdict.
@@ -19,7 +20,7 @@ ORIGINS = ("old proof", "old run", "old certificate", "old depth", "old bound")
 # How the file of each role ends. A proof with hints ends in lrat.
 ENDINGS = {
     "witness": "wit", "shorter": "shorter.drat", "base": "base.drat", "step": "step.drat", "certificate": "cert.aag",
-    "proof": "cert.drat", "alive": "drat",
+    "proof": "cert.drat", "alive": "drat", "cuts": "cuts",
 }
 
 
@@ -44,6 +45,7 @@ class Row:
     of     for a condition, the position of its assertion
     claim  what a bundle says, and nobody believes. Of the constraints: that there are none, which needs no files
     origin what of an earlier version the verdict came from: one of ORIGINS, or nothing
+    needs  what its proofs need, if they are about less than the whole circuit
     """
 
     position: int
@@ -57,21 +59,23 @@ class Row:
     claim: Optional[Claim] = None
     notes: List[str] = field(default_factory=list)
     origin: str = ""
+    needs: Optional[Needs] = None
     _checked: Optional[Checked] = None
 
     @property
     def checked(self) -> Optional[Checked]:
         return self._checked
 
-    def take(self, checked: Checked, circuit: str) -> None:
-        """Takes the verdict of a check that is about this row and the circuit of this sum."""
+    def take(self, checked: Checked, circuit: str, needs: Optional[Needs] = None) -> None:
+        """Takes the verdict of a check that is about this row and the circuit of this sum, and what its proofs need."""
         expect(checked.claim.position == self.position, f"{self.label} is about another property")
         expect(checked.circuit == circuit, f"{self.label} is about another circuit")
-        self._checked, self.is_left_out = checked, False
+        self._checked, self.is_left_out, self.needs = checked, False, needs
 
     def forget(self) -> None:
         """Lets go of the verdict, and of all that was about it."""
         self._checked, self.claim, self.is_left_out, self.notes, self.origin = None, None, False, [], ""
+        self.needs = None
 
     @property
     def verdict(self) -> str:
@@ -96,6 +100,11 @@ class Row:
         return self._checked.claim.files if self._checked is not None else {}
 
     @property
+    def cuts(self) -> Optional[bytes]:
+        """The file of what its proofs do not need; none if they are about the whole circuit."""
+        return self._checked.cuts if self._checked is not None else None
+
+    @property
     def decided(self) -> bool:
         """Whether no search can find more. That some run keeps the constraints is known for so many frames."""
         return self.verdict in (CONFIRMED, UNREACHABLE) or self.by == "alive"
@@ -107,3 +116,8 @@ class Row:
     def commands(self) -> List[Command]:
         """The commands that checked the row."""
         return self._checked.claim.commands() if self._checked is not None else []
+
+    @property
+    def cut(self) -> List[str]:
+        """The command that wrote the circuit that these are about, if it was not the whole one."""
+        return self._checked.claim.cut if self._checked is not None else []

@@ -92,11 +92,12 @@ def reading(sources: Sequence[str], top: Optional[str], defines: Sequence[str], 
 # What is done with the files between these commands.
 PREPARED = ("# here aig-verdicts works on read.il: it makes each cell $check an assertion with registers (lowered.py), leaves out boxes,\n"
             "# unread memories and loop variables (left_out.py), makes variables of blocks x that are no latches (block_locals.py),\n"
-            "# writes some processes anew (processes.py: prepared), gives comparisons one bit (comparisons.py), and gives assertions the\n"
-            "# names of blocks that were made of labels (labels.py)")
+            "# writes some processes anew (processes.py: prepared), gives comparisons one bit (comparisons.py), gives assertions the names\n"
+            "# of blocks that were made of labels (labels.py), and writes lines in names with seven digits (registers.py)")
 NAMED = ("# here aig-verdicts makes circuit.aig of made.aig: the names and the order of inputs, latches, outputs and properties are\n"
          "# others, and inputs that nothing reads are gone (names.py)")
 DIRECTED = "# here aig-verdicts works on flat.il: it makes each inout port that the design drives an output (wiring.py)"
+FREED = "# here aig-verdicts works on flat.il: it makes each z an x, which has any value (wiring.py)"
 SETTLED = "# here aig-verdicts works on reset.il: it keeps the order of asynchronous values, and clocks assertions (processes.py: settled)"
 
 

@@ -7,12 +7,14 @@ from typing import Callable, Dict, Hashable, List, NamedTuple, Optional, Sequenc
 
 import aig
 
+from . import needs_page
+from .checked import CUT
 from .decisions import MEANINGS, Judged
 from .explained import Line
 from .row import Row
 from .runs import Story, Told, story
 from .sentences import Remark, counted, fact, how, mark
-from .svg import escape, parts, shortened
+from .svg import escape, marked, parts, shortened
 
 # Pictures have so many bytes of a page, and none is made of a run with more letters. The lines of `why` below those that
 # are seen at once are so many, and have so many causes.
@@ -29,11 +31,6 @@ def size(count: int) -> str:
     if count < 1000:
         return f"{count} B"
     return f"{count / 1000:.1f} kB" if count < 10**6 else f"{count / 10**6:.1f} MB"
-
-
-def marked(sentence: str) -> str:
-    """A sentence as HTML: `..` is code, and **..** is bold."""
-    return re.sub(r"\*\*(.*?)\*\*", r"<b>\1</b>", re.sub("`(.*?)`", r"<code>\1</code>", escape(sentence)))
 
 
 def paragraph(remark: Remark) -> str:
@@ -135,6 +132,7 @@ class Sections:
             found.append(f"{self._picture(it)}<p>{marked(it.statement(self._constrained))}</p>")
         elif row.by:
             found.append(f"<p>{marked(it.statement(self._constrained))}</p><p>{marked(how(row, self._sizes(row)))}</p>")
+        found.append(needs_page.of_row(it.needs) if it.needs is not None else "")
         if row.origin:
             found.append(f"<p class=sub>Found by an {escape(row.origin)}, which <code>aig</code> checked here.</p>")
         if row.notes:
@@ -237,5 +235,6 @@ def _openers(row: Row) -> str:
 
 def _commands(row: Row) -> str:
     """The commands that check a row, each with the line that it prints."""
-    lines = [text for line, words in row.commands() for text in (f"$ aig {' '.join(words)}", line)]
+    lines = [f"$ aig {' '.join(row.cut)} > {CUT}"] * bool(row.cut)
+    lines += [text for line, words in row.commands() for text in (f"$ aig {' '.join(words)}", line)]
     return f"<pre>{chr(10).join(map(escape, lines))}</pre>" if lines else ""

@@ -6,6 +6,8 @@ from __future__ import annotations
 from typing import Callable, Final, List, Mapping, NamedTuple, Optional, Sequence
 
 from .cycles import Moment
+from .pieces import Needs, folded
+from .pieces import is_own as is_own_register
 from .row import LEFT_OUT, Row
 
 # The result of a row that a simulator denies.
@@ -150,6 +152,52 @@ def how(row: Row, sizes: Mapping[str, str]) -> str:
                 "right.")
     ended = f"No induction of up to {counted(row.frames, 'frame')} and no invariant was found."
     return f"Proof of {sizes['base']}. {'The notes say what ended the search.' if row.notes else ended}"
+
+
+# -- what a proof needs
+
+
+def of_needs(needs: Needs) -> str:
+    """What a proof needs, in short."""
+    if needs.is_trivial:
+        return "nothing: trivial"
+    is_own = needs.registers and all(map(is_own_register, needs.registers))
+    registers = "its own registers alone" if is_own else _counted(len(folded(needs.registers)), "register")
+    return f"{registers}, {_counted(len(needs.assumptions), 'assumption')}" if needs.of_any else registers
+
+
+def _counted(count: int, name: str) -> str:
+    return counted(count, name) if count else f"no {name}"
+
+
+def of_core(needs: Needs) -> str:
+    """The same as sentences."""
+    if needs.is_trivial:
+        return ("**It needs nothing**: with any next states and resets of all registers, and without assumptions, the "
+                "property is never 1. It may say less than it seems to.")
+    if not needs.registers:
+        return ("**It needs no register**: its proof is about a circuit in which all registers may be anything. "
+                "It follows from the assumptions below alone.")
+    return ("Its proof is about a circuit in which all other registers may be anything, and no other assumption is "
+            "made: **all of these together** are not needed.")
+
+
+# What the page says of all proofs together. It is filled with the number of proofs.
+UNNEEDED = ("**All of these together** may be anything: `aig refute` checked the proofs of {} on circuits in which they "
+            "are. Rows that fail may depend on them.")
+OTHER_PROOFS = "**Of {} more, only a proof of the whole circuit is known**, so they may need some of these."
+LINES = ("The number is how many rows need a register that the line declares or writes, or an assumption that it makes; "
+         "**none** is where no proof does. Registers are found in the text by the names that Yosys gave them. That is for "
+         "display, and nothing checks it.")
+
+
+def no_proof_needs(found: Needs, proofs: int, others: int) -> str:
+    """The assumptions that no proof needs, on a terminal."""
+    if not found.assumptions or proofs == 0:
+        return ""
+    of = "no proof needs" if others == 0 else f"none of the {proofs} proofs whose needs are known needs"
+    these = "this assumption" if len(found.assumptions) == 1 else "these assumptions"
+    return f"{of} {these}: {', '.join(found.assumptions)}"
 
 
 # -- the assumptions

@@ -11,16 +11,17 @@ from concurrent.futures import FIRST_COMPLETED, Executor, Future, ThreadPoolExec
 from contextlib import nullcontext
 from dataclasses import asdict, replace
 from pathlib import Path
-from typing import Any, Callable, Collection, Dict, List, Optional, Tuple, Union
+from typing import Any, Callable, Collection, Dict, List, NamedTuple, Optional, Sequence, Tuple, Union
 
 from .._program import program
 from .bundle import MOST_BYTES, Bundle
-from .checked import ALIVE, CIRCUIT, CONSTRAINTS, Checked, Claim, Wrong, sum_of
-from .decide import Bounds, Found, Hint, Programs, Sent, Task
+from .checked import ALIVE, CIRCUIT, CONSTRAINTS, WAYS, Checked, Claim, Wrong, sum_of
+from .decide import Bounds, Found, Hint, Narrow, Programs, Sent, Task
 from .design import Design
 from .folder import TIMES, Folder
 from .hints import by_name
-from .manifest import FORMAT, SCRIPT_OF_YOSYS, rows_as_json
+from .manifest import SCRIPT_OF_YOSYS, format_of, rows_as_json
+from .pieces import needs_of
 from .questions import NO_ANSWER, NO_TIME, Questions
 from .recheck import check_claim
 from .simulated import Simulated
@@ -35,6 +36,8 @@ WRITING = 0.05
 LOOK = 0.5
 # The note on a row whose search the user ended.
 STOPPED = "stopped"
+# The proofs of so many rows are read at once, where what they need is searched.
+MOST_PROOFS = 64
 # No search takes longer than this.
 MOST_SECONDS = 10.0**9
 
@@ -44,6 +47,21 @@ Progress = Callable[[int, int, Optional[Row]], None]
 
 def _silent(_: int, __: int, ___: Optional[Row]) -> None:
     """Shows nothing."""
+
+
+class Work(NamedTuple):
+    """Who works, and who sees it.
+
+    executor  any of `concurrent.futures`; without one threads of this process
+    workers   how many of these; 0 for one per processor
+    progress  what is called where a row is done
+    share     puts a circuit where all workers are
+    """
+
+    executor: Optional[Executor] = None
+    workers: int = 0
+    progress: Progress = _silent
+    share: Optional[Callable[[Sent], Any]] = None
 
 
 class Session:
@@ -152,7 +170,7 @@ class Session:
                 if isinstance(said, str):
                     self.rejected.append(said)
                     continue
-                row.take(said, self._sum)
+                self._give(row, said)
                 row.notes, row.origin = notes, origins[row.position]
         self.stop.look()
 
@@ -188,7 +206,7 @@ class Session:
         translated = {"translated": list(self.design.translated)} if self.design.translated else {}
         return {
             **translated,
-            "format": FORMAT, "name": self.design.name, "notes": self.design.notes, "bounds": asdict(self.bounds),
+            "format": format_of(self.rows), "name": self.design.name, "notes": self.design.notes, "bounds": asdict(self.bounds),
             "options": self.design.options, "sources": list(self.design.sources), "rows": rows_as_json(self.rows),
             "versions": self.versions, "sums": self.folder.sums,
             "timing": self.design.timing.facts() if self.design.timing else {}, "simulated": self.simulated.facts(),
@@ -222,11 +240,32 @@ class Session:
         if checked is not None:
             for role, name in checked.claim.named:
                 self.folder.put(name, found.files[role])
-            row.take(checked, self._sum)
+            self._give(row, checked)
         elif row.position == CONSTRAINTS and found.verdict == ALIVE:
             row.claim = Claim(row.position, "", found.frames)
         row.notes, row.origin = found.notes, found.origin
         self.write()
+
+    def _give(self, row: Row, checked: Checked) -> None:
+        row.take(checked, self._sum, needs_of(self.design.circuit, checked.cuts))
+
+    def take_core(self, found: Found) -> None:
+        """Writes what a proof needs, and the proof of that in place of the one of the whole circuit."""
+        row = next(row for row in self.rows if row.position == found.position)
+        self._was_stopped |= found.stopped
+        checked, notes = found.check_about(self._sum), list(dict.fromkeys([*row.notes, *found.notes]))
+        if checked is None:
+            row.notes = notes
+            return
+        origin, before = row.origin, set(row.files.values())
+        self._forget(row)
+        for role, name in checked.claim.named:
+            self.folder.put(name, found.files[role])
+        self._give(row, checked)
+        row.notes, row.origin = notes, origin
+        self.write()
+        for name in before - set(row.files.values()):
+            self.folder.remove(name)
 
     def _forget(self, row: Row) -> None:
         """Lets go of what an earlier search found, before its files change."""
@@ -255,16 +294,39 @@ class Session:
     def search(self, executor: Optional[Executor] = None, count: int = 0, progress: Progress = _silent,
                share: Optional[Callable[[Sent], Any]] = None) -> bool:
         """Finds what is not known yet. It is false if the user stopped it; what was found until then is kept."""
-        rows = self.waiting()
+        tasks = [(row, Task(None, row.position, self.bounds, self.programs, self.hints.get(row.position)))
+                 for row in self.waiting()]
+        return self._work(tasks, self.take, Work(executor, count, progress, share))
+
+    def narrow(self, drat2lrat: Optional[str], is_minimal: bool, work: Work) -> bool:
+        """Finds what the proofs of each row without a run need. Whether all of that was done."""
+        rows = [row for row in self.rows if self._is_narrowed(row, is_minimal)]
+        for at in range(0, len(rows), MOST_PROOFS):
+            tasks = [(row, Task(None, row.position, self.bounds, self.programs, None,
+                                Narrow(self._known(row), drat2lrat, is_minimal))) for row in rows[at : at + MOST_PROOFS]]
+            if not self._work(tasks, self.take_core, work):
+                return False
+        return True
+
+    def _is_narrowed(self, row: Row, is_minimal: bool) -> bool:
+        """Whether a row has proofs that may need less."""
+        is_asked = self.only is None or row.position in self.only or row.position == CONSTRAINTS
+        return is_asked and "cuts" in WAYS[row.by].possible and (row.needs is None or is_minimal)
+
+    def _known(self, row: Row) -> Hint:
+        return Hint(row.by, row.frames, {role: self.folder.read(name) for role, name in row.files.items()})
+
+    def _work(self, tasks: Sequence[Tuple[Row, Task]], take: Callable[[Found], None], work: Work) -> bool:
+        """Has workers do these tasks, and takes what they find."""
         path = self.folder.path / CIRCUIT
         left: Dict[Future[Found], Row] = {}
         try:
-            with Workers(self.design.circuit, path, self.stop, executor, count, share) as workers:
+            with Workers(self.design.circuit, path, self.stop, work.executor, work.workers, work.share) as workers:
                 try:
-                    for row in rows:
-                        hint = self.hints.get(row.position)
-                        left[workers.submit(Task(None, row.position, self.bounds, self.programs, hint))] = row
-                    return self._collect(left, progress, LAST_SECONDS + GRACE if executor is None else 0.0)
+                    for row, task in tasks:
+                        left[workers.submit(task)] = row
+                    seconds = LAST_SECONDS + GRACE if work.executor is None else 0.0
+                    return self._collect(left, take, work.progress, seconds)
                 finally:
                     if left:
                         self.stop()
@@ -273,7 +335,8 @@ class Session:
         finally:
             self.write(True)
 
-    def _collect(self, left: Dict[Future[Found], Row], progress: Progress, last_seconds: float) -> bool:
+    def _collect(self, left: Dict[Future[Found], Row], take: Callable[[Found], None], progress: Progress,
+                 last_seconds: float) -> bool:
         """Takes what the workers find, until all is found or the user stops it: then workers that know of the stop get
         some seconds to say what they know. Whether all was searched."""
         count, stopped = len(left), False
@@ -289,7 +352,7 @@ class Session:
                 check_all(found, self.design.circuit, stop)
             for future, it in zip(ready, found):
                 row = left.pop(future)
-                self.take(it)
+                take(it)
                 progress(count - len(left), count, row)
             if not ready:
                 progress(count - len(left), count, None)

@@ -164,8 +164,8 @@ class Sources:
     def as_written(self, message: str) -> str:
         """A message with the paths of the user in its places, and without the columns."""
         names = "|".join(re.escape(name) for name in sorted(self._paths, key=len, reverse=True))
-        place = re.compile(rf"(?<![\w./-])(?:sources/)?({names})(:\d+)(?:\.\d+(?:-\d+\.\d+)?)?")
-        return place.sub(lambda it: f"{self._paths[it[1]]}{it[2]}", message)
+        place = re.compile(rf"(?<![\w./-])(?:sources/)?({names}):0*(\d+)(?:\.\d+(?:-\d+\.\d+)?)?")
+        return place.sub(lambda it: f"{self._paths[it[1]]}:{it[2]}", message)
 
     def write(self, folder: Path, translated: Mapping[str, bytes]) -> None:
         """Writes the sources, and in place of some of them their translated copies."""

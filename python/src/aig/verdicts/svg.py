@@ -54,6 +54,11 @@ def escape(text: str) -> str:
     return _quoted(visible(text))
 
 
+def marked(sentence: str) -> str:
+    """A sentence as HTML: `..` is code, and **..** is bold."""
+    return re.sub(r"\*\*(.*?)\*\*", r"<b>\1</b>", re.sub("`(.*?)`", r"<code>\1</code>", escape(sentence)))
+
+
 def visible(text: str) -> str:
     """Text in which each letter can be seen."""
     return _HIDDEN.sub(lambda found: _number(ord(found[0])), text)

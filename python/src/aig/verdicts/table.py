@@ -7,11 +7,13 @@ from typing import Dict, List, NamedTuple, Sequence, Tuple
 
 from .decisions import Judged
 from .row import Row
-from .sentences import DISAGREES
+from .sentences import DISAGREES, of_needs
 from .svg import escape, visible
 
 # The widest column; a longer name moves the rest of its own line alone.
 MOST_WIDE = 120
+# The column of needs.
+NEEDS = 6
 # A note is printed with the names of so many of its rows.
 MOST_NAMED = 3
 _NO_XML = re.compile("[^\t\n\x20-\ud7ff\ue000-\ufffd\U00010000-\U0010ffff]")
@@ -26,18 +28,21 @@ def plain(text: str) -> str:
 
 
 def cells(it: Judged) -> List[str]:
-    """The columns: position, place, kind, name, verdict, what it was found by, files."""
+    """The columns: position, place, kind, name, verdict, what it was found by, what that needs, files."""
     row = it.row
     place = f"{row.file}:{row.last}" if row.file else ""
     denial = it.simulated if it.result == DISAGREES else it.denied
     origin = f"by the {row.origin}" if row.origin else ""
     shown = "; ".join(part for part in (it.by or it.why, it.doubt, denial) if part)
     shown = ", ".join(part for part in (shown, origin) if part)
-    return [row.label, place, row.kind, row.name, it.words, shown, " ".join(row.files.values())]
+    needs = f"needs {of_needs(it.needs)}" if it.needs is not None else ""
+    return [row.label, place, row.kind, row.name, it.words, shown, needs, " ".join(row.files.values())]
 
 
 def text(table: Sequence[Judged]) -> str:
-    rows = [[plain(cell) for cell in cells(it)] for it in table]
+    """The table. A column of needs is there if some row has one."""
+    shown = [[plain(cell) for cell in cells(it)] for it in table]
+    rows = shown if any(row[NEEDS] for row in shown) else [row[:NEEDS] + row[NEEDS + 1 :] for row in shown]
     widths = [min(max(map(len, column)), MOST_WIDE) for column in zip(*rows)]
     lines = ("  ".join(cell.ljust(width) for cell, width in zip(row, widths)).rstrip() for row in rows)
     return "".join(f"{line}\n" for line in lines)
@@ -87,7 +92,8 @@ def suite(name: str, cases: Sequence[Tuple[str, str]], seconds: Dict[int, float]
 
 def _case(name: str, it: Judged, seconds: float) -> Tuple[str, str]:
     row = it.row
-    parts = [it.by, it.why, it.doubt, it.denied, it.simulated, *row.notes, *row.files.values()]
+    needs = f"needs {of_needs(it.needs)}" if it.needs is not None else ""
+    parts = [it.by, needs, it.why, it.doubt, it.denied, it.simulated, *row.notes, *row.files.values()]
     return element(name, Case(row, it.junit, it.words, "\n".join(part for part in parts if part), seconds))
 
 

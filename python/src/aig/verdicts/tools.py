@@ -60,6 +60,7 @@ class Stop:
         self._lock = threading.RLock()  # a signal may come while this thread has it
         self._running: Set[subprocess.Popen[bytes]] = set()
         self.stopped = False
+        self.is_late = False  # stopped, as the time of the whole run is over
 
     def begin(self, process: subprocess.Popen[bytes]) -> None:
         with self._lock:
@@ -77,6 +78,25 @@ class Stop:
             self.stopped = True
             for process in list(self._running):
                 _kill(process)
+
+    def late(self) -> None:
+        """The time of the whole run is over."""
+        with self._lock:
+            self.is_late = not self.stopped
+            self()
+
+    @contextmanager
+    def after(self, seconds: Optional[float]) -> Iterator[None]:
+        """Stops what runs inside after so many seconds; never if there are none."""
+        timer = threading.Timer(seconds, self.late) if seconds is not None else None
+        if timer is not None:
+            timer.daemon = True
+            timer.start()
+        try:
+            yield
+        finally:
+            if timer is not None:
+                timer.cancel()
 
     def look(self) -> None:
         if self.stopped:

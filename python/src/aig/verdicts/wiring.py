@@ -6,10 +6,13 @@ import re
 from typing import Any, Dict, Iterator, List, Pattern, Sequence, Set
 
 from .lax import place
+from .rtlil import Module
 
 _UNDRIVEN = re.compile(r"Wire .*?\.(\$\S+)(?: \[(\d+)\])? is used but has no driver")
 _LOOP = "found logic loop in module"
 _CELL = re.compile(r"cell (\S+) \(\S+\)")
+_Z = re.compile(r" \d+'[01x-]*z")
+_CONSTANT = re.compile(r"(?<= )\d+'[01xz-]+(?= |$)")
 _WIRE = re.compile(r"wire \\(\S+)")
 # Cells that keep or judge what they read: registers, memories, assertions and the like.
 _KEEPS = re.compile(r"\$(.*ff.*|.*latch.*|sr|mem.*|assert|assume|cover|live|fair|check|print|scopeinfo)")
@@ -77,3 +80,20 @@ def driven_inouts(module: Dict[str, Any]) -> Set[str]:
     driven |= {bit for port in module["ports"].values() if port["direction"] == "input" for bit in port["bits"]}
     return {name for name, port in module["ports"].items()
             if port["direction"] == "inout" and any(bit in driven or isinstance(bit, str) for bit in port["bits"])}
+
+
+def has_z(text: str) -> bool:
+    """Whether a text in RTLIL may have a constant with a z."""
+    return _Z.search(text) is not None
+
+
+def free_z(module: Module) -> bool:
+    """Makes each z of a flat module an x, and returns whether there was one. A driver that is off leaves any value, as
+    an x does. Yosys 0.23 takes both for free values; since 0.52 it keeps a z, of which no circuit can be made."""
+    freed = False
+    for item in module.items:
+        for at, line in enumerate(item.lines):
+            if line.lstrip().startswith("connect ") and '"' not in line and _Z.search(line):
+                item.lines[at] = _CONSTANT.sub(lambda it: it[0].replace("z", "x"), line)
+                freed = True
+    return freed

@@ -14,11 +14,12 @@ from .lowered import lower
 from .messages import failure
 from .misread import own_warnings
 from .places import with_place
-from .script import DIRECTED, reading
+from .registers import with_even_lines
+from .script import DIRECTED, FREED, reading
 from .sources import places
 from .tools import Stop, ToolFailed, run
 from .warnings import differing
-from .wiring import driven_inouts, has_loop, loops
+from .wiring import driven_inouts, free_z, has_loop, has_z, loops
 
 _SYNTAX = "Yosys: syntax error"
 # What Yosys says of `$finish` and `$stop` in a clocked block.
@@ -114,7 +115,7 @@ class Yosys:
             left_out.drop_loop_variables(module)
             comparisons.narrow(module)
             processes.prepared(module)
-        self.write("read.il", design)
+        (self.folder / "read.il").write_text(with_even_lines(design.text()), encoding="latin-1")
         return said + [f"{it} is a memory that nothing reads, and is left out" for it in unread]
 
     def settle(self) -> List[str]:
@@ -126,17 +127,17 @@ class Yosys:
                 "other one, as hardware does, and a simulation keeps the old one" for it in found]
 
     def direct(self, flat: Dict[str, Any]) -> List[str]:
-        """Makes `inout` ports that the design drives outputs. Returns what a script says of it."""
+        """Makes `inout` ports that the design drives outputs, and each z an x. Returns what a script says of it."""
         found = {f"\\{name}" for module in flat.values() for name in driven_inouts(module)}
-        if not found:
+        text = self.text("flat.il")
+        if not found and not has_z(text):
             return []
-        design = rtlil.read(self.text("flat.il"))
-        for module in design.modules:
-            for wire in module.of("wire"):
-                if wire.name in found:
-                    wire.lines[0] = wire.lines[0].replace(" inout ", " output ", 1)
+        design = rtlil.read(text)
+        freed = [free_z(module) for module in design.modules]
+        for wire in (it for module in design.modules for it in module.of("wire") if it.name in found):
+            wire.lines[0] = wire.lines[0].replace(" inout ", " output ", 1)
         self.write("flat.il", design)
-        return [DIRECTED]
+        return [DIRECTED] * bool(found) + [FREED] * any(freed)
 
     def write(self, name: str, design: rtlil.Text) -> None:
         (self.folder / name).write_text(design.text(), encoding="latin-1")

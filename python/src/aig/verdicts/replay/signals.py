@@ -13,7 +13,7 @@ BIT = re.compile(r"(.+)\[(-?\d+)\]")
 # The index of a signal that has no range.
 ALONE = 1 << 40
 # Names that aig-verdicts gives to what has none in the sources. A source may have such a name, too.
-_GIVEN = re.compile(r"(?:.*\.)?(?:past|value|when|x)(?:_\d+)+(?:_next)?|.*_(?:before|kept)(?:_\d+)?|x(?:_next)?")
+_GIVEN = re.compile(r"(?:.*\.)?(?:past|(?:value|when)(?:_assumed)?|x)(?:_\d+)+(?:_next)?|.*_(?:before|kept)(?:_\d+)?|x(?:_next)?")
 _WORD = re.compile(r".*\[-?\d+\]")
 # The columns of a line of `aig check --trace --properties`.
 COLUMNS = "lionbc"

@@ -22,8 +22,10 @@ BENCH, BEGIN = "aig_tb.v", "aig.begin.v"
 _AS_OTHERS = "`undef __ICARUS__\n"
 _ERROR = re.compile(r"aig_tb\.v:(\d+): (?:error|sorry)")
 _CAST = re.compile(r"aig_tb\.v:(\d+): error: This assignment requires an explicit cast")
-_FIXED = re.compile(r"error: dut\.(\S+)\[[^\]]*\] is not a valid l-value")
+_FIXED = re.compile(r"error: '?dut\.(\S+)\[[^\]]*\]'? is not a valid l-value")
 _NO_PORT = re.compile(r"port ``(\S+)'' is not a port")
+# What Icarus Verilog 11 and 12 say of a register at an `inout`, and what 13 says.
+_DOUBLE = re.compile("unresolved wire|Inout port expression must support continuous assignment")
 
 
 class Rejected(Exception):
@@ -42,7 +44,7 @@ class Rejected(Exception):
         self.lines = [int(it) for it in _ERROR.findall(said)]
         self.no_ports = _NO_PORT.findall(said)
         self.is_syntax = "syntax error" in said
-        self.is_double = "unresolved wire" in said
+        self.is_double = _DOUBLE.search(said) is not None
         self.fixed = frozenset(_FIXED.findall(said))
         self.casts = [int(it) for it in _CAST.findall(said)]
 

@@ -1,5 +1,0 @@
-use Rattle.aig_program.proofs.chosen.solvers.open_cnf.Goals as goal
-
-pub returns-clause-options : goal.returns-clause-options
-returns-clause-options g c =
-    (c.has_flag-step.result, c.has_flag-step.ensures.held, c.in_ok-circuit.ensures.held, c.in_ok-circuit.ensures.certificate)
