@@ -73,7 +73,7 @@ install: $(PROGRAM) $(addsuffix /libaig.a,$(LIBRARY))
 	    install -D -m 644 "completions/$$name.bash" "$(ROOT)/share/bash-completion/completions/$$name"; \
 	done
 	install -D -m 644 completions/aig.bash "$(ROOT)/share/bash-completion/completions/aig-explain"
-	install -D -m 644 completions/_aig "$(ROOT)/share/zsh/site-functions/_aig"
+	install -D -m 644 -t "$(ROOT)/share/zsh/site-functions" completions/_aig completions/_aig-verdicts
 	if [ "$(LIBRARY)" ]; then \
 	    install -D -m 644 include/aig.h "$(ROOT)/include/aig.h" && \
 	    install -D -m 644 "$(LIBRARY)/libaig.a" "$(ROOT)/lib/libaig.a" && \

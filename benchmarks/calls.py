@@ -1,7 +1,7 @@
 #!/usr/bin/env python3
-"""Measures calls of the Python package: calls.py [PROGRAM [LIBRARY]], else the program that the package finds. It prints a
-line for each call: how many a second by the clock, and the processor time of one, in Python and in the program. LIBRARY
-is a folder with libaig.so: the same calls of the library for C are measured too, by ctypes."""
+"""Measures calls of the Python package: calls.py [PROGRAM [LIBRARY]], else the program that the package finds. It
+prints a line for each call: how many a second by the clock, and the processor time of one, in Python and in the
+program. LIBRARY is a folder with libaig.so: the same calls of the library for C are measured too, by ctypes."""
 
 import ctypes
 import os
@@ -55,8 +55,9 @@ class Library:
             sys.exit(f"{name} failed")
 
 
-def measure_library(folder, wraps, witness, proof, text, binary):
-    """Measures calls of the library with these files."""
+def measure_library(folder, small, text, binary):
+    """Measures calls of the library with a circuit, its witness and its proof, and with a large one in both formats."""
+    wraps, witness, proof = small
     library = Library(folder, 1 << 10)
     measure("check of wraps, library", lambda: library.call("aig_check", wraps, witness, confirms=True), 20_000)
     measure("conversion of wraps, library", lambda: library.call("aig_toaig", wraps, True), 20_000)
@@ -80,7 +81,7 @@ def main():
     measure(f"{len(binary.file) / 1e6:.1f} MB of binary to text", lambda: binary.to("aag"), 10)
     measure("reading that text with its names", lambda: aig.Circuit(text.file), 10)
     if len(sys.argv) > 2:
-        measure_library(sys.argv[2], wraps.file, witness, proof, text.file, binary.file)
+        measure_library(sys.argv[2], (wraps.file, witness, proof), text.file, binary.file)
     with wraps.bench(["1"] * 4) as bench:
         measure("a query to a bench", lambda: bench.value("count[0]", 3), 20_000)
         measure("1,000 queries to a bench", lambda: bench.script(["v 3 4"] * 1000), 200)

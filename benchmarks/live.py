@@ -4,8 +4,8 @@ program and the lines of a script of both, and prints a table in Markdown: live.
 libaig.a.
 
 A line of a script is read, done and answered: its time is that of the whole process, without that of an empty script. A
-call has no text: it is timed within a process that keeps the bench. A time is processor time, the least of --times runs,
-which take turns. The goal is 1.05 for an edit, and 20 ns for a question."""
+call has no text: it is timed within a process that keeps the bench. A time is processor time, the least of --times
+runs, which take turns. The goal is 1.05 for an edit, and 20 ns for a question."""
 
 import argparse
 import os
@@ -51,7 +51,8 @@ def in_turns(times, *runs):
 
 
 def table(programs, live, times):
-    head("An edit and a question, in nanoseconds of processor time.", "load", "a call: C++", "a call", "ratio", "in an array",
+    head("An edit and a question, in nanoseconds of processor time.", "load", "a call: C++", "a call", "ratio",
+         "in an array",
          "a line: C++", "a line: aig bench")
     for name, circuit, rows, script, count, kind in loads():
         files = [circuit, rows]

@@ -4,9 +4,9 @@ proofs in DRAT, and `lrat-check` for proofs with hints (LRAT). `aig` makes the f
 read it.
 
 cadical writes a proof in DRAT, and another one with hints (`--lrat`, of 1.7 and later); kissat writes DRAT. Cook's
-refutations of the pigeons need no solver, and tests/hints/drat2lrat.cpp adds their hints. Each proof is accepted by
-both checkers before it is measured. A time is the processor time of a whole process, the least of --times runs, which
-take turns; a run over 20 s is not repeated. Memory is the greatest resident size.
+refutations of the pigeons need no solver, and tests/hints/drat2lrat.cpp adds their hints. Both checkers accept the
+proof in each run. A time is the processor time of a whole process, the least of --times runs, which take turns; a run
+over 20 s is not repeated. The last line has the greatest resident sizes.
 
 It needs yosys, cadical, drat-trim and c++, and takes kissat if it is there. Debian 13 has all of them; in Debian 12
 there is no drat-trim, and cadical writes no hints. The whole table takes half an hour and 2 GB of files."""
@@ -18,10 +18,14 @@ import subprocess
 import sys
 import tempfile
 
-from measure import (HINTED, HOLES, LONGEST, UNSATISFIABLE, Programs, Run, head, load, machine, milliseconds, resident,
-                     row, supervised, write)
-from library import families
+from measure import machine
+from library import families, supervised
+from library.runs import write
 from program.proofs import text_of
+from tables.files import load
+from tables.programs import Programs
+from tables.proofs import HINTED, HOLES, UNSATISFIABLE
+from tables.runs import LONGEST, Run, head, row
 
 # A run that takes longer than this, in seconds, is not repeated.
 LONG = 20
@@ -29,6 +33,8 @@ LONG = 20
 BITS, SOLVED_HOLES = (6, 7, 8, 9), (8, 9)
 # The solvers, and the options by which each writes a proof.
 WRITERS = {"cadical": [], "cadical --lrat": ["--lrat", "--no-binary"], "kissat": []}
+# The other checker, of proofs in DRAT and of those with hints, and what it prints.
+CHECKERS = "drat-trim", "lrat-check"
 VERIFIED = b"VERIFIED\n"
 
 
@@ -43,10 +49,9 @@ class Question:
 
     def checks(self, proof):
         """The words of `aig`, and of the other checker."""
-        ours = [self.aig, "refute", *self.options, proof]
-        if proof.endswith(".lrat"):
-            return ours, ["lrat-check", self.formula, proof]
-        return ours, ["drat-trim", self.formula, proof, "-t", LONGEST]
+        is_hinted = proof.endswith(".lrat")
+        longest = [] if is_hinted else ["-t", LONGEST]
+        return [self.aig, "refute", *self.options, proof], [CHECKERS[is_hinted], self.formula, proof, *longest]
 
 
 def questions(aig):
@@ -62,43 +67,75 @@ def questions(aig):
         yield f"pigeons, {holes} holes", lambda holes=holes: (load("pigeons", holes), 0, 1)
 
 
-def best(times, *runs, expected=0):
-    """The least time of each of several runs, which take turns. A long one runs once."""
+class Used:
+    """What a run of a checker took, which has to print that it accepts the proof. A small program starts it, since the
+    memory of what starts it counts too."""
+
+    def __init__(self, starter, words, line):
+        done = supervised.run([starter, "used.txt", *map(str, words)], stdout=subprocess.PIPE,
+                              stderr=subprocess.DEVNULL, timeout=LONGEST, check=True)
+        lines = done.stdout.replace(b"\r", b"\n").splitlines(keepends=True)
+        with open("used.txt", encoding="ascii") as file:
+            status, seconds, kilobytes = file.read().split()
+        if status != "0" or not any(it.endswith(line) and b"NOT" not in it for it in lines):
+            sys.exit(f"{words} does not accept the proof: {done.stdout[-200:]}")
+        self.seconds, self.megabytes = float(seconds), 1.024e-3 * int(kilobytes)
+
+
+def least(times, *runs):
+    """Of each of several runs, which take turns, the one of least time. A long one runs once."""
     found = [[] for _ in runs]
     for _ in range(times):
-        for words, taken in zip(runs, found):
-            if not taken or min(taken) < LONG:
-                taken.append(Run(words, expected=expected).seconds)
-    return [*map(min, found)]
+        for run, made in zip(runs, found):
+            if not made or made[0].seconds < LONG:
+                made.append(run())
+    return [min(made, key=lambda it: it.seconds) for made in found]
 
 
-def accepted(words, line):
-    """Stops unless a checker prints that it accepts a proof."""
-    done = supervised.run([*map(str, words)], stdout=subprocess.PIPE, stderr=subprocess.DEVNULL, timeout=LONGEST,
-                          check=False)
-    lines = done.stdout.replace(b"\r", b"\n").splitlines(keepends=True)
-    if done.returncode or not any(it.endswith(line) and b"NOT" not in it for it in lines):
-        sys.exit(f"{words} does not accept the proof: {done.stdout[-200:]}")
+class Table:
+    """The rows, each of so many runs, and the memory of each checker's."""
+
+    def __init__(self, programs, times):
+        self.starter, self.times, self.memory = programs.get("used"), times, {}
+        self.writers = [it for it in WRITERS if shutil.which(it.split(" ")[0])]
+        checkers = [CHECKERS["--lrat" in it] for it in self.writers]
+        head("Checking proofs beside other checkers: processor time in seconds, and the size of the proof in MB.",
+             "formula", *(cell for writer, checker in zip(self.writers, checkers)
+                          for cell in (f"{writer}: s, MB", f"{checker}, aig")))
+
+    def solved(self, question, writer):
+        """The row's cell of a solver, and its proof."""
+        name = writer.split(" ")[0]
+        proof = question.formula.replace(".cnf", f".{name}.{'lrat' if 'lrat' in writer else 'drat'}")
+        words = [name, "-q", *WRITERS[writer], question.formula, proof]
+        seconds = least(self.times, lambda: Run(words, expected=UNSATISFIABLE))[0].seconds
+        return f"{seconds:.3g}, {size_of(proof)}", proof
+
+    def checked(self, question, proof):
+        """The row's cell of both checkers."""
+        ours, other = question.checks(proof)
+        found = b"unreachable within %d\n" % question.options[1]
+        both = least(self.times, lambda: Used(self.starter, other, VERIFIED), lambda: Used(self.starter, ours, found))
+        for name, used in zip((other[0], "aig"), both):
+            self.memory.setdefault(name, []).append(used.megabytes)
+        return ", ".join(f"{it.seconds:.3g}" for it in both)
+
+    def of_solvers(self, question):
+        """Prints the row of a formula that solvers get."""
+        found = [self.solved(question, writer) for writer in self.writers]
+        row(question.name, *(cell for it, proof in found for cell in (it, self.checked(question, proof))))
+
+    def of_proofs(self, question, proofs):
+        """Prints the row of proofs that no solver wrote."""
+        row(question.name, *(cell for it in proofs for cell in (f"-, {size_of(it)}", self.checked(question, it))))
+
+    def end(self):
+        """Prints the memory."""
+        print("\nMemory: " + ", ".join(f"{name} {min(it):.0f} to {max(it):.0f} MB" for name, it in self.memory.items()))
 
 
-def measure(question, writer, solver, proof, times):
-    """Prints the row of a proof. The time of the solver is empty where none wrote it."""
-    ours, other = question.checks(proof)
-    accepted(ours, b"unreachable within %d\n" % question.options[1])
-    accepted(other, VERIFIED)
-    mine, theirs = best(times, ours, other)
-    memory = [f"{resident([*map(str, words)]) / 1e6:.0f} MB" for words in (other, ours)]
-    row(question.name, f"{writer}: {milliseconds(solver)}" if solver else writer,
-        f"{os.path.getsize(proof) / 1e6:.2f} MB", f"{other[0]}: {milliseconds(theirs)}", milliseconds(mine),
-        f"{mine / theirs:.2f}", ", ".join(memory))
-
-
-def solved(question, writer, times):
-    """The time of a solver, and its proof."""
-    name = writer.split(" ")[0]
-    proof = question.formula.replace(".cnf", f".{name}.{'lrat' if 'lrat' in writer else 'drat'}")
-    words = [name, "-q", *WRITERS[writer], question.formula, proof]
-    return best(times, words, expected=UNSATISFIABLE)[0], proof
+def size_of(proof):
+    return f"{os.path.getsize(proof) / 1e6:.3g}"
 
 
 def cooked(aig, holes, drat2lrat):
@@ -120,23 +157,16 @@ def cooked(aig, holes, drat2lrat):
     return question, (drat, lrat)
 
 
-def table(programs, times, chosen):
-    aig = programs.get("aig")
-    head("Checking proofs beside other checkers (processor time; greatest resident size).", "formula", "solver",
-         "proof", "checker", "aig", "aig / checker", "memory: checker, aig")
-    writers = [it for it in WRITERS if shutil.which(it.split(" ")[0])]
+def print_table(programs, times, chosen):
+    aig, table = programs.get("aig"), Table(programs, times)
     for name, make in questions(aig):
-        if not any(it in name for it in chosen):
-            continue
-        circuit, place, frames = make()
-        question = Question(aig, name, circuit, place, frames)
-        for writer in writers:
-            measure(question, writer, *solved(question, writer, times), times)
+        if any(it in name for it in chosen):
+            circuit, place, frames = make()
+            table.of_solvers(Question(aig, name, circuit, place, frames))
     for holes in HOLES:
         if any(it in f"pigeons, {holes} holes" for it in chosen):
-            question, proofs = cooked(aig, holes, programs.get("drat2lrat"))
-            for writer, proof in zip(("Cook", "Cook, drat2lrat"), proofs):
-                measure(question, writer, None, proof, times)
+            table.of_proofs(*cooked(aig, holes, programs.get("drat2lrat")))
+    table.end()
 
 
 def main():
@@ -155,7 +185,7 @@ def main():
         os.makedirs(room, exist_ok=True)
         os.chdir(room)
         machine(programs, chosen)
-        table(programs, chosen.times, chosen.rows)
+        print_table(programs, chosen.times, chosen.rows)
         os.chdir("/")
 
 

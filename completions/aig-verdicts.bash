@@ -4,10 +4,10 @@
 
 _aig_verdicts() {
     local -A options=(
-        [run]="--abc --assert --conflicts --cores --dask --define --drat2lrat --frames --free --help --hints --include --jobs --json --junit --keep-open --list --megabytes --minimal --module --no-conditions --no-simulator --no-wires --only --out --proof-megabytes --quiet --seconds --simulator --since --solver --top --total --verbose --zip"
+        [run]="--abc --assert --conflicts --cores --dask --define --drat2lrat --frames --free --fresh --help --hints --include --jobs --json --junit --keep-open --list --megabytes --minimal --module --needed --no-conditions --no-simulator --no-wires --only --out --parameter --proof-megabytes --quiet --seconds --simulator --since --solver --top --total --verbose --zip"
         [demo]="--help"
         [recheck]="--help --include --jobs --json --junit --megabytes --page --quiet --seed --simulate --simulator --since --sources --yosys"
-        [cores]="--abc --drat2lrat --help --jobs --json --junit --minimal --quiet --solver --zip"
+        [cores]="--abc --drat2lrat --help --jobs --json --junit --minimal --needed --quiet --solver --zip"
         [compare]="--all --help --jobs --json --junit --megabytes --page"
         [replay]="--help --hold --only --random --simulator --to --verbose"
     )

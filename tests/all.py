@@ -2,8 +2,8 @@
 """Runs every test script on a program, and counts all checks in the last line. The lines before it say what was left
 out, and why.
 
-The script with the large files takes most of the time, so it runs beside all others. Of a script that fails, all output is
-shown. A script that does not end in its time fails, and is ended."""
+The script with the large files takes most of the time, so it runs beside all others. Of a script that fails, all output
+is shown. A script that does not end in its time fails, and is ended."""
 
 import argparse
 import collections
@@ -31,7 +31,7 @@ STEPS = "run_steps.py"
 PACKAGES = ("python/tests/run_package.py", "python/tests/run_explain.py", "python/tests/run_pages.py",
             "python/tests/run_bundles.py", "python/tests/run_circuit.py", "python/tests/run_replay.py",
             "python/tests/run_netlists.py", "python/tests/run_versions.py", "python/tests/run_sva.py",
-            "python/tests/run_reading.py", "python/tests/run_cores.py")
+            "python/tests/run_reading.py", "python/tests/run_cores.py", "python/tests/run_options.py")
 # this compares a few random designs with a simulator
 RANDOM = "python/tests/random_verilog.py"
 # this tries some of the planted bugs of the package

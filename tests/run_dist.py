@@ -78,8 +78,8 @@ def look_for_library(library, tally, way, root):
 
 
 def look_for_verdicts(program, tally, way, root):
-    """Checks the installed command `aig-verdicts`: it has all of its Python and the design of its demo, runs the program
-    beside it, and leaves nothing behind. The tour has re-checked a bundle with it."""
+    """Checks the installed command `aig-verdicts`: it has all of its Python and the design of its demo, runs the
+    program beside it, and leaves nothing behind. The tour has re-checked a bundle with it."""
     package = f"{root}/share/aig/python/aig"
     sources = {os.path.relpath(it, f"{PYTHON}/aig"): contents(it) for kind in ("py", "v")
                for it in glob.glob(f"{PYTHON}/aig/**/*.{kind}", recursive=True)}
@@ -112,12 +112,14 @@ def look(program, tally, way, root, functions="zsh/site-functions"):
         tally.check(f"{way}: the page {name}", found == text, page)
     for name in ("aig", "aig-explain", "aig-verdicts"):
         bash = f"{share}/bash-completion/completions/{name}"
-        asked = supervised.run(["bash", "-c", 'source "$1" && complete -p "$2"', "bash", bash, name], capture_output=True,
+        asked = supervised.run(["bash", "-c", 'source "$1" && complete -p "$2"', "bash", bash, name],
+                               capture_output=True,
                                text=True, check=False)
         is_taken = asked.returncode == 0 and asked.stdout.endswith(f" {name}\n")
         tally.check(f"{way}: bash takes the completion of {name}", is_taken, asked)
-    zsh = contents(f"{share}/{functions}/_aig")
-    tally.check(f"{way}: the completion for zsh", zsh == contents(f"{REPOSITORY}/completions/_aig"), zsh[:80])
+    for name in ("_aig", "_aig-verdicts"):
+        zsh = contents(f"{share}/{functions}/{name}")
+        tally.check(f"{way}: {name} for zsh", zsh == contents(f"{REPOSITORY}/completions/{name}"), zsh[:80])
     for name in DOCUMENTS:
         tally.check(f"{way}: {name}", contents(f"{documents}/{name}") == contents(f"{REPOSITORY}/{name}"), documents)
     for page in glob.glob(f"{documents}/**/*.md", recursive=True):
@@ -133,8 +135,8 @@ def look(program, tally, way, root, functions="zsh/site-functions"):
 
 
 def install(program, tally, _):
-    """A copy that `make install` made has the program, pages, completions and documents; each link of its pages leads to
-    a file; the tour runs from there."""
+    """A copy that `make install` made has the program, pages, completions and documents; each link of its pages leads
+    to a file; the tour runs from there."""
     need("make", "bash")
     pack.install(made(program), os.path.abspath("root"), "/usr/local", PROVENANCE)
     look(program, tally, "install", "root/usr/local")
@@ -164,7 +166,8 @@ def package(program, tally, _):
     name = release(program, "made")[1]
     version, libc = pack.version_of(program.path), pack.libc_of(program.path)
     names = ("Package", "Version", "Architecture", "Depends", "Recommends", "Suggests")
-    fields = supervised.run(["dpkg-deb", "-f", f"made/{name}", *names], capture_output=True, text=True, check=True).stdout
+    fields = supervised.run(["dpkg-deb", "-f", f"made/{name}", *names], capture_output=True, text=True,
+                            check=True).stdout
     wanted = (f"Package: aig\nVersion: {version}\nArchitecture: amd64\nDepends: libc6 (>= {libc})\n"
               "Recommends: python3 (>= 3.9), yosys, cadical, iverilog\nSuggests: gtkwave\n")
     tally.compare("package: its fields", fields, wanted)
@@ -190,10 +193,13 @@ def in_environment(program, name, given, tally):
     tally.check(f"{name}: aig-verdicts", command.returncode == 0 and command.stdout.startswith(version), command)
     look_for_explanations(tally, name, f"{name}/bin/aig-explain", env={"PATH": ""})
     os.mkdir(f"demo_{name}")
-    command = supervised.run([os.path.abspath(f"{name}/bin/aig-verdicts"), "demo"], env={"PATH": ""}, cwd=f"demo_{name}",
+    command = supervised.run([os.path.abspath(f"{name}/bin/aig-verdicts"), "demo"], env={"PATH": ""},
+                             cwd=f"demo_{name}",
                              stdin=DEVNULL, capture_output=True, timeout=runs.SECONDS, check=False)
-    tally.compare(f"{name}: the design of the demo", contents(f"demo_{name}/queue.v"), contents(f"{runs.EXAMPLES}/queue.v"))
-    tally.check(f"{name}: a demo without Yosys", command.returncode == 1 and b"no program yosys" in command.stderr, command)
+    tally.compare(f"{name}: the design of the demo", contents(f"demo_{name}/queue.v"),
+                  contents(f"{runs.EXAMPLES}/queue.v"))
+    tally.check(f"{name}: a demo without Yosys", command.returncode == 1 and b"no program yosys" in command.stderr,
+                command)
     words = [f"{name}/bin/python", f"{REPOSITORY}/python/tests/run_package.py", "--installed"]
     settings = {setting: text for setting, text in os.environ.items() if setting not in ("AIG_PROGRAM", "AIG_LIBRARY")}
     parts = ("names", "verdicts", "bench", "libraries", *(["live"] if library else []))
@@ -211,9 +217,9 @@ def shared(program):
 
 
 def wheel(program, tally, _):
-    """The wheel of the Python package is the same bytes each time and has the program's version. `pip install --no-index`
-    takes it, and the folder python/, into fresh environments; parts of run_package.py pass there on the program and the
-    library that pip installed."""
+    """The wheel of the Python package is the same bytes each time and has the program's version. `pip install
+    --no-index` takes it, and the folder python/, into fresh environments; parts of run_package.py pass there on the
+    program and the library that pip installed."""
     need("objdump")
     for module in ("venv", "ensurepip"):
         if importlib.util.find_spec(module) is None:
@@ -244,7 +250,8 @@ def refusals(_, tally, __):
         ("aig is not the one that the gate proved", RECORD, STATE, {**SUMS, "program": "d" * 64}),
         ("aig is not the one that the gate proved", RECORD, STATE, {**SUMS, "program": None}),
         ("libaig.a is not the one that the gate proved", RECORD, STATE, {**SUMS, "archive": "d" * 64}),
-        ("libaig.so is not the one that the gate proved", {**STATE, "program": SUMS["program"], "archive": SUMS["archive"]},
+        ("libaig.so is not the one that the gate proved", {**STATE, "program": SUMS["program"],
+                                                           "archive": SUMS["archive"]},
          STATE, {**SUMS, "shared": None}),
     ):
         reason = gate.refusal(record, state, sums)

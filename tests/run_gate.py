@@ -8,18 +8,21 @@ import os
 import pathlib
 import re
 import sys
-import time
 
 import all as every
 import wrong_bodies
+from gate_parts import costing
 from library import runs, supervised
 from library.runs import REPOSITORY, TESTS, write
 
 sys.path.insert(0, REPOSITORY + "/tools")
-import costs  # noqa: E402
 import gate  # noqa: E402
 import planted  # noqa: E402
 import planted_python  # noqa: E402
+import refused  # noqa: E402
+from judge.bugs import Edit  # noqa: E402
+from judge.crates import Crate  # noqa: E402
+from judge.trials import FALSE  # noqa: E402
 
 # The files of a proved library, with what is changed in each, and whether crates above can cite that.
 LIBRARY = {
@@ -53,19 +56,19 @@ def library(changed=None, module=None, at=9):
 
 def cited(_, tally, __):
     """The sum of a library is that of what crates above can cite."""
-    plain = planted.cited_sum(library())
-    tally.compare("cited: in another folder", planted.cited_sum(library(at=10)), plain)
+    plain = refused.cited_sum(library())
+    tally.compare("cited: in another folder", refused.cited_sum(library(at=10)), plain)
     for name, (_, _, is_cited) in LIBRARY.items():
-        tally.compare(f"cited: {name}", planted.cited_sum(library(name)) != plain, is_cited)
+        tally.compare(f"cited: {name}", refused.cited_sum(library(name)) != plain, is_cited)
     for name, is_cited in MADE.items():
-        tally.compare(f"cited: the module {name}", planted.cited_sum(library(module=name)) != plain, is_cited)
+        tally.compare(f"cited: the module {name}", refused.cited_sum(library(module=name)) != plain, is_cited)
     for name in ("interface", "toolchain/made.json"):
         other = library()
         (other / name).rename(other / "moved")
         if name != "interface":
             (other / name).write_text('{"modules": []}\n')
         try:
-            planted.cited_sum(other)
+            refused.cited_sum(other)
             tally.check(f"cited: without {name}", False, "it has a sum")
         except ValueError:
             tally.check(f"cited: without {name}", True)
@@ -76,15 +79,15 @@ def crate(name, folder, below):
     for part in ("src", "planted"):
         (folder / part).mkdir(parents=True, exist_ok=True)
         (folder / part / "one").write_text(part)
-    return planted.Crate(name, folder, ("src", ), {*below}, below, [], None)
+    return Crate(name, folder, ("src", ), {*below}, below, [], None)
 
 
 def sums(_, tally, __):
-    """The sum of a crate changes with its own files and bugs, its lines in crates.txt, the toolchain and the script."""
+    """The sum of a crate changes with its own files and bugs, its lines in crates.txt, the toolchain and the judge."""
     folder = pathlib.Path(os.path.abspath("crate"))
     one = crate("aig_parts", folder, {"aig_bytes": library()})
-    plain = planted.sum_for(one)
-    tally.compare("sums: the same", planted.sum_for(crate("aig_parts", folder, {"aig_bytes": library()})), plain)
+    plain = refused.sum_for(one)
+    tally.compare("sums: the same", refused.sum_for(crate("aig_parts", folder, {"aig_bytes": library()})), plain)
     changes = {
         "a body below": (False, crate("aig_parts", folder, {"aig_bytes": library("lang/src/lib.rt")})),
         "a definition below": (True, crate("aig_parts", folder, {"aig_bytes": library("lang/antt/specs/One.antt")})),
@@ -92,27 +95,31 @@ def sums(_, tally, __):
         "other lines of crates.txt": (True, crate("aig_values", folder, {"aig_bytes": library()})),
     }
     for name, (is_other, changed) in changes.items():
-        tally.compare(f"sums: {name}", planted.sum_for(changed) != plain, is_other)
+        tally.compare(f"sums: {name}", refused.sum_for(changed) != plain, is_other)
     for part in ("src", "planted"):
         changed = crate("aig_parts", folder, {"aig_bytes": library()})
         (folder / part / "one").write_text("other")
-        tally.check(f"sums: {part}/", planted.sum_for(changed) != plain)
+        tally.check(f"sums: {part}/", refused.sum_for(changed) != plain)
     crate("aig_parts", folder, {})
-    with replaced(planted, "__file__", __file__), of_kit("kit"):
-        tally.check("sums: another script", planted.sum_for(one) != plain)
+    for place, path in enumerate(refused.JUDGE):
+        others = (*refused.JUDGE[:place], pathlib.Path(__file__), *refused.JUDGE[place + 1:])
+        with replaced(refused, "JUDGE", others), of_kit("kit"):
+            tally.check(f"sums: another {path.name}", refused.sum_for(one) != plain)
+    tools = [pathlib.Path(module.__file__).parent for module in (planted, refused)]
+    tally.check("sums: the scripts that list bugs are not in it", not {*tools} & {it.parent for it in refused.JUDGE})
     with of_kit("kit"):
-        tally.compare("sums: the same script", planted.sum_for(one), plain)
+        tally.compare("sums: the same judge", refused.sum_for(one), plain)
     with of_kit("another kit"):
-        tally.check("sums: another rt version", planted.sum_for(one) != plain)
+        tally.check("sums: another rt version", refused.sum_for(one) != plain)
 
 
 @contextlib.contextmanager
 def of_kit(version):
     """The sums where `rt version` prints this."""
-    planted.sum_of_judge.cache_clear()
+    refused.sum_of_judge.cache_clear()
     with replaced(gate, "asked", lambda *_: version):
         yield
-    planted.sum_of_judge.cache_clear()
+    refused.sum_of_judge.cache_clear()
 
 
 @contextlib.contextmanager
@@ -140,14 +147,14 @@ def again(_, tally, __):
     tally.compare("again: each crate by some commit", set().union(*chosen), {*counts})
     tally.check("again: others by another commit", chosen[0] != chosen[1])
     one = crate("aig_parts", pathlib.Path("crate"), {})
-    edits = [planted.Edit(f"planted/{number}.edit", "clause", [], [number]) for number in range(30)]
-    for kind, says_so in ((planted.FALSE, False), (None, True)):
+    edits = [Edit(f"planted/{number}.edit", "clause", [], [number]) for number in range(30)]
+    for kind, says_so in ((FALSE, False), (None, True)):
         for names, tried in (({one.name}, len(edits)), ({"aig_bytes"}, 0)):
             found, said = told(one, edits, names, kind)
             tally.compare(f"again: what is tried of {names}, {kind}", found, [kind] * tried)
             tally.compare(f"again: it fails for {names}, {kind}", "FAILED: refused.txt" in said, says_so and tried > 0)
-    with replaced(planted, "REFUSED", pathlib.Path("missing")):
-        tally.compare("again: without a record", planted.recorded(), {})
+    with replaced(refused, "REFUSED", pathlib.Path("missing")):
+        tally.compare("again: without a record", refused.recorded(), {})
 
 
 def told(one, edits, chosen, kind):
@@ -160,7 +167,7 @@ def told(one, edits, chosen, kind):
 
     said = io.StringIO()
     with replaced(planted, "tried", one_check), replaced(planted, "rounds", in_one), contextlib.redirect_stdout(said):
-        _, found = planted.told(one, [], edits, {one.name: planted.sum_for(one)}, chosen)
+        _, found = planted.told(one, [], edits, {one.name: refused.sum_for(one)}, chosen)
     return found, said.getvalue()
 
 
@@ -343,33 +350,6 @@ def scripts(_, tally, __):
                 tally.check(f"scripts: {path.name} can be run", os.access(path, os.X_OK))
 
 
-# A program under the name of a check of aig_none, which works for some seconds.
-CHECK = ["rattle", "-c", "import time\nlist(range(10 ** 6))\nwhile time.process_time() < 2: pass\ntime.sleep(60)",
-         "--crate-name", "aig_none"]
-
-
-def report(_, tally, __):
-    """What the gate notes of the checks of each crate, and its warnings; without /proc it notes nothing."""
-    seen = costs.Watch(os.getpid())
-    with supervised.Popen(CHECK, executable=sys.executable) as check:
-        until = time.monotonic() + runs.SECONDS
-        while sum(cost.processor for cost in seen.costs().values()) < 1 and time.monotonic() < until:
-            seen.look()
-            time.sleep(0.2)
-        check.kill()
-    found = seen.costs()
-    tally.compare("report: the checks", [*found], [(costs.BUGS, "aig_none")])
-    cost = found[costs.BUGS, "aig_none"]
-    tally.check("report: a check", 1 <= cost.processor < 10 and cost.wall > 0 and 1e6 < cost.memory < 1e9, cost)
-    dear = {(costs.PROOFS, "aig_high"): costs.Cost(700, 900, 2e9), (costs.PROOFS, "aig_wide"): costs.Cost(20, 30, 5e9),
-            (costs.PROOFS, "aig_low"): costs.Cost(20, 30, 2e9), (costs.BUGS, "aig_high"): costs.Cost(700, 900, 2e9)}
-    others = ["seconds 12\n", "proofs 3 passed\n"]
-    tally.compare("report: its lines", costs.costs_of([*costs.lines_of(dear), *others]), dear)
-    warned = re.findall(r"(?m)^warning: the proofs of (\w+) ", costs.table(dear))
-    tally.compare("report: its warnings", warned, ["aig_high", "aig_wide"])
-    tally.compare("report: no file", gate.costs_in("missing"), {})
-
-
 def with_kit(part):
     """The part, which needs no toolchain."""
     def run(*words):
@@ -381,7 +361,8 @@ def with_kit(part):
 
 
 PARTS = {"cited": cited, "sums": with_kit(sums), "again": with_kit(again), "wrong": wrong, "left_out": left_out,
-         "planted": planted_of_python, "scripts": scripts, "lanes": side_by_side, "report": report}
+         "planted": planted_of_python, "scripts": scripts, "lanes": side_by_side, "report": costing.report,
+         "functions": costing.of_functions}
 
 if __name__ == "__main__":
     runs.main(__doc__, PARTS)

@@ -1,8 +1,8 @@
 #!/usr/bin/env python3
 """Runs the built program on files of more than its blocks, on long scripts, and on files that were chosen to be slow.
-Three parts run only where they are asked for. `deep` has circuits as deep and as wide as the limits allow (minutes, 1 GB
-of memory, 500 MB of files). `claims` measures the memory for small files that claim millions of entries. `proofs` has
-proofs that are slow to check, beside the C++ program of `benchmarks/tuned`."""
+Three parts run only where they are asked for. `deep` has circuits as deep and as wide as the limits allow (minutes, 1
+GB of memory, 500 MB of files). `claims` measures the memory for small files that claim millions of entries. `proofs`
+has proofs that are slow to check, beside the C++ program of `benchmarks/tuned`."""
 
 from large.block_edges import block_edges
 from large.claims import claims

@@ -22,7 +22,8 @@ from at_random.witnesses import witnesses
 from library import runs
 
 PARTS = {"hostile": hostile, "scripts": scripts, "waves": waves, "replays": replays, "formulas": formulas,
-         "alive": alive, "cones": cones, "selections": selections, "cuts": cuts, "witnesses": witnesses, "reductions": reductions,
+         "alive": alive, "cones": cones, "selections": selections, "cuts": cuts, "witnesses": witnesses,
+         "reductions": reductions,
          "certificates": certificates, "sessions": sessions}
 
 if __name__ == "__main__":

@@ -1,6 +1,6 @@
 #!/usr/bin/env python3
-"""Runs the program aig_tests: it marks each step of proofs about formulas that no circuit has, says what edits of benches
-cost in each grid, and makes calls that no command makes."""
+"""Runs the program aig_tests: it marks each step of proofs about formulas that no circuit has, says what edits of
+benches cost in each grid, and makes calls that no command makes."""
 
 from library import runs
 from steps.all_assignments import all_assignments

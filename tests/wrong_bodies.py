@@ -1,7 +1,7 @@
 #!/usr/bin/env python3
-"""Tries the wrong bodies that no contract refuses, which only tests see: the edits in tests/wrong_bodies/. All are in one
-program, built without proofs, and the variable AIG_WRONG chooses one of them when it runs. Each runs the parts of the
-scripts that tests/wrong_bodies.txt names beside it, and is seen if a check of each of them fails. A part that was
+"""Tries the wrong bodies that no contract refuses, which only tests see: the edits in tests/wrong_bodies/. All are in
+one program, built without proofs, and the variable AIG_WRONG chooses one of them when it runs. Each runs the parts of
+the scripts that tests/wrong_bodies.txt names beside it, and is seen if a check of each of them fails. A part that was
 stopped, or that ended otherwise, has seen nothing. Without AIG_WRONG the same parts have to pass.
 
 An edit has lines of prose, then `file:` with the path of a source, and pairs of `old:` and `new:` as planted bugs have
@@ -23,9 +23,9 @@ import tempfile
 from library import supervised
 
 sys.path.insert(0, os.path.dirname(os.path.dirname(os.path.abspath(__file__))) + "/tools")
-import planted  # noqa: E402
+from judge import bugs  # noqa: E402
+from judge.crates import ROOT  # noqa: E402
 
-ROOT = planted.ROOT
 EDITS, SEEN = ROOT / "tests/wrong_bodies", ROOT / "tests/wrong_bodies.txt"
 VARIABLE = "AIG_WRONG"
 # A run that goes on for ever fails its check after so many seconds, and a part is ended after so many.
@@ -33,8 +33,10 @@ SECONDS, PART_SECONDS = 10, 600
 BUILD_SECONDS = 3600
 # Those that are tried for a bug that is not in the list, the quick ones first.
 PARTS = (*(f"run_program.py {part}" for part in (
-    "refute", "proofs", "large_proofs", "certificates", "ample", "bench", "sim", "wave", "check", "replays", "toaig", "unroll",
-    "cnf", "info", "select", "witness", "properties", "names", "reduce", "why", "kept", "owners", "descriptors", "words", "help",
+    "refute", "proofs", "large_proofs", "certificates", "ample", "bench", "sim", "wave", "check", "replays", "toaig",
+    "unroll",
+    "cnf", "info", "select", "witness", "properties", "names", "reduce", "why", "kept", "owners", "descriptors",
+    "words", "help",
     "needs", "talks", "same_files", "definitions", "shell", "large_session",
     "large_saves")),
     *(f"run_faults.py {part}" for part in ("kept", "writes", "calls", "allocations", "limits")),
@@ -126,7 +128,7 @@ def patched(room, edits):
         inner = str(pathlib.Path(*pathlib.Path(file).parts[2:]))
         if not (room / file).exists():
             continue
-        functions = list(planted.functions(crate, inner, planted.types(crate, [inner])))
+        functions = list(bugs.functions(crate, inner, bugs.types(crate, [inner])))
         own = [edit for edit in edits if edit.file == file]
         text, names = choosing((room / file).read_text(), functions, own, numbers)
         (room / file).write_text(text)
@@ -203,7 +205,8 @@ HEAD = """# Wrong bodies that no contract refuses, and a part of the tests that 
 
 def main():
     parser = argparse.ArgumentParser(description=__doc__, formatter_class=argparse.RawDescriptionHelpFormatter)
-    parser.add_argument("--keep", type=pathlib.Path, metavar="PROGRAM", help="builds this, or takes it where it is there")
+    parser.add_argument("--keep", type=pathlib.Path, metavar="PROGRAM",
+                        help="builds this, or takes it where it is there")
     parser.add_argument("--jobs", type=int, default=2, help="how many parts run side by side (else 2)")
     parser.add_argument("--only", action="append", help="the wrong bodies whose names hold this; may be given again")
     parser.add_argument("--write", action="store_true", help="writes the list")

@@ -9,8 +9,8 @@ place of the list.
 README.md and docs/PROVED.md are compared too. The last column of each table that ends with the column `lines to
 believe` has the lines of the call, or of its clause, in the column `call, clause`; a row that says `more` has only
 those that are not of what a circuit file is. docs/PROVED.md says how many calls have no clause. Each clause that it
-shows has to be in the sources. --write writes the list and these numbers. The script reads text and proves nothing. The texts of definitions are on neither
-page."""
+shows has to be in the sources. --write writes the list and these numbers. The script reads text and proves nothing. The
+texts of definitions are on neither page."""
 
 import argparse
 import difflib

@@ -2,7 +2,8 @@
 """What the checks of each crate cost: seconds of processor time, seconds from the first to the last of its checks, and
 the most memory at a time.
 
-  costs.py FILE       notes in FILE what the checks cost that the process above this one starts, until that one ends
+  costs.py FILE       notes in FILE what the checks cost that the process above this one starts, until that one ends,
+                      and in FILE.functions what each function did (tools/functions.py)
 
 A check is a process of the toolchain, `rattle`, that names a crate. It is of the proofs where it runs in the crate's
 folder, and else of the planted bugs. The script reads /proc every two seconds, so it misses what a process uses after
@@ -13,6 +14,8 @@ import os
 import pathlib
 import sys
 import time
+
+import functions
 
 ROOT = pathlib.Path(__file__).resolve().parent.parent
 # Seconds between two looks. The memory is read at each fifth alone: the kernel goes through all pages for it.
@@ -78,17 +81,22 @@ class Watch:
     def __init__(self, top):
         self.top, self.looks = top, 0
         self.seconds, self.times, self.memory = collections.defaultdict(dict), {}, collections.Counter()
+        self.kept, self.functions = {}, {}
 
     def look(self):
         found, now, sizes = processes(), time.time(), collections.Counter()
         for number, *check in checks(found, self.top):
             kind, process = tuple(check), found[number]
             self.seconds[kind][number, process.began] = process.seconds
+            if kind[0] == PROOFS:
+                self.kept.setdefault(number, functions.Kept(number)).look(now, process.seconds)
             first, _ = self.times.get(kind, (now, now))
             self.times[kind] = first, now
             sizes[kind] += memory(number) if self.looks % LOOKS == 0 else 0
         self.memory |= sizes  # the greater of both
         self.looks += 1
+        for number in [it for it in self.kept if it not in found]:
+            self.functions = functions.merged(self.functions, self.kept.pop(number).costs())
 
     def costs(self):
         return {kind: Cost(sum(each.values()), self.times[kind][1] - self.times[kind][0], self.memory[kind])
@@ -129,16 +137,23 @@ def table(costs):
     return text
 
 
+def write(name, lines):
+    """Writes a file, which is whole at any time."""
+    new = pathlib.Path(f"{name}.new")
+    new.write_text("".join(lines), encoding="utf-8")
+    new.replace(name)
+
+
 def watch(name):
-    """Notes the costs until the process above this one ends. The file is whole at any time."""
+    """Notes the costs until the process above this one ends."""
     above = os.getppid()
     if not os.path.isdir("/proc/self"):
         return
-    seen, new = Watch(above), pathlib.Path(f"{name}.new")
+    seen = Watch(above)
     while os.getppid() == above:
         seen.look()
-        new.write_text("".join(lines_of(seen.costs())), encoding="utf-8")
-        new.replace(name)
+        write(name, lines_of(seen.costs()))
+        write(f"{name}.functions", functions.lines_of(seen.functions))
         time.sleep(PAUSE)
 
 

@@ -121,14 +121,16 @@ def entry(text):
 
 def listed(specs, reached, crate):
     """Returns the list of a crate's definitions: an entry for each file that contracts reach, with the definitions that
-    they reach and the head of the file, and one for all other files. The program exports nothing: all of it is listed."""
+    they reach and the head of the file, and one for all other files. The program exports nothing: all of it is
+    listed."""
     folder = ROOT / "crates" / crate / "specs"
     files = {path: keys for path, keys in by_file(specs, specs.table).items() if path.parts[0] == crate}
     entries, others = [], []
     for path, keys in files.items():
         name = path.relative_to(f"{crate}/specs").with_suffix("")
         here = [f"`{key[2]}`" for key in keys if key in reached or crate not in crates()]
-        text = head(folder.parent.parent / path).replace("Example: ", "*Example*: ").replace("Examples: ", "*Examples*: ")
+        text = head(folder.parent.parent / path).replace("Example: ", "*Example*: ").replace("Examples: ",
+                                                                                             "*Examples*: ")
         if here:
             entries.append(entry(f"`{name}` ({', '.join(here)}): {text}"))
         else:

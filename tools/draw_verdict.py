@@ -1,6 +1,6 @@
-"""Draws docs/verdict.svg for tools/pictures.py: what a page of `aig-verdicts` shows of an assertion that fails. The texts
-and the waveform are those of the page. The colours are its light ones, and the picture has a paper of its own, so it
-looks the same on a dark screen."""
+"""Draws docs/verdict.svg for tools/pictures.py: what a page of `aig-verdicts` shows of an assertion that fails. The
+texts and the waveform are those of the page. The colours are its light ones, and the picture has a paper of its own, so
+it looks the same on a dark screen."""
 
 import html
 import re
@@ -68,7 +68,9 @@ def text(x, y, said, kind=""):
     return f'<text x="{x:g}" y="{y:g}"{named} xml:space="preserve">{html.escape(said, quote=False)}</text>'
 
 
-def box(x, y, width, height, kind, corner=6):
+def box(place, kind, corner=6):
+    """A box with its left upper corner, width and height."""
+    x, y, width, height = place
     return f'<rect x="{x:g}" y="{y:g}" width="{width:g}" height="{height:g}" rx="{corner}" class="{kind}"/>'
 
 
@@ -85,11 +87,11 @@ def drawn(page, property, style):
     it = shown(page, property)
     elements = [*header_of(it)]
     y, inner = 50, WIDTH - 2 * MARGIN
-    elements.append(box(MARGIN, y, inner, LINE * len(it.sources) + 18, "box"))
+    elements.append(box((MARGIN, y, inner, LINE * len(it.sources) + 18), "box"))
     y += 22
     for number, line, is_hit in it.sources:
         if is_hit:
-            elements.append(box(MARGIN + 8, y - 14, inner - 16, LINE, "hit", 0))
+            elements.append(box((MARGIN + 8, y - 14, inner - 16, LINE), "hit", 0))
         elements += [text(MARGIN + 12, y, number, "c sub"), text(MARGIN + 46, y, line, "c t" if is_hit else "c")]
         y += LINE
     y += 26
@@ -100,7 +102,7 @@ def drawn(page, property, style):
     bottom = top + max(height for _, _, height in it.waves)
     left += 26
     elements.append(text(left, y, "Why, from the last frame back:"))
-    elements.append(box(left, y + 12, WIDTH - MARGIN - left, LINE * len(it.why) + 16, "box"))
+    elements.append(box((left, y + 12, WIDTH - MARGIN - left, LINE * len(it.why) + 16), "box"))
     y += 34
     for line in it.why:
         elements.append(text(left + 12, y, line, "c"))
@@ -116,7 +118,7 @@ def framed(elements, height, style):
               f'viewBox="0 0 {WIDTH} {height}">')
     return "\n".join([opened, "<title>An assertion that fails, on the page of aig-verdicts</title>",
                       f"<style>\n{MORE_STYLE}\n{style}</style>",
-                      box(0.5, 0.5, WIDTH - 1, height - 1, "paper", 10),
+                      box((0.5, 0.5, WIDTH - 1, height - 1), "paper", 10),
                       f'<path class="side" d="M6 0.5H9V{height - 0.5}H6Q0.5 {height - 0.5} 0.5 {height - 6}V6'
                       'Q0.5 0.5 6 0.5Z"/>',
                       *elements, "</svg>", ""])

@@ -19,8 +19,8 @@ def names(text):
 
 
 def lanes(circuit, stimulus, lane):
-    """The signals with their values, each made by `lane` of a name and its bits at each frame. A latch that is an output
-    too is shown once."""
+    """The signals with their values, each made by `lane` of a name and its bits at each frame. A latch that is an
+    output too is shown once."""
     parts = reference.Parts(circuit)
     frames = reference.values(parts, stimulus.split())
     literals = {"i": parts.inputs, "l": [latch for latch, _, _ in parts.latches], "o": parts.outputs}

@@ -8,8 +8,8 @@ docs/floors.svg, with crates.txt.
   libraries either, and no file of its src/ names such a module of std.
 - ARCHITECTURE.md has a table with a row for each floor and, below it, one for each crate. Its last column has the
   libraries of the repository on which the crate stands, without those on which these stand.
-- A name of a type has one meaning in a crate and the crates that it stands on. `tools/two_meanings.txt` has the names of
-  which that is not true yet; it may only shrink.
+- A name of a type has one meaning in a crate and the crates that it stands on. `tools/two_meanings.txt` has the names
+  of which that is not true yet; it may only shrink.
 - The picture has the floors, the crates, these edges, and the longest chain by its lines of src and proofs, in
   thousands (tools/draw_floors.py).
 

@@ -4,8 +4,9 @@
   begin               removes the record, and prints the state of the repository
   lanes               prints how many crates this machine can prove side by side, if they are two or more
   end BEGAN COSTS FILE..
-                      writes the record: the state in the file BEGAN, the last line of each FILE, how long the gate took,
-                      and what the checks of each crate cost, which COSTS has (tools/costs.py), if it is there
+                      writes the record: the state in the file BEGAN, the last line of each FILE, how long the gate
+                      took, and what the checks of each crate cost, which COSTS has (tools/costs.py), if it is there;
+                      fails where a function keeps more than it may (tools/functions.py)
   report              prints what the checks of each crate cost in that gate, and warns of those that are dear
   program             prints the program to install: the proved one, if the gate passed these sources, else build/aig
   library             prints the folder of the library for C to install, by the same rule, else build/lib"""
@@ -18,6 +19,7 @@ import sys
 import time
 
 import costs
+import functions
 
 ROOT = os.path.dirname(os.path.dirname(os.path.abspath(__file__)))
 RECORD = ROOT + "/build/gate"
@@ -112,6 +114,8 @@ def end(began, cost, logs):
     if before["sources"] != now["sources"]:
         print("the sources changed while the gate ran, so build/gate is not written", file=sys.stderr)
         return
+    if os.path.exists(cost) and not functions.judged(f"{cost}.functions"):
+        sys.exit("a function keeps more than it may, so build/gate is not written")
     record = {**now, "clean": "yes" if before == now and now["clean"] == "yes" else "no"}
     record.update((name, total) for name, total in made().items() if total)
     record["toolchain"] = asked("rt", "version")
@@ -161,7 +165,8 @@ def numbers(name, pattern):
 
 def lanes(processors, memory):
     """Returns how many crates can be proved side by side, or nothing where two large ones have no room. `rt ci` goes by
-    the lines of a crate, counts twice as much, and so lets processors stand idle; where memory is small it knows best."""
+    the lines of a crate, counts twice as much, and so lets processors stand idle; where memory is small it knows
+    best."""
     fit = int((memory - BESIDE) // LARGE)
     return min(processors, fit) if fit > 1 else None
 
@@ -171,7 +176,8 @@ def of_this_machine():
     processors, share = len(os.sched_getaffinity(0)), numbers(*SHARE)
     if share:
         processors = min(processors, max(1, share[0] // share[1]))
-    return processors, min([unit * number for name, pattern, unit in FREE for number in numbers(name, pattern)], default=0)
+    memory = [unit * number for name, pattern, unit in FREE for number in numbers(name, pattern)]
+    return processors, min(memory, default=0)
 
 
 def main(words):

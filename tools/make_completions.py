@@ -1,5 +1,5 @@
 #!/usr/bin/env python3
-"""Writes completions/aig.bash, completions/_aig and completions/aig-verdicts.bash from what the help of the program and of
+"""Writes aig.bash, _aig, aig-verdicts.bash and _aig-verdicts in completions/ from what the help of the program and of
 aig-verdicts says, and from the files beside them that end with .in. usage: tools/make_completions.py PROGRAM"""
 
 import os

@@ -1,13 +1,13 @@
 #!/usr/bin/env python3
-"""Makes the files of tests/proofs again, with cadical 1.5.3 (Debian's package `cadical`), in a minute. Each circuit has two
-chains of exclusive ors over the same inputs in two orders, and is bad where they differ, so never. Its last gate is for
-an output. cadical gets the formula of all gates, and deletes the clauses of that gate: so the proof names the last
+"""Makes the files of tests/proofs again, with cadical 1.5.3 (Debian's package `cadical`), in a minute. Each circuit has
+two chains of exclusive ors over the same inputs in two orders, and is bad where they differ, so never. Its last gate is
+for an output. cadical gets the formula of all gates, and deletes the clauses of that gate: so the proof names the last
 variable too, and deletes clauses that the formula of `aig cnf` does not have.
 
-`parity` has about 200 variables and a proof of about 50 KB, as text and in the binary form. `long` has a proof with over
-5,000 clauses, and about as many deletions, in the binary form. `outcomes` says how runs on changed proofs and circuits
-have to end, by tests/library/plain_checker.py; a number is that of the first step that does not follow, and 0 says that no
-step is wrong and that they do not suffice."""
+`parity` has about 200 variables and a proof of about 50 KB, as text and in the binary form. `long` has a proof with
+over 5,000 clauses, and about as many deletions, in the binary form. `outcomes` says how runs on changed proofs and
+circuits have to end, by tests/library/plain_checker.py; a number is that of the first step that does not follow, and 0
+says that no step is wrong and that they do not suffice."""
 
 import copy
 import os
@@ -70,7 +70,8 @@ def solved(name, clauses):
     """Cadical's proofs, as text and in the binary form."""
     most = max(abs(literal) for clause in clauses for literal in clause)
     with open(f"{name}.cnf", "w", encoding="ascii") as file:
-        file.write(f"p cnf {most} {len(clauses)}\n" + "".join(" ".join(map(str, clause)) + " 0\n" for clause in clauses))
+        file.write(f"p cnf {most} {len(clauses)}\n" + "".join(" ".join(map(str,
+                                                                           clause)) + " 0\n" for clause in clauses))
     for form, options in (("text", ["--no-binary"]), ("binary", [])):
         words = ["cadical", "-q", *options, f"{name}.cnf", f"{name}.{form}.drat"]
         subprocess.run(words, stdout=subprocess.DEVNULL, check=False, timeout=3600)

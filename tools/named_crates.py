@@ -17,7 +17,8 @@ SERVES = (
     Service("clap", "arguments of the command line", "aig_cli/src/subcommands.rt", r"\bCommand::new\("),
     Service("itoa", "decimal digits", "aig_bytes/src/digits.rt", r"\bwrite_digits\("),
     Service("memchr", "ends of lines", "aig_bytes/src/line.rt", r"\bmemchr\("),
-    Service("smallvec", "lists of the gates that read a variable", "aig_base/src/readers/gate_lists.rt", r"\bSmallVec<"),
+    Service("smallvec", "lists of the gates that read a variable", "aig_base/src/readers/gate_lists.rt",
+            r"\bSmallVec<"),
     Service("indexmap", "symbols", "aig_parts/src/symbols/table.rt", r"\bIndexMap<"),
 )
 # A fault that a message shows, with its attributes and the lines before it.

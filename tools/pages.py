@@ -3,12 +3,13 @@
 
 - Each link to a file leads to one, and each link to a section to a heading of its page.
 - No line has more than 120 columns, except for code.
-- VERDICTS.md and PROVED.md name the files of Python that an auditor of a `recheck` reads, each with its lines. None of
-  them has more than 250.
+- VERDICTS.md names the files of Python that an auditor of a `recheck` reads, each with its lines. None of them has more
+  than 270.
 - Each block of Rattle code in CALLING.md is a piece of a module of crates/aig_tests, the page names each module, and
   what it says that a program prints is a line of the crate's `stdout`.
 
---write breaks the lines of each paragraph anew that has a longer one, and counts the lines of those files. The script reads text and proves nothing."""
+--write breaks the lines of each paragraph anew that has a longer one, and counts the lines of those files. The script
+reads text and proves nothing."""
 
 import argparse
 import itertools
@@ -27,7 +28,7 @@ MARK = re.compile(r" *(?:-|\d+\.) ")
 # What an auditor of a `recheck` reads, the pages that say so, and the most lines that such a file may have.
 AUDITED = tuple(ROOT / "python" / "src" / "aig" / "verdicts" / name
                 for name in ("checked.py", "decisions.py", "sentences.py"))
-NAMES_AUDITED = ("docs/VERDICTS.md", "docs/PROVED.md")
+NAMES_AUDITED = ("docs/VERDICTS.md", )
 MOST_AUDITED = 270
 
 
@@ -187,8 +188,8 @@ def main():
         print(line)
     if not wrong:
         lines = sum(path.read_text(encoding="utf-8").count("\n") for path in paths if is_by_hand(path))
-        print(f"{len(paths)} pages: each link leads somewhere, and docs/CALLING.md is as the sources are; README and docs "
-              f"have {lines} lines by hand")
+        print(f"{len(paths)} pages: each link leads somewhere, and docs/CALLING.md is as the sources are; README and "
+              f"docs have {lines} lines by hand")
     return 1 if wrong else 0
 
 

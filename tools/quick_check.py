@@ -1,7 +1,7 @@
 #!/usr/bin/env python3
-"""Checks functions of a crate in a copy in which all crates below are taken as proved: no function of theirs has a body,
-and each has a hole for its proof. So it needs no library that `rt check` proved, and its first run takes minutes, where
-that of a high crate takes an hour; later runs take what changed from the copy.
+"""Checks functions of a crate in a copy in which all crates below are taken as proved: no function of theirs has a
+body, and each has a hole for its proof. So it needs no library that `rt check` proved, and its first run takes minutes,
+where that of a high crate takes an hour; later runs take what changed from the copy.
 
     tools/quick_check.py aig_shell --only session::Session::save --only files::keep
 
@@ -17,7 +17,9 @@ import subprocess
 import sys
 import tempfile
 
-from planted import ROOT, edits_of, take_as_proved, toolchain
+from judge.bugs import edits_of
+from judge.crates import ROOT, toolchain
+from judge.trials import take_as_proved
 
 # Functions that keep their bodies: those that a check makes itself, and those that it names by a type's arguments.
 WHOLE = ("Drop::drop", "FromAllocFailed::from")

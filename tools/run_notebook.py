@@ -15,7 +15,8 @@ def shown(source, names):
     body = ast.parse(source).body
     last = body.pop() if body and isinstance(body[-1], ast.Expr) else None
     exec(compile(ast.Module(body, []), "cell", "exec"), names)  # pylint: disable=exec-used
-    found = eval(compile(ast.Expression(last.value), "cell", "eval"), names) if last else None  # pylint: disable=eval-used
+    found = eval(compile(ast.Expression(last.value), "cell", "eval"),
+                 names) if last else None  # pylint: disable=eval-used
     if found is None:
         return None
     html = found._repr_html_() if hasattr(found, "_repr_html_") else None  # pylint: disable=protected-access

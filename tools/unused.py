@@ -1,9 +1,9 @@
 #!/usr/bin/env python3
 """Lists the lemmas that nothing uses: those that no answer, invariant, definition, contract or example reaches.
 
-A lemma is a name that a file of `proofs/` declares and defines. The script follows it by its name, in its own file and in
-the files that import it. Records, types and sets of rules of `proofs/` count as used. The lemmas of ROOTS are there for
-their own sake. The script reads text and proves nothing; it fails if there is an unused lemma."""
+A lemma is a name that a file of `proofs/` declares and defines. The script follows it by its name, in its own file and
+in the files that import it. Records, types and sets of rules of `proofs/` count as used. The lemmas of ROOTS are there
+for their own sake. The script reads text and proves nothing; it fails if there is an unused lemma."""
 
 import collections
 import re
@@ -42,8 +42,8 @@ def module_of(file):
 
 
 def imports_of(crate, text):
-    """Returns the modules that a text of a crate imports, each with the names that it takes: None if the module has a new
-    name. A tactic of a function names its lemmas in full."""
+    """Returns the modules that a text of a crate imports, each with the names that it takes: None if the module has a
+    new name. A tactic of a function names its lemmas in full."""
     found = collections.defaultdict(set)
     for module, name in re.findall(r"\bcrate::(proofs::[\w:]+)::([^\s:,)]+)", text):
         found[f"Rattle.{crate}.{module.replace('::', '.')}"].add(name)

@@ -137,13 +137,13 @@ private:
 // bad literals depend on.
 class Induction : Dimacs {
 public:
-    Induction(const Circuit& circuit, Output& out) : Dimacs(out), circuit(circuit) {
+    Induction(const Circuit& circuit, Output& out) : Dimacs(out), circuit(circuit), part(circuit, circuit.bad[0]) {
         uint64_t constraints = circuit.constraints.size(), guards = constraints > 0 ? constraints + 1 : 0;
-        uint64_t sources = 2 * uint64_t(circuit.inputs.size()) + circuit.latches.size();
-        if (sources + 2 * (circuit.gates.size() + guards) > 4194303) throw Refusal{"cnf: limit"};
+        uint64_t sources = 2 * uint64_t(part.inputs.size()) + part.latches.size();
+        if (sources + 2 * (part.gates.size() + guards) > 4194303) throw Refusal{"cnf: limit"};
         variables = uint32_t(sources);
-        gates = Array<Gate>(2 * (circuit.gates.size() + guards));
-        unroll(Levels(circuit).ordered_gates());
+        gates = Array<Gate>(2 * (part.gates.size() + guards));
+        unroll();
         find_cone();
     }
 
@@ -151,14 +151,15 @@ public:
     void write(uint32_t property, std::string_view name) {
         put_heading("--certificate ", property, name);
         put_comments();
-        uint32_t first = 2 * uint32_t(circuit.inputs.size()) + 1, resets = 0;
-        for (const Latch& latch : circuit.latches) resets += latch.reset != latch.lit;
+        uint32_t variable = 2 * uint32_t(part.inputs.size()), resets = 0;
+        for (uint32_t place : part.latches) resets += circuit.latches[place].reset != circuit.latches[place].lit;
         put_head(variables + 1, 2 + resets + 3 * cone);
         clause({1});
         clause({goals[0], goals[1]});
-        for (uint32_t place = 0; place < circuit.latches.size(); ++place) {
+        for (uint32_t place : part.latches) {
             const Latch& latch = circuit.latches[place];
-            if (latch.reset != latch.lit) clause({goals[0] ^ 1, 2 * (first + place) + (latch.reset == 0)});
+            ++variable;
+            if (latch.reset != latch.lit) clause({goals[0] ^ 1, 2 * variable + (latch.reset == 0)});
         }
         for (const Gate& gate : gates)
             if (wanted[gate.lhs >> 1]) put_gate(gate.lhs, gate.rhs0, gate.rhs1);
@@ -166,6 +167,7 @@ public:
 
 private:
     const Circuit& circuit;
+    Part part;
     uint32_t variables, goals[2], cone = 0;
     Array<Gate> gates;
     std::vector<uint8_t> wanted;
@@ -175,20 +177,21 @@ private:
         return 2 * variables;
     }
 
-    void unroll(const Array<Gate>& ordered) {
-        uint32_t width = uint32_t(circuit.inputs.size()), chain = 1;
+    void unroll() {
+        uint32_t width = uint32_t(part.inputs.size()), chain = 1;
         std::vector<uint32_t> now(circuit.max_var + 1, 0), states;
-        for (uint32_t place = 0; place < circuit.latches.size(); ++place) states.push_back(2 * (2 * width + place + 1));
+        for (uint32_t each = 0; each < part.latches.size(); ++each) states.push_back(2 * (2 * width + each + 1));
         auto at = [&](uint32_t literal) { return now[literal >> 1] ^ (literal & 1); };
         for (uint32_t frame = 0; frame < 2; ++frame) {
-            for (uint32_t place = 0; place < width; ++place)
-                now[circuit.inputs[place] >> 1] = 2 * (frame * width + place + 1);
-            for (uint32_t place = 0; place < states.size(); ++place) now[circuit.latches[place].lit >> 1] = states[place];
-            for (const Gate& gate : ordered) now[gate.lhs >> 1] = add(at(gate.rhs0), at(gate.rhs1));
+            for (uint32_t each = 0; each < width; ++each)
+                now[circuit.inputs[part.inputs[each]] >> 1] = 2 * (frame * width + each + 1);
+            for (uint32_t each = 0; each < states.size(); ++each)
+                now[circuit.latches[part.latches[each]].lit >> 1] = states[each];
+            for (const Gate& gate : part.gates) now[gate.lhs >> 1] = add(at(gate.rhs0), at(gate.rhs1));
             for (uint32_t constraint : circuit.constraints) chain = add(at(constraint), chain);
             goals[frame] = at(circuit.bad[0]);
             if (circuit.constraints.size() > 0) goals[frame] = add(goals[frame], chain);
-            for (uint32_t place = 0; place < states.size(); ++place) states[place] = at(circuit.latches[place].next);
+            for (uint32_t each = 0; each < states.size(); ++each) states[each] = at(circuit.latches[part.latches[each]].next);
         }
     }
 
@@ -207,10 +210,8 @@ private:
         Names names(circuit);
         uint32_t variable = 2;
         for (uint32_t frame = 0; frame < 2; ++frame)
-            for (uint32_t place = 0; place < names.of_inputs.size(); ++place)
-                put_input(variable++, frame, place, names.of_inputs[place]);
-        for (uint32_t place = 0; place < names.of_latches.size(); ++place)
-            put_latch(variable++, place, names.of_latches[place]);
+            for (uint32_t place : part.inputs) put_input(variable++, frame, place, names.of_inputs[place]);
+        for (uint32_t place : part.latches) put_latch(variable++, place, names.of_latches[place]);
         for (uint32_t frame = 0; frame < 2; ++frame) put_goal(goals[frame], frame);
     }
 };

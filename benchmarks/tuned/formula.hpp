@@ -1,9 +1,9 @@
 // The formula that a bad state is reached within some frames: its clauses, or in DIMACS with the comment lines of `aig
-// cnf`. It has the gates that the goals depend on.
+// cnf`. It is over the part of the circuit that the property reads, and has the gates that the goals depend on.
 #pragma once
 
-#include "checker.hpp"
 #include "circuit.hpp"
+#include "part.hpp"
 #include "writer.hpp"
 
 #include <initializer_list>
@@ -122,16 +122,11 @@ protected:
 class Formula : Dimacs {
 public:
     Formula(const Circuit& circuit, uint32_t frames, uint32_t property, Output& out)
-        : Dimacs(out), circuit(circuit), frames(frames), property(property) {
-        if (frames == 0) throw Refusal{"cnf: no frames"};
-        if (property >= circuit.bad.size()) throw Refusal{"cnf: property"};
+        : Dimacs(out), circuit(circuit), frames(frames), property(property), part(circuit, asked(circuit, frames, property)) {
         guarded = circuit.constraints.size() > 0;
-        for (const Latch& latch : circuit.latches) starts += latch.reset == latch.lit;
-        size = circuit.gates.size() + (guarded ? circuit.constraints.size() + circuit.bad.size() : 0);
-        uint64_t sections[] = {inputs() + frames * size, frames * uint64_t(circuit.outputs.size()),
-                               frames * uint64_t(circuit.bad.size())};
-        for (uint64_t section : sections)
-            if (frames > 65536 || section > 4194303) throw Refusal{"cnf: limit"};
+        for (uint32_t place : part.latches) starts += is_free(place);
+        size = part.gates.size() + (guarded ? circuit.constraints.size() + 1 : 0);
+        if (frames > 65536 || inputs() + frames * size > 4194303) throw Refusal{"cnf: limit"};
         unroll();
         find_cone();
     }
@@ -169,6 +164,7 @@ public:
 private:
     const Circuit& circuit;
     uint32_t frames, property;
+    Part part;
     bool guarded;
     uint64_t starts = 0, size;
     // The gates of all frames, which of their variables are wanted, and how many.
@@ -177,35 +173,38 @@ private:
     uint32_t cone = 0;
     std::vector<uint32_t> goals;
 
-    uint64_t inputs() const { return uint64_t(frames) * circuit.inputs.size() + starts; }
+    // The literal of the property, if there is such a formula.
+    static uint32_t asked(const Circuit& circuit, uint32_t frames, uint32_t property) {
+        if (frames == 0) throw Refusal{"cnf: no frames"};
+        if (property >= circuit.bad.size()) throw Refusal{"cnf: property"};
+        return circuit.bad[property];
+    }
+
+    bool is_free(uint32_t place) const { return circuit.latches[place].reset == circuit.latches[place].lit; }
+
+    uint64_t inputs() const { return uint64_t(frames) * part.inputs.size() + starts; }
 
     // The gates and the goal of each frame.
     void unroll() {
-        Array<Gate> ordered = Levels(circuit).ordered_gates();
         gates.reserve(frames * size);
         std::vector<uint32_t> now(circuit.max_var + 1, 0), states;
-        uint32_t start = uint32_t(frames * circuit.inputs.size()), next = uint32_t(inputs()), chain = 1;
-        for (const Latch& latch : circuit.latches) states.push_back(latch.reset == latch.lit ? 2 * ++start : latch.reset);
+        uint32_t width = uint32_t(part.inputs.size()), start = frames * width, next = uint32_t(inputs()), chain = 1;
+        for (uint32_t place : part.latches) states.push_back(is_free(place) ? 2 * ++start : circuit.latches[place].reset);
         auto at = [&](uint32_t literal) { return now[literal >> 1] ^ (literal & 1); };
         auto add = [&](uint32_t a, uint32_t b) {
             gates.push_back({2 * ++next, std::max(a, b), std::min(a, b)});
             return 2 * next;
         };
         for (uint32_t frame = 0; frame < frames; ++frame) {
-            for (uint32_t place = 0; place < circuit.inputs.size(); ++place)
-                now[circuit.inputs[place] >> 1] = 2 * uint32_t(frame * circuit.inputs.size() + place + 1);
-            for (uint32_t place = 0; place < states.size(); ++place) now[circuit.latches[place].lit >> 1] = states[place];
-            for (const Gate& gate : ordered) now[gate.lhs >> 1] = add(at(gate.rhs0), at(gate.rhs1));
-            if (guarded) {
-                for (uint32_t constraint : circuit.constraints) chain = add(at(constraint), chain);
-                for (uint32_t place = 0; place < circuit.bad.size(); ++place) {
-                    uint32_t guard = add(at(circuit.bad[place]), chain);
-                    if (place == property) goals.push_back(guard);
-                }
-            } else {
-                goals.push_back(at(circuit.bad[property]));
-            }
-            for (uint32_t place = 0; place < states.size(); ++place) states[place] = at(circuit.latches[place].next);
+            for (uint32_t each = 0; each < width; ++each)
+                now[circuit.inputs[part.inputs[each]] >> 1] = 2 * (frame * width + each + 1);
+            for (uint32_t each = 0; each < states.size(); ++each)
+                now[circuit.latches[part.latches[each]].lit >> 1] = states[each];
+            for (const Gate& gate : part.gates) now[gate.lhs >> 1] = add(at(gate.rhs0), at(gate.rhs1));
+            for (uint32_t constraint : circuit.constraints) chain = add(at(constraint), chain);
+            uint32_t bad = at(circuit.bad[property]);
+            goals.push_back(guarded ? add(bad, chain) : bad);
+            for (uint32_t each = 0; each < states.size(); ++each) states[each] = at(circuit.latches[part.latches[each]].next);
         }
     }
 
@@ -232,10 +231,8 @@ private:
         Names names(circuit);
         uint32_t variable = 2;
         for (uint32_t frame = 0; frame < frames; ++frame)
-            for (uint32_t place = 0; place < names.of_inputs.size(); ++place)
-                put_input(variable++, frame, place, names.of_inputs[place]);
-        for (uint32_t place = 0; place < names.of_latches.size(); ++place)
-            if (circuit.latches[place].reset == circuit.latches[place].lit)
-                put_latch(variable++, place, names.of_latches[place]);
+            for (uint32_t place : part.inputs) put_input(variable++, frame, place, names.of_inputs[place]);
+        for (uint32_t place : part.latches)
+            if (is_free(place)) put_latch(variable++, place, names.of_latches[place]);
     }
 };

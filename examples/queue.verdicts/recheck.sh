@@ -14,6 +14,18 @@ check() {
         wrong=1
     fi
 }
+# cut CUTS LINE WORD ..: the same of the circuit without what a file cuts
+cut() {
+    cuts=$1
+    line=$2
+    shift 2
+    if [ "$("$aig" cut --to aag --cuts "$cuts" circuit.aig | "$aig" "$@")" = "$line" ]; then
+        printf '%s: cut --cuts %s, %s\n' "$line" "$cuts" "$*"
+    else
+        printf 'WRONG: cut by %s, aig %s does not print "%s"\n' "$cuts" "$*" "$line" >&2
+        wrong=1
+    fi
+}
 # of FILE PROPERTY LINES: the witness has to be for this property, and of this length
 of() {
     if [ "$(sed -n 2p "$1")" != "$2" ] || [ "$(sed -n '$=' "$1")" != "$3" ]; then

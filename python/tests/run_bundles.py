@@ -10,7 +10,7 @@ PYTHON = Path(__file__).resolve().parent.parent
 sys.path[:0] = [str(PYTHON.parent / "tests"), str(PYTHON / "src"), str(PYTHON / "tests")]
 from bundles import (  # noqa: E402
     attacks, checking, comparing, cores, crashing, deciding, denying, dying, emptied, ends, equal, folding, hinted, judging,
-    late, lots, lying, many, remaking, replaying, reusing, searches, tampering, zips,
+    late, lots, lying, many, needed, remaking, replaying, reusing, searches, tampering, zips,
 )
 from library import runs  # noqa: E402
 
@@ -44,6 +44,8 @@ PARTS = {part.__name__.rstrip("_"): on_program(part) for part in (
     cores.needs, cores.unneeded, cores.afterwards, cores.minimal, cores.contradictions, cores.forged, cores.follows,
     cores.reading, cores.counting,
     cores.garbled, cores.since, cores.failing,
+    needed.runs_kept, needed.runs_forged, needed.runs_believed,
+    needed.drawn,
 )}
 
 if __name__ == "__main__":

@@ -37,11 +37,13 @@ class Design(NamedTuple):
     needs     of each row registers, and how many assumptions
     harmless  pieces of the source that no proof needs, each with what takes its place; all are replaced at once
     harmful   pieces that the proof of a row needs: with one of them replaced, it fails
+    is_redundant  whether each piece has another one in its place, so that no proof has to need it. Else every proof does
     """
 
     needs: Dict[str, Tuple[Sequence[str], int]]
     harmless: Sequence[Tuple[str, str]]
     harmful: Sequence[Tuple[str, str, str]] = ()
+    is_redundant: bool = False
 
 
 DESIGNS = {
@@ -56,7 +58,7 @@ DESIGNS = {
          ("in_reset: assume (!(req && rst));", ""), ("busy = 0", "busy = 1")],
         [("busy && !ack", "busy", "once"), ("was <= ack", "was <= busy", "once")]),
     "redundant": Design({"never": ((), 1)}, [("q <= a", "q <= !q"), ("q = 0", "q = 1")],
-                        [("assume (!a);", "assume (1);", ""), ("assume (!b);", "assume (1);", "")]),
+                        [("assume (!a);", "assume (1);", ""), ("assume (!b);", "assume (1);", "")], True),
     "vacuous": Design({ALL: ((), 2)}, [("other: assume (b);", ""), ("q <= b", "q <= !q")]),
     "chain": Design(
         {"follows": (("early", "late", "middle"), 0)}, [("noise <= b ^ late", "noise <= !noise"), ("noise = 0", "noise = 1")],
@@ -104,6 +106,12 @@ def wrong_needs(design, rows):
         needs = found.get(name)
         if needs is None or needs["registers"] != list(registers) or len(needs["assumptions"]) != count:
             yield f"{name}: wanted {registers} and {count} assumptions: {needs}"
+        elif not design.is_redundant:
+            every = needs.get("every_proof", {"registers": [], "assumptions": []})
+            if (every["registers"], every["assumptions"]) != (needs["registers"], needs["assumptions"]):
+                yield f"{name}: not needed by every proof: {needs}"
+        elif "every_proof" in needs:
+            yield f"{name}: one of two is enough: {needs}"
     bare = [row["name"] for row in rows if row.get("result") in ("holds", "never reached") and "needs" not in row]
     if bare:
         yield f"no needs of {bare}"
@@ -149,7 +157,7 @@ def check(name):
     design, text = DESIGNS[name], (HERE / "needs" / f"{name}.v").read_text()
     with tempfile.TemporaryDirectory() as room:
         folder = Path(room, "out")
-        status, _, said = called("run", HERE / "needs" / f"{name}.v", "--out", folder, "--cores", "--minimal", "--quiet",
+        status, _, said = called("run", HERE / "needs" / f"{name}.v", "--out", folder, "--cores", "--minimal", "--needed", "--quiet",
                                  "--jobs", "1", "--no-simulator", "--drat2lrat", built("drat2lrat"))
         if status not in (0, 4):
             return name, [f"status {status}: {said}"]

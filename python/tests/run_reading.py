@@ -1,15 +1,16 @@
 #!/usr/bin/env python3
 """What aig-verdicts rejects or changes of a source before Yosys makes a circuit of it, on small trees and texts, without
 Yosys: loops that Yosys counts in another way (`loops`), places where their variables have another value (`places`), comparisons that are wider than a bit (`comparisons`), and parts
-of signed variables in functions that get constants (`signed_parts`). run_probes.py compares circuits with a simulator."""
+of signed variables in functions that get constants (`signed_parts`); and the gates that it leaves of a circuit (`hashes`). run_probes.py compares circuits with a simulator."""
 
+import random
 import re
 import sys
 from pathlib import Path
 
 PYTHON = Path(__file__).resolve().parent.parent
 sys.path[:0] = [str(PYTHON / "src"), str(PYTHON.parent / "tests")]
-from aig.verdicts import comparisons, counted, evaluated, loops, registers, rtlil, tree  # noqa: E402
+from aig.verdicts import comparisons, counted, evaluated, hashed, loops, registers, rtlil, tree  # noqa: E402
 from aig.verdicts.scope import Scope  # noqa: E402
 from library import runs  # noqa: E402
 
@@ -210,7 +211,70 @@ def named_registers(_, tally, __):
         tally.compare(f"registers: {line}", registers.with_even_lines(line), wanted)
 
 
-PARTS = {"registers": named_registers, "loops": counts, "places": places, "comparisons": narrow, "signed_parts": signed_parts}
+INPUTS, GATES, CIRCUITS = 4, 24, 400
+
+
+def _circuit(dice):
+    """Gates over a few inputs, many of which are twice there, constant or simpler than they look."""
+    literals, gates = [0, *(2 * k for k in range(1, INPUTS + 1))], []
+    for k in range(GATES):
+        one, other = (dice.choice(literals[-9:] if dice.random() < 0.7 else literals) ^ dice.randrange(2) for _ in range(2))
+        gates.append((2 * (INPUTS + 1 + k), one, other))
+        literals.append(gates[-1][0])
+    return gates
+
+
+def _values(gates):
+    """The value of each positive literal, as a number with a bit for each value of the inputs."""
+    rows, every = range(1 << INPUTS), (1 << (1 << INPUTS)) - 1
+    values = {0: 0, **{2 * k: sum((it >> (k - 1) & 1) << it for it in rows) for k in range(1, INPUTS + 1)}}
+    for literal, one, other in gates:
+        values[literal] = _value(values, one, every) & _value(values, other, every)
+    return lambda literal: _value(values, literal, every)
+
+
+def _value(values, literal, every):
+    return values[literal & ~1] ^ (every if literal & 1 else 0)
+
+
+def hashes(_, tally, __):
+    """Gates keep their values for each value of the inputs, come after what they read, and none is twice there."""
+    dice, smaller = random.Random(1), 0
+    for k in range(CIRCUITS):
+        gates = _circuit(dice)
+        made, value = hashed.Hashed(gates), _values(gates)
+        roots = [it[0] ^ dice.randrange(2) for it in dice.sample(gates, 5)]
+        left = made.gates(made.read_by(roots, {}))
+        known, of_left = {0, *(2 * it for it in range(1, INPUTS + 1))}, _values(left)
+        for literal, one, other in left:
+            tally.check(f"hashed: {k}: order", {one & ~1, other & ~1} <= known)
+            known.add(literal)
+        tally.compare(f"hashed: {k}: values", [of_left(made.literal(it)) for it in roots], [value(it) for it in roots])
+        tally.compare(f"hashed: {k}: none twice", len({it[1:] for it in left}), len(left))
+        needed = {made.literal(it) & ~1 for it in roots} | {it & ~1 for gate in left for it in gate[1:]}
+        tally.check(f"hashed: {k}: none unread", all(it[0] in needed for it in left))
+        tally.check(f"hashed: {k}: none is constant", all(of_left(it[0]) != 0 or one != other ^ 1 for it in left for one, other in [it[1:]]))
+        smaller += len(left) < len(gates) // 2
+    tally.check("hashed: most become much smaller", smaller > CIRCUITS * 3 // 4, smaller)
+    for gates, root, wanted in RULES:
+        made = hashed.Hashed(gates)
+        tally.compare(f"hashed: {gates}", (made.literal(root), made.gates(made.read_by([root], {}))), wanted)
+    made = hashed.Hashed([(20, 2, 4), (22, 6, 8), (24, 10, 12)])
+    for root, wanted in ((20, {20, 2, 4, 22, 6, 8}), (23, {22, 6, 8, 4}), (10, {10, 20, 2, 4, 22, 6, 8}), (12, {12}), (0, {0})):
+        tally.compare(f"hashed: {root} through latches", made.read_by([root], {2: 23, 6: 5, 10: 21, 12: 13}), wanted)
+
+
+# Gates over the inputs 2, 4 and 6; a literal; what it becomes, and the gates that it needs.
+RULES = (
+    ([(8, 2, 0)], 8, (0, [])), ([(8, 1, 2)], 9, (3, [])), ([(8, 2, 2)], 8, (2, [])), ([(8, 3, 2)], 9, (1, [])),
+    ([(8, 4, 2), (10, 2, 4)], 11, (9, [(8, 2, 4)])), ([(8, 2, 4), (10, 8, 3)], 10, (0, [])), ([(8, 2, 4), (10, 4, 8)], 10, (8, [(8, 2, 4)])),
+    ([(8, 2, 4), (10, 9, 3)], 10, (3, [])), ([(8, 2, 4), (10, 9, 2)], 10, (10, [(10, 2, 5)])),
+    ([(8, 2, 4), (10, 3, 6), (12, 8, 10)], 12, (0, [])), ([(8, 2, 4), (10, 3, 6), (12, 8, 11)], 12, (8, [(8, 2, 4)])),
+    ([(8, 2, 4), (10, 2, 5), (12, 9, 11)], 12, (3, [])), ([(8, 2, 4), (10, 3, 5), (12, 9, 11)], 12, (12, [(8, 2, 4), (10, 3, 5), (12, 9, 11)])),
+)
+
+
+PARTS = {"hashes": hashes, "registers": named_registers, "loops": counts, "places": places, "comparisons": narrow, "signed_parts": signed_parts}
 
 if __name__ == "__main__":
     runs.main(__doc__, PARTS)

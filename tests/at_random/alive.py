@@ -1,6 +1,7 @@
-"""Whether some run of a small random circuit keeps all constraints (`aig cnf --alive`, `aig refute --alive`, `aig witness
---alive`, `aig check --alive`), beside a search of all runs: the formula is satisfied exactly where the run does, a proof
-of all cases is accepted exactly where no run does, and a run is written and checked exactly where it does."""
+"""Whether some run of a small random circuit keeps all constraints (`aig cnf --alive`, `aig refute --alive`, `aig
+witness --alive`, `aig check --alive`), beside a search of all runs: the formula is satisfied exactly where the run
+does, a proof of all cases is accepted exactly where no run does, and a run is written and checked exactly where it
+does."""
 
 import itertools
 
@@ -9,6 +10,7 @@ from at_random.formulas import MOST, Formula, names_of, run_of
 from at_random.replays import started
 from library.broken import circuit
 from library.families import propagated
+from library.part import part_of
 from library.reference import Parts, literal, values
 from library.runs import Ended, refused, write
 
@@ -45,21 +47,22 @@ def broken_at(text, parts, start, rows, frames):
     return "alive\n" if len(rows) >= frames else f"frames {len(rows)}\n"
 
 
-def runs(program, rng, text, parts, formula, frames, true):
+def runs(program, rng, case_of, true):
     """A model whole, and some of it: the run that it names, written and checked; then a run with other values."""
+    text, parts, formula, frames = case_of
     for literals in (true, [l for l in true if rng.randrange(4)]):
         named = set(literals)
 
         def value(variable):
             return "1" if variable in named else "0" if -variable in named else "x"
 
-        start = [value(formula.starts[p]) if p in formula.starts else str(latch[2]) for p, latch in enumerate(parts.latches)]
-        rows = [[value(formula.inputs[t, p]) for p in range(len(parts.inputs))] for t in range(frames)]
+        start, rows = run_of(formula, parts, frames, value)
         wanted = broken_at(text, parts, start, rows, frames)
         write("model", " ".join(map(str, [*literals, 0])) + "\n")
         got = program.run("witness", "--alive", "--model", "model", "--frames", str(frames), "circuit")
         lines = "".join("".join(row) + "\n" for row in [start, *rows])
-        if got != (Ended(0, f"1\nb0\n{lines}.\n".encode(), b"") if wanted == "alive\n" else refused("witness: no run", b"")):
+        if got != (Ended(0, f"1\nb0\n{lines}.\n".encode(), b"") if wanted == "alive\n" else refused("witness: no run",
+                                                                                                    b"")):
             raise Wrong(f"{got} of {literals}, wanted {wanted}")
         rows = [[rng.choice("01x") if rng.randrange(8) == 0 else v for v in row] for row in rows]
         start = [rng.choice("01x") if rng.randrange(8) == 0 else v for v in start]
@@ -89,7 +92,7 @@ def case(program, rng):
     write("circuit", text)
     ended = program.run("cnf", "--alive", "--frames", str(frames), "circuit")
     said = ended.out.decode()
-    lines = f"c aig cnf --alive --frames {frames} \n" + names_of(text, parts, frames)
+    lines = f"c aig cnf --alive --frames {frames} \n" + names_of(text, parts, part_of(parts, 1), frames)
     if (ended.status, ended.err) != (0, b"") or not said.startswith(lines + "c b "):
         raise Wrong(f"other lines: {ended}")
     formula = Formula(said)
@@ -100,7 +103,7 @@ def case(program, rng):
     alive = False
     for signs in itertools.product((1, -1), repeat=len(variables)):
         true = [sign * variable for sign, variable in zip(signs, variables)]
-        start, rows = run_of(formula, parts, frames, set(true))
+        start, rows = run_of(formula, parts, frames, lambda variable, named=set(true): "1" if variable in named else "0")
         wanted = kept_frames(text, parts, start, rows)
         known, is_false = propagated(gates, true)
         if is_false or [l in known for l in formula.goals] != wanted:
@@ -109,7 +112,7 @@ def case(program, rng):
             raise Wrong(f"satisfied or not at {true}, wanted {wanted[-1]}")
         alive = alive or wanted[-1]
         if rng.randrange(4) == 0:
-            runs(program, rng, text, parts, formula, frames, true)
+            runs(program, rng, (text, parts, formula, frames), true)
     write("proof", proof_of(variables))
     got = program.run("refute", "--alive", "--frames", str(frames), "circuit", "proof")
     if alive and (got.status != 1 or not got.err.startswith(b"aig: proof: ") or got.out):

@@ -1,8 +1,8 @@
-"""Random circuits and certificates. Those with names of any kind: `strengthen` and `cnf --certificate` write the bytes of
-library/certificate.py, or its fault, and the same if a mapping takes the place of the names. Small ones, right and wrong,
-beside a search of all states (library/all_states.py): `refute` takes a proof exactly where start and step keep the
-property, and then no run reaches it; else `witness` writes the run of the start or of the step that fails, and `check`
-shows the part."""
+"""Random circuits and certificates. Those with names of any kind: `strengthen` and `cnf --certificate` write the bytes
+of library/certificate.py, or its fault, and the same if a mapping takes the place of the names. Small ones, right and
+wrong, beside a search of all states (library/all_states.py): `refute` takes a proof exactly where start and step keep
+the property, and then no run reaches it; else `witness` writes the run of the start or of the step that fails, and
+`check` shows the part."""
 
 from at_random.cases import Wrong, each
 from at_random.waves import renamed
@@ -45,7 +45,8 @@ def named(rng, parts, model):
     chosen = rng.choice((0, 0, 1, 4))
     names = [(letter, place, name(old) if letter in b"il" and rng.randrange(4) < chosen else old)
              for letter, place, old in parts.names]
-    comment = rng.choice((None, None, b"", b"by hand", b"MAPPING 1\n2 2\n", b" MAPPING", any_mapping(rng, parts, defined)))
+    comment = rng.choice((None, None, b"", b"by hand", b"MAPPING 1\n2 2\n", b" MAPPING",
+                          any_mapping(rng, parts, defined)))
     return parts._replace(names=names, comment=comment)
 
 
@@ -57,7 +58,8 @@ def any_mapping(rng, parts, defined):
         chosen.append(rng.choice((0, *entries)))
     lines = [b"%d %d" % (own ^ rng.randrange(2), rng.choice(defined) ^ rng.randrange(2)) for own in chosen]
     if lines and rng.randrange(8) == 0:
-        lines[rng.randrange(len(lines))] = rng.choice((b"", b"2", b"2 x", b" 2 2", b"2 2 ", b"%d 2" % (2 * parts.most + 2)))
+        lines[rng.randrange(len(lines))] = rng.choice((b"", b"2", b"2 x", b" 2 2", b"2 2 ",
+                                                       b"%d 2" % (2 * parts.most + 2)))
     return b"".join(line + b"\n" for line in (b"MAPPING %d" % (len(lines) + (rng.randrange(12) == 0)), *lines))
 
 
@@ -172,7 +174,8 @@ def small_model(rng):
     for _ in range(rng.randrange(2, 9)):
         known.append(made.both(one(), one()))
     latches = [(state, one(), reset) for state, _, reset in made.parts.latches]
-    return made.parts._replace(latches=latches, bad=[one()], constraints=[one() for _ in range(rng.choice((0, 0, 1, 2)))])
+    return made.parts._replace(latches=latches, bad=[one()],
+                               constraints=[one() for _ in range(rng.choice((0, 0, 1, 2)))])
 
 
 def invariant(rng, model, states):
@@ -223,8 +226,8 @@ def going_along(rng, model, states):
 
 
 def remembering(rng, model, _):
-    """Latches of its own that keep the property and the states of the frame before: a certificate of an induction over two
-    frames. Its inputs are the model's latches and property by name."""
+    """Latches of its own that keep the property and the states of the frame before: a certificate of an induction over
+    two frames. Its inputs are the model's latches and property by name."""
     made = Builder()
     now = [made.input(b"= %d" % latch[0]) for latch in model.latches]
     bad = made.input(b"= %d" % model.bad[0])

@@ -1,7 +1,7 @@
-"""Formulas of small random circuits (`aig cnf`), beside those of all gates of the circuit that library/reference.py
-unrolls: each is the text without the gates that no bad literal depends on. Where cadical is installed, it gives both the
-same answer in each third case. A model of the smaller one is a run that `aig check` confirms, and `aig refute` takes a
-proof of it."""
+"""Formulas of small random circuits (`aig cnf`), beside library/part.py and library/reference.py: each is the text of the
+part that the property reads, unrolled, without the gates that no bad literal depends on. Where cadical is installed, it
+gives this formula and that of all gates of the whole circuit the same answer in each third case. A model of the smaller
+one is a run that `aig check` confirms, and `aig refute` takes a proof of it."""
 
 import shutil
 import subprocess
@@ -11,14 +11,46 @@ from at_random.formulas import heading_of, names_of
 from at_random.replays import circuit_to_check
 from library import supervised
 from library.certificate import signed
+from library.part import part_of
 from library.reference import Parts, unrolled
 from library.runs import Ended, write
 
 SATISFIABLE, UNSATISFIABLE = 10, 20  # cadical's statuses
 
 
+class Formula:
+    """The formula of a circuit that starts where a goal does: its variables, its bad literals and the gates."""
+
+    def __init__(self, goal, parts, frames, bad):
+        self.goal = goal
+        new = Parts(unrolled(parts, frames))
+        self.variables = new.maximum + 1
+        self.goals = [new.bad[frame * len(parts.bad) + bad] for frame in range(frames)]
+        self.gates = [(left, *sides) for left, sides in new.gates.items()]
+
+    def cone(self):
+        """The gates that the bad literals depend on."""
+        wanted = {literal & ~1 for literal in self.goals}
+        for left, *sides in reversed(self.gates):
+            if left in wanted:
+                wanted |= {side & ~1 for side in sides}
+        return [gate for gate in self.gates if gate[0] in wanted]
+
+    def text(self, gates):
+        """The formula with these gates."""
+        goals = [signed(literal) for literal in self.goals]
+        clauses = {"within": [goals], "step": [*([-goal] for goal in goals[:-1]), goals[-1:]],
+                   "alive": [goals[-1:]]}[self.goal]
+        clauses.insert(0, [-1])
+        for left, first, second in (map(signed, gate) for gate in gates):
+            clauses += [[-left, first], [-left, second], [left, -first, -second]]
+        lines = "".join(f"c b {goal} {frame}\n" for frame, goal in enumerate(goals))
+        lines += f"p cnf {self.variables} {len(clauses)}\n"
+        return lines + "".join(" ".join(map(str, [*clause, 0])) + "\n" for clause in clauses)
+
+
 class Asked:
-    """What is asked of a circuit, and how the formula of all gates begins."""
+    """What is asked of a circuit, the formula of the part that this reads, and that of the whole circuit."""
 
     def __init__(self, text, goal, frames, bad):
         self.goal, self.frames, self.bad = goal, frames, bad
@@ -35,30 +67,17 @@ class Asked:
             self.parts.bad, bad = [1], 0
             self.options = ["--alive", "--frames", str(frames)]
             self.heading = f"c aig cnf --alive --frames {frames} \n"
-        self.names = names_of(text, self.parts, frames)
-        new = Parts(unrolled(self.parts, frames))
-        self.variables = new.maximum + 1
-        self.goals = [new.bad[frame * len(self.parts.bad) + bad] for frame in range(frames)]
-        self.gates = [(left, *sides) for left, sides in new.gates.items()]
+        part = part_of(self.parts, self.parts.bad[bad])
+        self.names = names_of(text, self.parts, part, frames)
+        self.of_part, self.of_all = Formula(goal, part, frames, 0), Formula(goal, self.parts, frames, bad)
 
-    def cone(self):
-        """The gates that the bad literals depend on."""
-        wanted = {literal & ~1 for literal in self.goals}
-        for left, *sides in reversed(self.gates):
-            if left in wanted:
-                wanted |= {side & ~1 for side in sides}
-        return [gate for gate in self.gates if gate[0] in wanted]
+    def text(self):
+        """What `cnf` writes."""
+        return self.heading + self.names + self.of_part.text(self.of_part.cone())
 
-    def text(self, gates):
-        """The formula with these gates."""
-        goals = [signed(literal) for literal in self.goals]
-        clauses = {"within": [goals], "step": [*([-goal] for goal in goals[:-1]), goals[-1:]], "alive": [goals[-1:]]}[self.goal]
-        clauses.insert(0, [-1])
-        for left, first, second in (map(signed, gate) for gate in gates):
-            clauses += [[-left, first], [-left, second], [left, -first, -second]]
-        lines = "".join(f"c b {goal} {frame}\n" for frame, goal in enumerate(goals))
-        lines += f"p cnf {self.variables} {len(clauses)}\n"
-        return self.heading + self.names + lines + "".join(" ".join(map(str, [*clause, 0])) + "\n" for clause in clauses)
+    def whole(self):
+        """The formula of the whole circuit, with all gates."""
+        return self.of_all.text(self.of_all.gates)
 
 
 def answer(formula, proof):
@@ -109,19 +128,18 @@ def case(program, rng, has_solver):
     is_solved = rng.randrange(3) == 0 and has_solver
     answers, left_out = {}, 0
     for goal, it in asked.items():
-        cone = it.cone()
-        left_out += len(it.gates) - len(cone)
+        left_out += len(it.of_all.gates) - len(it.of_part.cone())
         got = program.run("cnf", *it.options, "circuit")
-        if got != Ended(0, it.text(cone).encode(), b""):
-            raise Wrong(f"{goal}: {got}, wanted {it.text(cone)}")
+        if got != Ended(0, it.text().encode(), b""):
+            raise Wrong(f"{goal}: {got}, wanted {it.text()}")
         if not is_solved:
             continue
         write("cone.cnf", got.out)
-        write("whole.cnf", it.text(it.gates))
+        write("whole.cnf", it.whole())
         answers[goal], model = answer("cone.cnf", f"{goal}.drat")
         whole, _ = answer("whole.cnf", "whole.drat")
         if answers[goal] != whole or whole not in (SATISFIABLE, UNSATISFIABLE):
-            raise Wrong(f"{goal}: cadical's status {answers[goal]}, and {whole} with all gates")
+            raise Wrong(f"{goal}: cadical's status {answers[goal]}, and {whole} for the whole circuit")
         if whole == SATISFIABLE:
             confirm(program, it, text, model)
     if is_solved:

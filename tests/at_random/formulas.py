@@ -3,11 +3,13 @@ the comment lines name, unit propagation gives the bad literals the values that 
 exactly where the run reaches the bad state. One satisfying assignment of each formula is a confirmed witness."""
 
 import itertools
+from typing import Any, NamedTuple
 
 from at_random.cases import Wrong, each
 from at_random.replays import circuit_to_check, started
 from library.dimacs import read_formula
 from library.families import propagated
+from library.part import part_of
 from library.reference import literal, values
 from library.runs import Ended, refused, write
 
@@ -42,22 +44,24 @@ def heading_of(text, frames, bad):
     return f"c aig cnf --frames {frames} --property {bad} {symbols_of(text, 'b').get(f'b{bad}', '')}\n"
 
 
-def names_of(text, parts, frames):
-    """The comment lines that name inputs and starts."""
+def names_of(text, parts, part, frames):
+    """The comment lines that name inputs and starts of a part, at their positions in the circuit."""
     symbols = symbols_of(text, "il")
-    free = [p for p, (lit, _, reset) in enumerate(parts.latches) if reset == lit]
-    width = len(parts.inputs)
-    lines = [f"c i {t * width + p + 2} {t} {p} {symbols.get(f'i{p}', '')}\n" for t in range(frames) for p in range(width)]
+    inputs = [p for p, lit in enumerate(parts.inputs) if lit in part.inputs]
+    free = [p for p, latch in enumerate(parts.latches) if latch in part.latches and latch[2] == latch[0]]
+    width = len(inputs)
+    lines = [f"c i {t * width + u + 2} {t} {p} {symbols.get(f'i{p}', '')}\n"
+             for t in range(frames) for u, p in enumerate(inputs)]
     return "".join(lines + [f"c l {frames * width + u + 2} {p} {symbols.get(f'l{p}', '')}\n" for u, p in enumerate(free)])
 
 
-def run_of(formula, parts, frames, true):
-    """The start and the rows that an assignment names."""
-    def value(variable):
-        return "1" if variable in true else "0"
-
-    start = [value(formula.starts[p]) if p in formula.starts else str(latch[2]) for p, latch in enumerate(parts.latches)]
-    return start, [[value(formula.inputs[t, p]) for p in range(len(parts.inputs))] for t in range(frames)]
+def run_of(formula, parts, frames, value):
+    """The start and the rows that the values of variables name: x at inputs that have no variable, and at latches that
+    have none the reset."""
+    start = [value(formula.starts[p]) if p in formula.starts else {0: "0", 1: "1"}.get(latch[2], "x")
+             for p, latch in enumerate(parts.latches)]
+    return start, [[value(formula.inputs[t, p]) if (t, p) in formula.inputs else "x" for p in range(len(parts.inputs))]
+                   for t in range(frames)]
 
 
 def bad_frames(text, parts, start, rows, bad):
@@ -69,8 +73,19 @@ def bad_frames(text, parts, start, rows, bad):
     return reached
 
 
-def models(program, rng, parts, text, formula, frames, bad, true, known):
+class Asked(NamedTuple):
+    """A circuit in text and in parts, a formula of it, and the frames and the property that it is about."""
+
+    text: str
+    parts: Any
+    formula: Formula
+    frames: int
+    bad: int
+
+
+def models(program, rng, asked, true, known):
     """A model whole, its inputs alone, and some of them: what `witness --model` writes, beside the run that it names."""
+    text, parts, formula, frames, bad = asked
     some = [l for l in true if rng.randrange(4)]
     for literals in (sorted(known, key=abs), true, some):
         named = set(literals)
@@ -78,8 +93,7 @@ def models(program, rng, parts, text, formula, frames, bad, true, known):
         def value(variable, named=named):
             return "1" if variable in named else "0" if -variable in named else "x"
 
-        start = [value(formula.starts[p]) if p in formula.starts else str(latch[2]) for p, latch in enumerate(parts.latches)]
-        rows = [[value(formula.inputs[t, p]) for p in range(len(parts.inputs))] for t in range(frames)]
+        start, rows = run_of(formula, parts, frames, value)
         reached = bad_frames(text, parts, start, rows, bad)
         wanted = refused("witness: no run")
         if any(reached):
@@ -111,7 +125,7 @@ def case(program, rng):
             raise Wrong(f"{ended} at a property that is not there")
         return "refused"
     said = ended.out.decode()
-    lines = heading_of(text, frames, bad) + names_of(text, parts, frames)
+    lines = heading_of(text, frames, bad) + names_of(text, parts, part_of(parts, parts.bad[bad]), frames)
     if (ended.status, ended.err) != (0, b"") or not said.startswith(lines + "c b "):
         raise Wrong(f"other lines: {ended}")
     formula = Formula(said)
@@ -123,7 +137,7 @@ def case(program, rng):
     satisfying = []
     for signs in itertools.product((1, -1), repeat=len(variables)):
         true = [sign * variable for sign, variable in zip(signs, variables)]
-        start, rows = run_of(formula, parts, frames, set(true))
+        start, rows = run_of(formula, parts, frames, lambda variable, named=set(true): "1" if variable in named else "0")
         wanted = bad_frames(text, parts, start, rows, bad)
         known, is_false = propagated(gates, true)
         got = [l in known for l in formula.goals]
@@ -141,7 +155,7 @@ def case(program, rng):
     if program.run("check", "circuit", "witness") != Ended(0, b"confirmed\n", b""):
         raise Wrong(f"the run of {model} is not confirmed")
     for true, known in rng.sample(satisfying, min(3, len(satisfying))):
-        models(program, rng, parts, text, formula, frames, bad, true, known)
+        models(program, rng, Asked(text, parts, formula, frames, bad), true, known)
     return "satisfiable"
 
 

@@ -133,8 +133,8 @@ class Runs:
             raise Wrong("nothing is said of a witness")
 
     def strengthens(self, work):
-        """A circuit that is strengthened is written in both formats. With no certificate it has the formula that the circuit
-        has with the certificate, but for the first line, which names the property."""
+        """A circuit that is strengthened is written in both formats. With no certificate it has the formula that the
+        circuit has with the certificate, but for the first line, which names the property."""
         status, text = self.run(work, "strengthen", "--to", "aag", "--certificate", "certificate", "circuit")
         told = contents("err")
         other, _ = self.run(work, "strengthen", "--to", "aig", "--certificate", "certificate", "circuit")
@@ -200,7 +200,8 @@ def case(runs, sources, designs, rng):
     runs.run(work, "witness", "circuit", "rows")
     write("witness", broken.changed(rng, broken.witness(rng, width, states), rows))
     runs.replays(work)
-    claims = re.sub(rb"(?m)^([il]\d+) .*", lambda at: at[1] + b" = %d" % rng.randrange(2 * inputs + 4), broken.circuit(rng))
+    claims = re.sub(rb"(?m)^([il]\d+) .*", lambda at: at[1] + b" = %d" % rng.randrange(2 * inputs + 4),
+                    broken.circuit(rng))
     certificate = broken.changed(rng, rng.choice((whole, claims, broken.circuit(rng))), other)
     write("certificate", certificate)
     runs.strengthens(work + len(certificate) + 5 * (most + broken.counts_of(certificate)[0]))

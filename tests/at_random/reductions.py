@@ -1,5 +1,5 @@
-"""Small random circuits and witnesses: `aig reduce` writes the witness that library/reduction.py makes, which `aig check`
-confirms, and of which no other value can be x; or the verdict that `aig check` prints."""
+"""Small random circuits and witnesses: `aig reduce` writes the witness that library/reduction.py makes, which `aig
+check` confirms, and of which no other value can be x; or the verdict that `aig check` prints."""
 
 from at_random.cases import Wrong, each
 from at_random.replays import circuit_to_check, start_of, started, verdict_of

@@ -1,5 +1,5 @@
-"""Random circuits with names, of which properties are selected: the file is that of library/selection.py to the byte, in
-both formats. Where a position is not there, nothing is written."""
+"""Random circuits with names, of which properties are selected: the file is that of library/selection.py to the byte,
+in both formats. Where a position is not there, nothing is written."""
 
 from at_random.cases import Wrong, each
 from at_random.waves import renamed

@@ -41,7 +41,8 @@ def table(first, rows):
         part = range(begin, min(begin + most, count))
         lines = [("frame", [str(first + place) for place in part])]
         lines += [(row, [texts[place] for place in part]) for row, texts in rows]
-        blocks.append("".join(f"{head:{name}}{''.join(f' {text:>{cell}}' for text in texts)}\n" for head, texts in lines))
+        blocks.append("".join(f"{head:{name}}{''.join(f' {text:>{cell}}' for text in texts)}\n" for head,
+                              texts in lines))
     return "\n".join(blocks)
 
 
@@ -181,7 +182,8 @@ class Session:
         """The text of that witness."""
         frame, place = self.reached(name)
         start = "".join(a for a, _ in self.starts())
-        return "".join(f"{line}\n" for line in ["1", f"b{place}", start, *map("".join, self.bench.rows[:frame + 1]), "."])
+        return "".join(f"{line}\n" for line in ["1", f"b{place}", start, *map("".join, self.bench.rows[:frame + 1]),
+                                                "."])
 
     def starts(self):
         """How each latch starts, and how its reset says, as letters."""
@@ -257,7 +259,8 @@ def lines_of(rng, parts, frames):
             "out": lambda: f"{name('o')} {word()}", "check": lambda: "",
             "names": lambda: rng.choice(("", "i", "l", "b1", "oo", "nix"))}
     for _ in range(rng.randrange(30)):
-        command = rng.choice(("show", "show", "set", "set", "start", "add", "drop", "gate", "new", "out", "check", "names"))
+        command = rng.choice(("show", "show", "set", "set", "start", "add", "drop", "gate", "new", "out", "check",
+                              "names"))
         yield f"{command} {made[command]()}"
 
 

@@ -1,6 +1,6 @@
-"""Makes bundles of some designs with this version of Yosys, or checks with it those that other versions made: `aig` confirms
-all rows, and then Yosys makes the same circuit or one that does the same, or the message says what differs and which
-version made each.
+"""Makes bundles of some designs with this version of Yosys, or checks with it those that other versions made: `aig`
+confirms all rows, and then Yosys makes the same circuit or one that does the same, or the message says what differs and
+which version made each.
 
 usage: exchanged.py make|check SUITE FOLDER"""
 
@@ -18,7 +18,8 @@ from designs.truth import DESIGNS  # noqa: E402
 from library import supervised  # noqa: E402
 
 # Of the designs with known truth, which have one clock, several, memories, types, conditions and cells without a body.
-CHOSEN = ("queue", "lamps", "unknown_memory", "async_fifo", "async_reset", "latches", "labels", "conditions", "assumptions",
+CHOSEN = ("queue", "lamps", "unknown_memory", "async_fifo", "async_reset", "latches", "labels", "conditions",
+          "assumptions",
           "past", "task_state", "box", "set_reset", "unsigned_address")
 # The circuit is compared, so a short search is enough.
 SHORT = ("--frames", "2", "--seconds", "5", "--abc", "", "--no-conditions", "--no-simulator", "--quiet", "--jobs", "2")
@@ -37,7 +38,8 @@ TAKEN = [*KINDS][:2]
 def called(*words):
     """The status of aig-verdicts, and what it prints."""
     settings = {**os.environ, "PYTHONPATH": str(REPOSITORY / "python/src")}
-    done = supervised.run([sys.executable, "-m", "aig.verdicts", *map(str, words)], env=settings, stdin=subprocess.DEVNULL,
+    done = supervised.run([sys.executable, "-m", "aig.verdicts", *map(str, words)], env=settings,
+                          stdin=subprocess.DEVNULL,
                           stdout=subprocess.PIPE, stderr=subprocess.STDOUT, text=True, timeout=600, check=False)
     return done.returncode, done.stdout
 

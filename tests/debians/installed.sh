@@ -19,7 +19,10 @@ wheel)
     named=/root/release/env/bin/aig path=/root/release/env/bin:
     ;;
 pipx)
-    typed=$(echo "$lines" | sed 's/python3-venv/pipx/; s/^python3 -m venv.*pip install \([^ ]*\).*/pipx install \1/')
+    # pipx fetches a newer pip first; Debian's own one will do where there is no way to PyPI
+    typed="export PIP_FIND_LINKS=/usr/share/python-wheels
+$(echo "$lines" | sed -n '/^apt/s/python3-venv/pipx/p')
+$(tr '\n' ' ' < "$pages/docs/FLOW.md" | grep -o 'pipx install [^`]*')"
     named=/root/.local/bin/aig path=/root/.local/bin:
     ;;
 esac

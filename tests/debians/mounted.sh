@@ -4,7 +4,7 @@
 root=$1 program=/mnt/$(basename "$4")
 mkdir -p "$root/aig" "$root/folder"
 mount --bind "$2" "$root/aig" && mount --bind "$3" "$root/folder" && mount --bind "$(dirname "$4")" "$root/mnt" &&
-    mount -t proc proc "$root/proc" || exit 1
+    mount -t proc proc "$root/proc" && mount -t devpts -o newinstance,ptmxmode=666 devpts "$root/dev/pts" || exit 1
 shift 4
 failed=0
 

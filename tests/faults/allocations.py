@@ -38,7 +38,7 @@ RUNS = (
     ("names", ["info", "--names", "sections"]),
     ("witness", ["witness", f"{EXAMPLES}/wraps.aag", f"{EXAMPLES}/wraps.stim"]),
     ("witness of a model", ["witness", "--model", "model", "--frames", "2", "guarded"]),
-    ("witness of a run", ["witness", "--alive", "--model", "model", "--frames", "2", "guarded"]),
+    ("witness of a run", ["witness", "--alive", "--model", "kept_model", "--frames", "2", "guarded"]),
     ("refute", ["refute", "--frames", "1", "never", "own"]),
     ("refute by a proof that deletes", ["refute", "--frames", "3", f"{EXAMPLES}/wraps.aag", f"{EXAMPLES}/wraps.drat"]),
     ("refute by a proof with hints", ["refute", "--frames", "1", "never", "hinted"]),
@@ -113,7 +113,8 @@ def unrolled(last):
 
 
 def replies_of(last):
-    return (taken(last) + BEHIND + unrolled(last), not_taken(last) + BEHIND + unrolled(last), taken(last) + BEHIND + "no 11\n")
+    return (taken(last) + BEHIND + unrolled(last), not_taken(last) + BEHIND + unrolled(last),
+            taken(last) + BEHIND + "no 11\n")
 
 
 # Gates that are appended. Whether the second one takes memory too is not said.
@@ -153,14 +154,16 @@ def allocations(program, tally, _):
     write_all()
     never_kept = NEVER.replace("7 1\n", "7 0 1\n")
     for name, text in (("never", NEVER), ("never_kept", never_kept), ("proof", "2 3 0\n2 0\n"), ("step", "4 0\n"),
-                       ("model", "-2 3 4 5 0\n"), ("named", NAMED), ("claims", CLAIMS), ("start", "-2 8 -9 10 0\n"),
+                       ("model", "-2 3 4 5 0\n"), ("kept_model", "2 3 0\n"), ("named", NAMED), ("claims", CLAIMS),
+                       ("start", "-2 8 9 0\n"),
                        ("no_claim", "aag 0 0 0 0 0\n"), ("never_proof", "-12 2 0\n-12 0\n4 0\n"),
-                       ("cuts", "f 4\nf 6\nr 4\nc 0\n"), ("own", text_of(OWN)), ("hinted", HINTED), ("long_hinted", LONG_HINTED)):
+                       ("cuts", "f 4\nf 6\nr 4\nc 0\n"), ("own", text_of(OWN)), ("hinted", HINTED),
+                       ("long_hinted", LONG_HINTED)):
         write(name, text)
     for name, words in RUNS:
         each(beneath, tally, name, words)
     for name, circuit, stimulus, script, wanted, others in SCRIPTS:
-        each_of(beneath, tally, name, wanted, others, files(circuit, stimulus, script))
+        each_of(beneath, tally, name, files(circuit, stimulus, script), (wanted, others))
     for name, circuit, stimulus, script, replies in WITHOUT_MEMORY:
         # A run without a script shows how many allocations come before its first line; all after them are refused.
         before = beneath.counted(*files(circuit, stimulus, ""), REFUSE=0)[1]
@@ -194,9 +197,10 @@ def each(beneath, tally, name, words):
         tally.check(f"allocations: {name}, {which}", is_told or ended == whole._replace(status=0, err=b""), ended)
 
 
-def each_of(beneath, tally, name, wanted, others, words):
+def each_of(beneath, tally, name, words, replies_of):
     """The same of a script, whose runs with status 0 write one of the wanted replies or of the others. Of the wanted
     ones each is to be written by some run."""
+    wanted, others = replies_of
     seen = set()
     for which, ended in refusals(beneath, words)[1]:
         is_taken = ended.status == 0 and ended.err == b"" and ended.out.decode() in (*wanted, *others)

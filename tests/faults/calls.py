@@ -3,6 +3,8 @@ files and of its results. A write may also take no byte. Each such run ends with
 failed. After a failed write exactly the bytes before it were written; before a failing read of a script or a
 stimulus all lines that were read are answered."""
 
+from typing import List, NamedTuple, Tuple
+
 from faults.refusing import Refusing
 from library.circuits import TEXTS, write_all
 from library.runs import Ended, input_or_output, write
@@ -48,10 +50,22 @@ $upscope $end
 $enddefinitions $end
 """
 
-# A run: its arguments, and its files in the order in which they are read, each with the part that the message names if
-# a read of it fails; those that no argument names come after them. Then come the part of a failed write, the status and the fault of the run where no call fails, and
-# its results in pieces. There is one for each line of the last file where that is streamed, and one for its end, else
-# one. Last comes what is written before a line is read.
+class Case(NamedTuple):
+    """A run: its arguments, and its files in the order in which they are read, each with the part that the message
+    names if a read of it fails; those that no argument names come after them. Then come the part of a failed write, the
+    status and the fault of the run where no call fails, and its results in pieces. There is one for each line of the
+    last file where that is streamed, and one for its end, else one. Last comes what is written before a line is
+    read."""
+
+    command: str
+    files: List[Tuple[str, bytes]]
+    write_part: str
+    status: int
+    fault: bytes
+    pieces: List[bytes]
+    header: bytes = b""
+
+
 RUNS = (
     ("bench", [("circuit", TWO_GATES), ("stimulus", b"11\n01\n"), ("script", b"v 0 8\ns 0 1 0\nv 0 8\n")],
      "script", 0, b"", [b"1\n", b"ok\n", b"0\n"]),
@@ -88,7 +102,8 @@ RUNS = (
      [b"aag 3 1 1 0 1 1 1\n2\n4 6 4\n6\n4\n6 4 2\ni0 in\nl0 state\nc\nhi\n"]),
     ("select --to aag --property 1", [("circuit", SECTIONS)], "output", 1, b"aig: select: property\n", [b""]),
     ("cut --to aag --cuts cuts", [("cuts", b"f 6\n"), ("circuit", ONE_GATE)], "output", 0, b"", [CUT]),
-    ("cut --to aag --cuts cuts", [("cuts", b"r 6\n"), ("circuit", ONE_GATE)], "output", 1, b"aig: cuts: line 1\n", [b""]),
+    ("cut --to aag --cuts cuts", [("cuts", b"r 6\n"), ("circuit", ONE_GATE)], "output", 1, b"aig: cuts: line 1\n",
+     [b""]),
     ("info --names", [("circuit", SECTIONS)], "output", 0, b"",
      [b"i 0 2 in\nl 0 4 state\no 0 6 \nb 0 6 \nc 0 4 \nj 0 - \nf 0 4 \n"]),
     ("info --names", [("circuit", CYCLE)], "output", 1, b"aig: circuit: cycle 2\n", [b""]),
@@ -97,7 +112,8 @@ RUNS = (
     ("reduce", [("circuit", BAD_INPUT), ("witness", b"1\nb0\n\n0\n1\n.\n")], "output", 0, b"", [b"1\nb0\n\nx\n1\n.\n"]),
     ("reduce", [("circuit", BAD_INPUT), ("witness", b"1\nb0\n\n0\n.\n")], "output", 1, b"", [b"not bad\n"]),
     ("why --of b0", [("circuit", BAD_INPUT), ("stimulus", b"1\n")], "output", 0, b"", [b"", b"b0=1 at 0: i0=1\n"]),
-    ("why --witness", [("circuit", BAD_INPUT), ("witness", b"1\nb0\n\n0\n1\n.\n")], "output", 0, b"", [b"b0=1 at 1: i0=1\n"]),
+    ("why --witness", [("circuit", BAD_INPUT), ("witness", b"1\nb0\n\n0\n1\n.\n")], "output", 0, b"",
+     [b"b0=1 at 1: i0=1\n"]),
     ("why --of b1", [("circuit", BAD_INPUT), ("stimulus", b"1\n")], "output", 1, b"aig: why: name\n", [b""]),
     ("check --trace", [("circuit", BAD_INPUT), ("witness", b"1\nb0\n\nx\n.\n")], "output",
      1, b"", [b" x  \nnot bad\n"]),
@@ -111,14 +127,16 @@ RUNS = (
      [STRENGTHENED]),
     ("strengthen --to aig --certificate certificate", [("circuit", KEPT), ("certificate", NO_SUCH)], "output",
      1, b"aig: certificate: symbol i0\n", [b""]),
-    ("strengthen --to aag --property 1 --certificate certificate", [("circuit", KEPT), ("certificate", CLAIM)], "output",
+    ("strengthen --to aag --property 1 --certificate certificate", [("circuit", KEPT), ("certificate", CLAIM)],
+     "output",
      1, b"aig: strengthen: property\n", [b""]),
     ("cnf --certificate certificate", [("circuit", KEPT), ("certificate", CLAIM)], "output", 0, b"", [INDUCTION]),
     ("cnf --certificate certificate", [("circuit", KEPT), ("certificate", CYCLE)], "output",
      1, b"aig: certificate: cycle 2\n", [b""]),
     ("refute --certificate certificate", [("circuit", KEPT), ("certificate", CLAIM), ("proof", b"2 0")], "output",
      0, b"", [b"unreachable\n"]),
-    ("refute --certificate certificate", [("circuit", KEPT), ("certificate", WRONG_CLAIM), ("proof", b"2 0\n")], "output",
+    ("refute --certificate certificate", [("circuit", KEPT), ("certificate", WRONG_CLAIM), ("proof", b"2 0\n")],
+     "output",
      1, b"aig: proof: step 1\n", [b""]),
     ("witness --certificate certificate --model model",
      [("circuit", KEPT), ("certificate", WRONG_CLAIM), ("model", b"-2 0\n")], "output", 0, b"", [b"1\nb0\n0\n\n.\n"]),
@@ -131,11 +149,12 @@ def calls(program, tally, _):
     beneath = Refusing(program, "refuse_call")
     write_all()
     for run in RUNS:
-        each(beneath, tally, *run)
+        each(beneath, tally, Case(*run))
 
 
-def answered(files, pieces, header, number):
+def answered(run, number):
     """Before the read of this number fails: the part of its file, and the results so far."""
+    files = run.files
     for part, content in files[:-1]:
         if number <= len(content) + 1:
             return part, b""
@@ -143,24 +162,25 @@ def answered(files, pieces, header, number):
     part, content = files[-1]
     is_streamed = part in ("script", "stimulus") and len(files) > 1
     lines = content[:number - 1].count(b"\n") if is_streamed else 0
-    return part, header + b"".join(pieces[:lines])
+    return part, run.header + b"".join(run.pieces[:lines])
 
 
-def each(beneath, tally, command, files, write_part, status, fault, pieces, header=b""):
+def each(beneath, tally, run):
     """The run with short reads and writes; then with each of its reads failing, and with each of its writes."""
+    command, files, write_part = run.command, run.files, run.write_part
     words = command.split(" ")
     words += [part for part, _ in files if part not in words]
     for part, content in files:
         write(part, content)
-    results = header + b"".join(pieces)
-    whole = Ended(status, results, fault)
+    results = run.header + b"".join(run.pieces)
+    whole = Ended(run.status, results, run.fault)
     got = beneath.counted(*words, STEP=1, CALL="write")
     tally.compare(f"calls: {command}, a byte written at a time", got, (whole, len(results)))
     got, reads = beneath.counted(*words, STEP=1, CALL="read")
     tally.compare(f"calls: {command}, a byte read at a time", got, whole)
     tally.check(f"calls: {command}, how many reads", reads >= len(files[0][1]), reads)
     for number in range(1, reads + 1):
-        wanted = input_or_output(*answered(files, pieces, header, number))
+        wanted = input_or_output(*answered(run, number))
         got = beneath.run(*words, STEP=1, CALL="read", REFUSE=number)
         tally.compare(f"calls: {command}, read {number} of {reads} fails", got, wanted)
     for number in range(1, len(results) + 1):

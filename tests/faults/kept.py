@@ -5,9 +5,11 @@ new one that is left makes the next run fail. A run that is killed while it wait
 stopped before each of their calls: a new file for a file that others may not read is never open to them."""
 
 import contextlib
+import dataclasses
 import os
 import signal
 import subprocess
+from typing import List, Optional, Sequence
 
 from faults.refusing import Refusing
 from library import supervised
@@ -23,13 +25,25 @@ NOT_BEGUN = input_or_output("output")
 USER, GROUP = 61001, 61002
 
 
+@dataclasses.dataclass(frozen=True, eq=False)
 class Case:
     """A run that writes files, the names of these, and what they hold before it (None: they are not there) and after
     it."""
 
-    def __init__(self, name, words, out, names, old, new):
-        self.name, self.words, self.names, self.old, self.new = name, words, names, old, new
-        self.done, self.failed = Ended(0, out, b""), input_or_output("output", out)
+    name: str
+    words: Sequence[str]
+    out: bytes
+    names: List[str]
+    old: List[Optional[bytes]]
+    new: List[bytes]
+
+    @property
+    def done(self):
+        return Ended(0, self.out, b"")
+
+    @property
+    def failed(self):
+        return input_or_output("output", self.out)
 
     def prepare(self):
         for name in new_files():
@@ -81,8 +95,8 @@ def kept(program, tally, _):
     beneath = Refusing(program, "refuse_call")
     for name in ("design", "rows"):
         os.symlink(name, f"{name}_link")
-    for case, call, most, early in CALLS:
-        fails(beneath, tally, case, call, most, early)
+    for calls in CALLS:
+        fails(beneath, tally, *calls[:2], calls[2:])
     opens(beneath, tally)
     looks(beneath, tally)
     closes(beneath, tally)
@@ -96,8 +110,9 @@ def kept(program, tally, _):
     stops(beneath, tally)
 
 
-def fails(beneath, tally, case, call, most, early):
-    """Each call of this name in turn."""
+def fails(beneath, tally, case, call, counts):
+    """Each call of this name in turn; so many there are, and so many of them come before the run's work."""
+    most, early = counts
     name = f"kept: {case.name}, {call}"
     case.prepare()
     tally.compare(f"{name}, how many", beneath.counted(*case.words, STEP=1, CALL=call), (case.done, most))
@@ -178,7 +193,7 @@ def owners(beneath, tally):
         tally.compare(f"kept: others' files, fchown {number} fails", (got, [shown(name) for name in OVER.names]),
                       (ended, owned))
         tally.compare(f"kept: others' files, fchown {number} fails, the files", OVER.left(),
-                      (OVER.new if ended is OVER.done else OVER.old, []))
+                      (OVER.new if ended == OVER.done else OVER.old, []))
     for number in range(1, calls_of(beneath, OVER) + 1):
         give()
         seen = []

@@ -1,6 +1,6 @@
-"""Runs under limits of memory (`ulimit -v`), from one at which the program begins up to one that is enough: each run ends
-as without a limit, or says that memory is missing. None ends by a signal: once memory is gone the stack cannot grow, so
-the program takes its stack before the work."""
+"""Runs under limits of memory (`ulimit -v`), from one at which the program begins up to one that is enough: each run
+ends as without a limit, or says that memory is missing. None ends by a signal: once memory is gone the stack cannot
+grow, so the program takes its stack before the work."""
 
 import contextlib
 import os

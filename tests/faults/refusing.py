@@ -10,7 +10,8 @@ from library.runs import TESTS, LeftOut, contents, write
 # The libraries, and the calls that each stands before.
 CALLS = {
     "refuse_allocation": ("malloc", ),
-    "refuse_call": ("open", "read", "write", "file", "fsync", "fchmod", "fchown", "statx", "realpath", "rename", "unlink",
+    "refuse_call": ("open", "read", "write", "file", "fsync", "fchmod", "fchown", "statx", "realpath", "rename",
+                    "unlink",
                     "close"),
 }
 

@@ -1,6 +1,6 @@
-"""A session of `aig shell` whose allocations and calls fail, each one in turn. A line that finds no memory answers so and
-does nothing; a file that cannot be written stays as it was, the answer says why, and the session goes on. A session is
-killed before each of its calls: each file has its old text or the whole new one."""
+"""A session of `aig shell` whose allocations and calls fail, each one in turn. A line that finds no memory answers so
+and does nothing; a file that cannot be written stays as it was, the answer says why, and the session goes on. A session
+is killed before each of its calls: each file has its old text or the whole new one."""
 
 import os
 import re

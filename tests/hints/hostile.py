@@ -132,7 +132,8 @@ def hostile(program, tally, _):
         name, found = family.__name__, {}
         for size in SIZES:
             found[size] = timed(program, tally, family, size)
-            tally.check(f"hostile: {name}, {size} MB: its time", found[size] <= MOST_SECONDS[size], f"{found[size]:.2f} s")
+            tally.check(f"hostile: {name}, {size} MB: its time", found[size] <= MOST_SECONDS[size],
+                        f"{found[size]:.2f} s")
         one, four = (found[size] for size in SIZES)
         shown = f"{one:.2f} and {four:.2f} s"
         tally.check(f"hostile: {name}: its growth", four <= GROWTH * one + SLACK, shown)

@@ -4,6 +4,7 @@ checker in C++ takes them too, also where no hint may give nothing. Of a random 
 wrong, as aig_tests does. Then come its messages and statuses."""
 
 import os
+from typing import List, NamedTuple, Sequence
 
 from hints.programs import built, proof_tests, ran
 from library.big_proofs import FOLDER, clauses_of
@@ -18,8 +19,19 @@ from steps.extended import STYLES
 
 # How many random formulas.
 RANDOM = 100
-# The goals of proofs that come with the examples: what the proof is, the arguments of `cnf` and `refute` beside it, and
-# arguments that make another formula.
+
+
+class Goal(NamedTuple):
+    """What a proof is, the arguments of `cnf` and `refute`, the files, and arguments that make another formula."""
+
+    name: str
+    options: List[str]
+    circuit: str
+    proof: str
+    others: Sequence[str] = ()
+
+
+# The goals of proofs that come with the examples.
 GOALS = (
     ("wraps", ["--frames", "3"], f"{EXAMPLES}/wraps.aag", f"{EXAMPLES}/wraps.drat", ["--frames", "4"]),
     ("ring", ["--certificate", f"{EXAMPLES}/ring.cert.aag"], f"{EXAMPLES}/ring.aag", f"{EXAMPLES}/ring.drat",
@@ -43,8 +55,9 @@ def both(tally, name, formula, proof):
     return made
 
 
-def of_circuit(rows, name, circuit, options, proof, others=None):
+def of_circuit(rows, goal):
     """A proof about a circuit."""
+    name, options, circuit, proof, others = goal
     formula = f"{name}.cnf"
     write(formula, rows.run("cnf", *options, circuit).out)
     told = rows.run("refute", *options, circuit, proof)
@@ -59,10 +72,10 @@ def of_circuit(rows, name, circuit, options, proof, others=None):
 def circuits(rows):
     write("never_kept_to", NEVER_KEPT_TO)
     write("never.drat", "2 0\n")
-    for name, options, circuit, proof, others in GOALS:
-        of_circuit(rows, name, circuit, options, proof, others)
+    for goal in GOALS:
+        of_circuit(rows, Goal(*goal))
     for name, file in (("parity", "parity.text"), ("parity", "parity.binary"), ("long", "long.binary")):
-        of_circuit(rows, name, f"{FOLDER}/{name}.aag", ["--frames", "1"], f"{FOLDER}/{file}.drat")
+        of_circuit(rows, Goal(name, ["--frames", "1"], f"{FOLDER}/{name}.aag", f"{FOLDER}/{file}.drat"))
     induction(rows)
 
 
@@ -120,8 +133,8 @@ def random_proofs(tally, checker, seed):
             variables, size, _ = map(int, sizes.split())
             end = end_of(wanted)
             counts[end if end == OPEN else end.split(" ")[0]] += 1
-            one(tally, checker, f"translated: seed {seed}, formula {number}, proof {place}", variables, data[:size],
-                data[size:], end)
+            one(tally, checker, f"translated: seed {seed}, formula {number}, proof {place}",
+                (variables, data[:size], data[size:]), end)
     tally.check("translated: proofs with each end", min(counts.values()) > 5, counts)
     return counts
 
@@ -132,7 +145,8 @@ def end_of(line):
     return f"step {marks.index(WRONG) + 1}" if WRONG in marks else end
 
 
-def one(tally, checker, name, variables, clauses, proof, end):
+def one(tally, checker, name, case_of, end):
+    variables, clauses, proof = case_of
     write("f.cnf", clauses)
     write("f.drat", proof)
     for words in ([], ["--trim"]):

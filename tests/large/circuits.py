@@ -4,8 +4,10 @@ in the plain reader's parts."""
 from library.plain_reader import Parts
 
 
-def random_circuit(rng, inputs, latches, gates, outputs, comment=None):
-    """Gates of the variables before them, in the order of a binary file; latches of inputs and latches before them."""
+def random_circuit(rng, counts, comment=None):
+    """So many inputs, latches, gates and outputs: gates of the variables before them, in the order of a binary file;
+    latches of inputs and latches before them."""
+    inputs, latches, gates, outputs = counts
     most = inputs + latches + gates
     states = []
     for variable in range(inputs + 1, inputs + latches + 1):

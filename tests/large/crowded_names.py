@@ -1,9 +1,9 @@
 """Files whose names stand at positions that were chosen to crowd in a hash table: in one with the toolchain's own hash
 and its fixed seed, and in one with this program's hash where no entry was mixed into its keys. A third file has other
-positions in no order, as far apart. A name of a crowding file takes at most eight times as long as one of the third, and
-each file is written back as it stands. The time of one file differs by up to three times between runs of this test; in a
-crowded table each name is sought among many others, so its time is meant to grow with the number of names. (Names that
-ascend, as in most files, need no table: their time is printed beside.)
+positions in no order, as far apart. A name of a crowding file takes at most eight times as long as one of the third,
+and each file is written back as it stands. The time of one file differs by up to three times between runs of this test;
+in a crowded table each name is sought among many others, so its time is meant to grow with the number of names. (Names
+that ascend, as in most files, need no table: their time is printed beside.)
 
 All are binary files of one header, M inputs and as many names (`--names`; 147,000, and 1,000,000 by hand). What such a
 file takes with one name is taken off, and the rest is shared among the names. Times are processor times; the files take

@@ -145,8 +145,6 @@ class Runs:
         words = ("cnf", "--frames", "1", "text")
         if self.shape is not properties:
             self.run("cnf", *words, status=1, said=b"aig: cnf: property\n", text=b"")
-        elif self.size == MANY:
-            self.run("cnf", *words, status=1, said=b"aig: cnf: limit\n", text=b"")
         else:
             self.run("cnf", *words)
 

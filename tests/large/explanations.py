@@ -16,7 +16,7 @@ MOST = 4.0  # times as long
 
 def explanations(program, tally, _):
     rng = random.Random(GATES)
-    parts = random_circuit(rng, INPUTS, LATCHES, GATES, 1)
+    parts = random_circuit(rng, (INPUTS, LATCHES, GATES, 1))
     names = [(b"l", at, b"state[%d]" % at) for at in range(LATCHES)]
     write("circuit", spelled(parts._replace(names=names), "aig"))
     write("rows", "".join(f"{''.join(rng.choices('01', k=INPUTS))}\n" for _ in range(FRAMES)))
@@ -24,7 +24,8 @@ def explanations(program, tally, _):
     values, _ = least(program, "bench", "circuit", "rows", "script")
     for name in ("o0", "state"):
         taken, ended = least(program, "why", "--of", name, "circuit", "rows")
-        tally.check(f"why: {name} of a million gates", ended.status == 0 and ended.out.startswith(b"%s=" % name.encode()),
+        tally.check(f"why: {name} of a million gates",
+                    ended.status == 0 and ended.out.startswith(b"%s=" % name.encode()),
                     ended)
         tally.check(f"why: {name} of a million gates: its time", taken <= MOST * values,
                     f"{taken:.2f} s; the values take {values:.2f} s")

@@ -12,7 +12,7 @@ from library.runs import EXAMPLES, EXPECTED, Ended, contents, write
 
 def large_files(program, tally, _):
     rng = random.Random(20071012)
-    gates = random_circuit(rng, 40, 30, 33000, 20)
+    gates = random_circuit(rng, (40, 30, 33000, 20))
     runs = Runs(program, tally)
     runs.both_ways("100 KB of gates", gates, 100_000)
     mixed = shuffled(rng, gates)
@@ -20,8 +20,8 @@ def large_files(program, tally, _):
     runs.same("shuffled, as it stands", spelled(mixed, "aag"), ["toaig", "--to", "aag", "mixed"])
     runs.same("shuffled, renumbered", spelled(in_order(mixed), "aig"), ["toaig", "--to", "aig", "mixed"])
     comment = rng.randbytes(5_000_000)
-    runs.both_ways("a comment of 5 MB", random_circuit(rng, 3, 2, 10, 2, comment), 5_000_000)
-    ends_with_a_block = random_circuit(rng, 3, 2, 10, 2, bytes(range(256)) * 80)
+    runs.both_ways("a comment of 5 MB", random_circuit(rng, (3, 2, 10, 2), comment), 5_000_000)
+    ends_with_a_block = random_circuit(rng, (3, 2, 10, 2), bytes(range(256)) * 80)
     runs.both_ways("a comment that ends with a block", ends_with_a_block, 20_000)
     falling_chain(runs)
     long_stimulus(runs, rng)
@@ -74,7 +74,7 @@ def falling_chain(runs):
 def long_stimulus(runs, rng):
     """A stimulus of 2 MB, in 65,536 frames of 31 inputs."""
     frames, inputs = 65536, 31
-    circuit = random_circuit(rng, inputs, 12, 60, 9)
+    circuit = random_circuit(rng, (inputs, 12, 60, 9))
     columns = []
     for _ in range(inputs):
         one, other = rng.getrandbits(frames), rng.getrandbits(frames) & rng.getrandbits(frames)

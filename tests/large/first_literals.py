@@ -33,12 +33,13 @@ def places_by_literal(clauses):
 
 
 def write_proofs(variables, clauses):
-    """Few clauses have the variables of the other literals. So little follows where they are false, and a step has to be
-    tried on its first literal."""
+    """Few clauses have the variables of the other literals. So little follows where they are false, and a step has to
+    be tried on its first literal."""
     of = places_by_literal(clauses)
-    first = min((sign * at for at in range(variables // 2, variables + 1) for sign in (1, -1)),
+    first = min((sign * at for at in range(variables // 2, variables + 1) for sign in (1, -1) if of[-sign * at]),
                 key=lambda literal: len(of[-literal]))
-    others = sorted(range(2, variables + 1), key=lambda at: len(of[at]) + len(of[-at]))[:OTHERS]
+    others = sorted((at for at in range(2, variables + 1) if at != abs(first)),
+                    key=lambda at: len(of[at]) + len(of[-at]))[:OTHERS]
     count = SIZE // len(f"{first} -{others[0]} -{others[1]} 0\n")
     steps = [f"{first} -{others[at % OTHERS]} -{others[(7 * at + 1) % OTHERS]} 0" for at in range(count)]
     gone = of[-first]

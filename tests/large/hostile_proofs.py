@@ -15,7 +15,7 @@ from library.times import processor_time
 TUNED = os.path.join(os.path.dirname(os.path.abspath(__file__)), "..", "..", "benchmarks", "tuned", "main.cpp")
 MASK = (1 << 64) - 1
 INPUTS = 400
-GATE = 2 * INPUTS + 2  # the variable of the gate's second frame in the formula of two frames
+GATE = 2 * INPUTS + 2  # the literal of the first gate, and its variable at frame 0 in the formula of two frames
 REPEATED = 40_000
 LITERALS = 128_000
 TURNS = 5
@@ -57,8 +57,10 @@ def write_chain(name, number_of, chains):
 
 
 def write_long(circuit, proof):
+    """The property is that the second input or the end of a chain of copies of the first one is 0."""
     gates = "".join(f"{2 * at} {2 * at - 2} {2 * at - 2}\n" for at in range(4, LITERALS + 3))
-    write(circuit, f"aag {LITERALS + 2} 2 0 0 {LITERALS} 1\n2\n4\n4\n6 2 2\n" + gates)
+    end = 2 * LITERALS + 6
+    write(circuit, f"aag {LITERALS + 3} 2 0 0 {LITERALS + 1} 1\n2\n4\n{end + 1}\n6 2 2\n{gates}{end} {end - 2} 4\n")
     last, middle = LITERALS + 3, 4 + LITERALS // 2 - LITERALS // 50
     each = range(5, last + 1)
     clause = " ".join(f"-{at}" for at in each) + " -4 2 0\n"
@@ -85,7 +87,9 @@ def hostile_proofs(program, tally, _):
         return Ended(ended.returncode, ended.stdout, ended.stderr)
 
     inputs = "".join(f"{2 * at + 2}\n" for at in range(INPUTS))
-    write("chain", f"aag {INPUTS + 1} {INPUTS} 0 0 1 1\n{inputs}{GATE}\n{GATE} 4 2\n")
+    gates = "".join(f"{GATE + 2 * at} {GATE + 2 * at - 2} {2 * at + 4}\n" for at in range(1, INPUTS - 1))
+    end = GATE + 2 * INPUTS - 4
+    write("chain", f"aag {end // 2} {INPUTS} 0 0 {INPUTS - 1} 1\n{inputs}{end}\n{GATE} 4 2\n{gates}")
     header = program.run("cnf", "--frames", "2", "chain").out.split(b"\np cnf ")[1].split()
     count = int(header[1]) + REPEATED
     write_chain("chain.aig", number_of_aig, count + count // 2)

@@ -1,5 +1,5 @@
-"""A proof that only deletes clauses which are not there, and names a new variable in each. `refute` keeps the names, in 240
-bytes each at most. If it looked for a name among all others, or kept more, the time or the memory would not do."""
+"""A proof that only deletes clauses which are not there, and names a new variable in each. `refute` keeps the names, in
+240 bytes each at most. If it looked for a name among all others, or kept more, the time or the memory would not do."""
 
 import resource
 

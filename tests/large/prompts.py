@@ -1,6 +1,7 @@
-"""Lines at the prompt and arguments that ask for many things at once: a value at 65,536 frames, the name that is nearest to
-a word among 100,000, 2,100 names of 100,000 in a line, and 16,000 properties by their names. If each frame of a line cost
-all later frames, or each name of a line or of the arguments a walk over all names, they would take minutes."""
+"""Lines at the prompt and arguments that ask for many things at once: a value at 65,536 frames, the name that is
+nearest to a word among 100,000, 2,100 names of 100,000 in a line, and 16,000 properties by their names. If each frame
+of a line cost all later frames, or each name of a line or of the arguments a walk over all names, they would take
+minutes."""
 
 import resource
 
@@ -31,8 +32,8 @@ def runs():
 
 
 def at_all_frames():
-    """A latch that flips where the input is 1, and another that flips where the first is 1: so each frame depends on all
-    before it. At frame t the first is t modulo 2, and the second is the half of t, rounded down, modulo 2."""
+    """A latch that flips where the input is 1, and another that flips where the first is 1: so each frame depends on
+    all before it. At frame t the first is t modulo 2, and the second is the half of t, rounded down, modulo 2."""
     write("circuit", "aag 9 1 2 1 6\n2\n4 15\n6 19\n6\n10 2 5\n12 3 4\n14 11 13\n8 4 7\n16 5 6\n18 9 17\n")
     write("rows", "0\n" * FRAMES)
     last = FRAMES - 1
@@ -51,7 +52,8 @@ def of_a_vector():
     gates, following = [], []
     top = latches[-1]
     for one, other in zip(inputs, latches):
-        gates += [f"{top + 2} {one} {other ^ 1}\n", f"{top + 4} {one ^ 1} {other}\n", f"{top + 6} {top + 3} {top + 5}\n"]
+        gates += [f"{top + 2} {one} {other ^ 1}\n", f"{top + 4} {one ^ 1} {other}\n",
+                  f"{top + 6} {top + 3} {top + 5}\n"]
         following.append(top + 7)
         top += 6
     head = f"aag {top // 2} {count} {count} 0 {len(gates)}\n"
@@ -87,7 +89,8 @@ def many_names():
           + "".join(f"i{at} {name}\n" for at, name in enumerate(names)))
     write("rows", "01" * (NAMES // 2) + "\n")
     many = range(300)
-    kinds = [(f"top.scalar_{39_999 - at:05}", (at + 1) % 2) for at in many] + [(f"vec{9_999 - at:05}", "a") for at in many]
+    kinds = [(f"top.scalar_{39_999 - at:05}", (at + 1) % 2) for at in many] + [(f"vec{9_999 - at:05}",
+                                                                                "a") for at in many]
     kinds += [(f"alias_{39_999 - at:05}", (at + 1) % 2) for at in many] + [(f"w{4_999 - at:05}", "a") for at in many]
     kinds += [(f"i{NAMES - 1 - at}", (at + 1) % 2) for at in many]
     kinds += [(literal, 0) for literal in gates] + [(f"!{literal}", 1) for literal in gates]

@@ -1,5 +1,5 @@
-"""Long witnesses whose values are needed, or some of them, for `aig reduce`. If each needed value cost all later frames,
-or each look all constraints of all later frames, they would take minutes."""
+"""Long witnesses whose values are needed, or some of them, for `aig reduce`. If each needed value cost all later
+frames, or each look all constraints of all later frames, they would take minutes."""
 
 import resource
 
@@ -21,8 +21,8 @@ def reductions(program, tally, _):
 
 
 def witnesses():
-    """The circuit, the given rows and the reduced ones, by name. Where a latch is uninitialised, then come what the latches
-    start at in the given witness and in the reduced one."""
+    """The circuit, the given rows and the reduced ones, by name. Where a latch is uninitialised, then come what the
+    latches start at in the given witness and in the reduced one."""
     yield "a watchdog of 9,000 frames", watchdog(16, 9000, 8)
     yield "65,536 frames, each with a constraint", (constrained(1), ["11"] * 65536, ["1x"] * 65536)
     yield "4,000 frames, each with 1,000 constraints", (constrained(1000), ["11"] * 4000, ["1x"] * 4000)
@@ -72,8 +72,8 @@ def constrained(count):
 
 
 def sparse(frames, period):
-    """A ring of latches, whose last one is 1 at one of so many frames. There the input has to be 1, by a constraint that
-    is a gate with one literal on both sides. No look back over the run shows that it needs one of them."""
+    """A ring of latches, whose last one is 1 at one of so many frames. There the input has to be 1, by a constraint
+    that is a gate with one literal on both sides. No look back over the run shows that it needs one of them."""
     ring = [4 + 2 * place for place in range(period)]
     gates = Gates(ring[-1] + 2)
     missing = gates.both(ring[-1], 3)
@@ -119,8 +119,8 @@ def all_either(literals, first):
 
 
 def on_two_ways(frames):
-    """At each frame the first input has to be 1, and one of two others. No look back over the run shows that it needs the
-    first one, since either of the gates that read it can be 0."""
+    """At each frame the first input has to be 1, and one of two others. No look back over the run shows that it needs
+    the first one, since either of the gates that read it can be 0."""
     circuit = "aag 8 3 1 0 4 1\n2\n4\n6\n8 16 1\n16\n10 2 4\n12 2 6\n14 11 13\n16 8 15\n"
     return circuit, ["111"] * frames, ["1x1"] * frames
 

@@ -1,9 +1,9 @@
-"""A large circuit of which a property reads one gate and one latch. Its formula for many frames takes little longer than
-that for one: what the property does not read is not made (`--unread` is how many gates it does not read; 100,000).
+"""A large circuit of which a property reads one gate and one latch. Its formula for many frames takes little longer
+than that for one: what the property does not read is not made (`--unread` is how many gates it does not read; 100,000).
 
-The latch is bad, and its next state is an AND of itself and the input. The other gates are a chain that begins there. The
-text is told here from the circuit, without the program. A time is processor time of a whole run; runs take turns, and of
-each the least counts."""
+The latch is bad, and its next state is an AND of itself and the input. The other gates are a chain that begins there.
+The text is told here from the circuit, without the program. A time is processor time of a whole run; runs take turns,
+and of each the least counts."""
 
 from library.certificate import signed
 from library.runs import Ended, write
@@ -14,9 +14,9 @@ TURNS = 5
 MOST = 2.0  # times as long
 
 
-def formula(frames, unread):
-    """The text for so many frames. The one gate that is read is the first of each frame."""
-    gates = [2 * (frames + frame * (unread + 1) + 1) for frame in range(frames)]
+def formula(frames):
+    """The text for so many frames. The property reads one gate of each."""
+    gates = [2 * (frames + frame + 1) for frame in range(frames)]
     states = [0, *gates[:-1]]
     clauses = [[-1], [signed(state) for state in states]]
     for frame in range(frames - 1):
@@ -27,7 +27,7 @@ def formula(frames, unread):
     lines = [f"c aig cnf --frames {frames} --property 0 \n"]
     lines += [f"c i {frame + 2} {frame} 0 \n" for frame in range(frames)]
     lines += [f"c b {signed(state)} {frame}\n" for frame, state in enumerate(states)]
-    lines.append(f"p cnf {frames + frames * (unread + 1) + 1} {len(clauses)}\n")
+    lines.append(f"p cnf {2 * frames + 1} {len(clauses)}\n")
     lines += [" ".join(map(str, clause)) + " 0\n" for clause in clauses]
     return "".join(lines).encode()
 
@@ -42,7 +42,7 @@ def unread_gates(program, tally, chosen):
         for frames in (1, FRAMES):
             seconds, ended = processor_time(
                 lambda: program.run("cnf", "--frames", str(frames), "--property", "0", "circuit"))
-            tally.compare(f"the formula of {frames} frames", ended, Ended(0, formula(frames, unread), b""))
+            tally.compare(f"the formula of {frames} frames", ended, Ended(0, formula(frames), b""))
             least[frames] = min(seconds, least.get(frames, seconds))
     told = f"{1e3 * least[1]:.0f} ms for one frame of {unread} gates, {1e3 * least[FRAMES]:.0f} ms for {FRAMES}; "
     tally.check("the time of a formula", least[FRAMES] <= MOST * least[1], told + f"more than {MOST:.0f} times as long")

@@ -1,6 +1,6 @@
-"""A run that `why` explains by a walk over many gates for each of its lines: 300 latches of 1,000 gates at 500 frames, in
-24 KB. The time is the product of the three; docs/PERFORMANCE.md says so. More than that, as a walk for each latch of each
-line, would take minutes."""
+"""A run that `why` explains by a walk over many gates for each of its lines: 300 latches of 1,000 gates at 500 frames,
+in 24 KB. The time is the product of the three; docs/PERFORMANCE.md says so. More than that, as a walk for each latch of
+each line, would take minutes."""
 
 import resource
 
@@ -22,8 +22,8 @@ def walks(program, tally, _):
 
 
 def circuit():
-    """The property is that all latches are 1. The first latch follows it, and each other one follows a chain of gates over
-    the input."""
+    """The property is that all latches are 1. The first latch follows it, and each other one follows a chain of gates
+    over the input."""
     latches = [4 + 2 * place for place in range(LATCHES)]
     gates = Gates(latches[-1] + 2)
     every = latches[0]

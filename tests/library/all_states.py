@@ -1,6 +1,9 @@
-"""An explicit search of all states of a small circuit, from the parts of a plain reader: what a start and a step break, and
-what a run reaches. Values are truth tables over all states and inputs. It shares nothing with the toolkit."""
+"""An explicit search of all states of a small circuit, from the parts of a plain reader: what a start and a step break,
+and what a run reaches. Values are truth tables over all states and inputs. It shares nothing with the toolkit."""
 
+import itertools
+
+from library.part import read_from
 from library.plain_reader import levels_of
 
 
@@ -51,8 +54,8 @@ class Table:
 
 
 def reaches(circuit, asked):
-    """Whether a run from a start that the resets allow reaches the property, with its constraints at each frame; and the
-    states of all such runs."""
+    """Whether a run from a start that the resets allow reaches the property, with its constraints at each frame; and
+    the states of all such runs."""
     table = Table(circuit)
     bad = table.of(circuit.bad[asked]) & table.allowed
     waiting = sorted({row >> table.width for row in table.bits(table.starts())})
@@ -84,15 +87,28 @@ def values_of(circuit, row):
     return "".join(bits[len(circuit.inputs):]), "".join(bits[:len(circuit.inputs)])
 
 
+def read_by(circuit):
+    """Which latches and which inputs the property reads."""
+    sides = {left: both for left, *both in circuit.gates}
+    read = read_from([circuit.bad[0], *circuit.constraints], circuit.latches, sides)
+    return [latch[0] in read for latch in circuit.latches], [literal in read for literal in circuit.inputs]
+
+
 def run_of(circuit, rows):
-    """The witness of a run over these rows."""
-    state, _ = values_of(circuit, rows[0])
-    return "\n".join(["1", "b0", state, *(values_of(circuit, row)[1] for row in rows), ".", ""]).encode()
+    """The witness of a run over these rows, with x at inputs that the property does not read. A latch that it does not
+    read starts by its reset."""
+    latches, inputs = read_by(circuit)
+    state = "".join(value if is_read else {0: "0", 1: "1"}.get(latch[2], "x")
+                    for value, is_read, latch in zip(values_of(circuit, rows[0])[0], latches, circuit.latches))
+    lines = ["".join(value if is_read else "x" for value, is_read in zip(values_of(circuit, row)[1], inputs)) for row in rows]
+    return "\n".join(["1", "b0", state, *lines, ".", ""]).encode()
 
 
 def model_of(circuit, rows):
     """What a solver prints of the assignment of a formula of two frames whose run has these rows."""
+    latches, inputs = read_by(circuit)
     state, first = values_of(circuit, rows[0])
     second = values_of(circuit, rows[-1])[1]
-    literals = [at if value == "1" else -at for at, value in enumerate(first + second + state, 2)]
+    values = itertools.compress(first + second + state, [*inputs, *inputs, *latches])
+    literals = [at if value == "1" else -at for at, value in enumerate(values, 2)]
     return "s SATISFIABLE\nv " + " ".join(map(str, [*literals, 0])) + "\n"

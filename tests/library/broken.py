@@ -8,8 +8,8 @@ LIMIT = 4194303
 # ---- files
 
 def circuit(rng):
-    """A small circuit in text with all sections. Of every third one all definitions are in ascending order, and its gates
-    may read greater variables."""
+    """A small circuit in text with all sections. Of every third one all definitions are in ascending order, and its
+    gates may read greater variables."""
     inputs, latches, gates = rng.randrange(5), rng.randrange(4), rng.randrange(12)
     most = inputs + latches + gates + rng.choice((0, 0, 1, 7))
     variables = rng.sample(range(1, most + 1), inputs + latches + gates)

@@ -1,9 +1,10 @@
-"""Why a literal of a run is what it is, in lines of text, by the values of a plain simulator. It shares nothing with the
-toolkit."""
+"""Why a literal of a run is what it is, in lines of text, by the values of a plain simulator. It shares nothing with
+the toolkit."""
 
 import collections
 import copy
 import re
+from typing import NamedTuple, Optional
 
 from library.reference import Parts, literal, values
 
@@ -19,7 +20,8 @@ class Names:
     """The names of a circuit's entries and vectors. An entry is a letter and a position."""
 
     def __init__(self, text, parts):
-        self.sections = {"i": parts.inputs, "l": [latch[0] for latch in parts.latches], "o": parts.outputs, "b": parts.bad,
+        self.sections = {"i": parts.inputs, "l": [latch[0] for latch in parts.latches], "o": parts.outputs,
+                         "b": parts.bad,
                          "c": parts.constraints}
         body = re.split(r"(?m)^c$", text)[0]
         self.words = {(letter, int(position)): [self.readable(word) for word in name.split(" ") if word]
@@ -152,8 +154,8 @@ class Run:
         return equal
 
     def causes(self, frame, weights, literals, named):
-        """The inputs and latches that these literals are explained by, with their values. Named ones are those of earlier
-        lines of the frame; they grow."""
+        """The inputs and latches that these literals are explained by, with their values. Named ones are those of
+        earlier lines of the frame; they grow."""
         now, found, seen = self.values[frame], {}, set()
 
         def is_met(side):
@@ -234,10 +236,19 @@ def resets_of(parts):
     return "".join({0: "0", 1: "1"}.get(reset, "x") for _, _, reset in parts.latches)
 
 
-def explained(text, start, rows, name, last, depth=None):
-    """The text of `aig why` about a circuit in text: the name as it was typed, or by default the name of a property."""
+class Asked(NamedTuple):
+    """What `aig why` is asked: a name as it was typed, or by default that of a property, a frame and a depth."""
+
+    name: str
+    last: int
+    depth: Optional[int] = None
+
+
+def explained(text, start, rows, asked):
+    """The text of `aig why` about a circuit in text."""
     parts = Parts(text)
     names = Names(text, parts)
-    literals = names.literals(name, parts)
+    literals = names.literals(asked.name, parts)
     run = Run(parts, start, rows)
-    return "".join(line + "\n" for line in Explanation(names, run).explain(name, literals, last, depth))
+    return "".join(line + "\n" for line in Explanation(names, run).explain(asked.name, literals, asked.last,
+                                                                           asked.depth))

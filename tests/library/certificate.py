@@ -1,9 +1,10 @@
-"""A model that is strengthened by a certificate, and the formula that its property is inductive, from the parts of a plain
-reader. It shares nothing with the toolkit."""
+"""A model that is strengthened by a certificate, and the formula that its property is inductive, from the parts of a
+plain reader. It shares nothing with the toolkit."""
 
 import re
 
 from library.families import searched
+from library.part import read_from
 from library.plain_reader import Fault, levels_of
 
 LIMIT = 4194303
@@ -146,10 +147,20 @@ def names_of(model, asked, certificate, shared):
 
 # ---- the formula
 
+def part_of(circuit):
+    """What the property of a strengthened circuit reads."""
+    sides = {left: both for left, *both in circuit.gates}
+    read = read_from([circuit.bad[0], *circuit.constraints], circuit.latches, sides)
+    return circuit._replace(
+        inputs=[literal for literal in circuit.inputs if literal in read], outputs=[],
+        latches=[latch for latch in circuit.latches if latch[0] in read],
+        gates=[gate for gate in circuit.gates if gate[0] in read])
+
+
 class TwoFrames:
-    """A circuit of two frames from any state, by the numbers of `aig unroll`: the inputs of both frames, the latches, and
-    the gates of each frame by level and variable. With constraints each frame has a chain of them, and a guarded
-    property."""
+    """A part of a circuit in two frames from any state, by the numbers of `aig unroll`: the inputs of both frames, the
+    latches, and the gates of each frame by level and variable. With constraints each frame has a chain of them, and a
+    guarded property."""
 
     def __init__(self, circuit):
         self.circuit, self.gates, self.goals = circuit, [], []
@@ -197,10 +208,10 @@ def signed(literal):
 
 def clauses_of(circuit):
     """How many variables the formula has, its two goals, and its clauses."""
-    made = TwoFrames(circuit)
+    made = TwoFrames(part_of(circuit))
     start, after = map(signed, made.goals)
     clauses = [[-1], [start, after]]
-    for at, (state, _, reset) in enumerate(circuit.latches):
+    for at, (state, _, reset) in enumerate(made.circuit.latches):
         variable = 2 * made.width + at + 2
         if reset != state:
             clauses.append([-start, variable if reset else -variable])
@@ -211,20 +222,22 @@ def clauses_of(circuit):
 
 
 def formula(circuit, position=0):
-    """The text of the formula of a circuit that was strengthened for the property at a position: an assignment satisfies it
-    where a start or a step breaks the property."""
+    """The text of the formula of a circuit that was strengthened for the property at a position: an assignment
+    satisfies it where a start or a step breaks the property."""
     variables, goals, clauses = clauses_of(circuit)
     names = {(letter, place): name for letter, place, name in circuit.names}
-    width = len(circuit.inputs)
+    part = part_of(circuit)
+    inputs = [place for place, literal in enumerate(circuit.inputs) if literal in part.inputs]
+    latches = [place for place, latch in enumerate(circuit.latches) if latch in part.latches]
+    width = len(inputs)
     lines = [b"c aig cnf --certificate --property %d " % position + names.get((b"o", 0), b"")]
-    lines += [b"c i %d %d %d " % (frame * width + place + 2, frame, place) + names.get((b"i", place), b"")
-             for frame in range(2) for place in range(width)]
-    lines += [b"c l %d %d " % (2 * width + place + 2, place) + names.get((b"l", place), b"")
-              for place in range(len(circuit.latches))]
+    lines += [b"c i %d %d %d " % (frame * width + at + 2, frame, place) + names.get((b"i", place), b"")
+             for frame in range(2) for at, place in enumerate(inputs)]
+    lines += [b"c l %d %d " % (2 * width + at + 2, place) + names.get((b"l", place), b"") for at, place in enumerate(latches)]
     lines += [b"c b %d %d" % (goal, frame) for frame, goal in enumerate(goals)]
     lines.append(b"p cnf %d %d" % (variables, len(clauses)))
     lines += [b" ".join(b"%d" % literal for literal in [*clause, 0]) for clause in clauses]
-    if 2 * width + len(circuit.latches) > LIMIT or variables - 1 > LIMIT:
+    if variables - 1 > LIMIT:
         raise Fault("cnf: limit")
     return b"".join(line + b"\n" for line in lines)
 

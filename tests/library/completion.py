@@ -1,6 +1,7 @@
-"""The completions for bash and zsh: the files completions/*.in, filled with what the help of the program and of aig-verdicts
-says."""
+"""The completions for bash and zsh: the files completions/*.in, filled with what the help of the program and of
+aig-verdicts says."""
 
+import argparse
 import re
 
 from library.helptext import commands, long_options
@@ -13,7 +14,8 @@ def shells(ask):
     overview, each = commands(ask)
     return {"aig.bash": filled("aig.bash", bash_tables(overview, each)),
             "_aig": filled("_aig", zsh_tables(overview, each)),
-            "aig-verdicts.bash": filled("aig-verdicts.bash", {"options": indented(verdicts_table(), 8)})}
+            "aig-verdicts.bash": filled("aig-verdicts.bash", {"options": indented(verdicts_table(), 8)}),
+            "_aig-verdicts": filled("_aig-verdicts", zsh_tables_of_verdicts())}
 
 
 def filled(name, tables):
@@ -64,6 +66,38 @@ def zsh_tables(overview, each):
             "cases": "\n".join(cases)}
 
 
+def zsh_tables_of_verdicts():
+    """The commands of aig-verdicts with their options and files."""
+    top, each, _ = arguments_of_verdicts()
+    about = {it.dest: it.help for action in top._actions if action.choices for it in action._choices_actions}
+    cases = []
+    for name, one in each.items():
+        specs = [zsh_argument(it) for it in one._actions]
+        cases.append(f"        {name})\n            _arguments \\\n{indented(specs, 16, ' ' + chr(92))}\n            ;;")
+    return {"commands": indented([quoted(f"{name}:{short(said)}") for name, said in about.items()], 8),
+            "general": indented([zsh_argument(it) for it in top._actions if it.option_strings], 12, " \\"),
+            "cases": "\n".join(cases)}
+
+
+# What completes the value of an option or an argument of aig-verdicts, by its name in the help.
+COMPLETED = {"FOLDER": "_files -/", "PROGRAM": "_command_names", **dict.fromkeys(("FILE", "LIST", "BUNDLE", "OLD", "NEW"), "_files")}
+
+
+def zsh_argument(action):
+    """What zsh's `_arguments` takes for an argument of aig-verdicts. An option that may be given again has a star."""
+    value = (action.metavar or "").replace(":", "\\:")
+    ending = f":{value}:{COMPLETED.get(value, '')}"
+    if not action.option_strings:
+        return f'"*:{value}:$designs"' if action.nargs == "*" else quoted(ending)
+    has_value, star = action.nargs != 0, "*" * isinstance(action, argparse._AppendAction)
+    said = f"[{first_words(action.help)}]{ending * has_value}".replace("`", "")
+    names = [f"{it}{'=' if it.startswith('--') else '+'}" if has_value else it for it in action.option_strings]
+    if len(names) == 1:
+        return quoted(f"{star}{names[0]}{said}")
+    others = star or f"({' '.join(action.option_strings)})"
+    return f"'{others}'{{{','.join(names)}}}{quoted(said)}"
+
+
 def zsh_option(option, said):
     """What zsh's `_arguments` takes for an option. One that may be given again has a star."""
     star = "*" if "once for each" in said else ""
@@ -82,9 +116,14 @@ def zsh_file(argument):
     return f'"{colon}{name}:$circuits"' if name == "CIRCUIT" else quoted(f"{colon}{name}:_files")
 
 
+def first_words(said):
+    """What a help says up to the first colon, semicolon or parenthesis."""
+    return re.split(r": |; | \(", said)[0]
+
+
 def short(said):
-    """What the help says of an option or a command, up to the first colon, semicolon or parenthesis."""
-    text = re.split(r": |; | \(", said)[0]
+    """The same, as it begins inside of a sentence."""
+    text = first_words(said)
     return text if text[:2].isupper() else text[:1].lower() + text[1:]
 
 

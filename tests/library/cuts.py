@@ -1,5 +1,5 @@
-"""The circuit in which the parts that a text names may be anything, and the rows of it that go with a run of the circuit,
-from the parts of a plain reader. It shares nothing with the toolkit."""
+"""The circuit in which the parts that a text names may be anything, and the rows of it that go with a run of the
+circuit, from the parts of a plain reader. It shares nothing with the toolkit."""
 
 import re
 
@@ -45,4 +45,5 @@ def cut(parts, text):
 def stands_for(parts, text):
     """The literals that the new inputs stand for in a run of the circuit."""
     free, _, _ = named(parts, text)
-    return [after for lit, after, _ in parts.latches if lit in free] + [gate[0] for gate in parts.gates if gate[0] in free]
+    return [after for lit, after,
+            _ in parts.latches if lit in free] + [gate[0] for gate in parts.gates if gate[0] in free]

@@ -1,6 +1,6 @@
-"""Right proofs with variables of their own, made here, whose steps are needed: names that differ in one bit, definitions
-of three literals and more, clauses of 100 literals, great first literals, and deletions of long clauses. A step is
-whether its clause is deleted, and the clause."""
+"""Right proofs with variables of their own, made here, whose steps are needed: names that differ in one bit,
+definitions of three literals and more, clauses of 100 literals, great first literals, and deletions of long clauses. A
+step is whether its clause is deleted, and the clause."""
 
 import random
 

@@ -1,5 +1,5 @@
-"""Runs of the program with what `aig-explain` says after them. The interpreter takes longer to start than most runs take,
-so this calls the function that explains, unless a run has streams, limits or a time of its own."""
+"""Runs of the program with what `aig-explain` says after them. The interpreter takes longer to start than most runs
+take, so this calls the function that explains, unless a run has streams, limits or a time of its own."""
 
 from __future__ import annotations
 

@@ -6,8 +6,8 @@ import random
 
 
 def pigeons(holes):
-    """One pigeon more than holes, and each hole takes one: the number of variables, the clauses, and the variable of each
-    pigeon and hole."""
+    """One pigeon more than holes, and each hole takes one: the number of variables, the clauses, and the variable of
+    each pigeon and hole."""
     at = {(i, j): i * holes + j + 1 for i in range(holes + 1) for j in range(holes)}
     clauses = [[at[i, j] for j in range(holes)] for i in range(holes + 1)]
     clauses += [[-at[i, j], -at[k, j]] for j in range(holes) for i in range(holes + 1) for k in range(i)]
@@ -30,8 +30,8 @@ def at_most_one(size, seed):
 
 
 def cook(holes):
-    """Cook's refutation of the pigeons. With a hole fewer, pigeon i is in hole j if it was there, or if it was in the last
-    hole and the last pigeon in j."""
+    """Cook's refutation of the pigeons. With a hole fewer, pigeon i is in hole j if it was there, or if it was in the
+    last hole and the last pigeon in j."""
     number, _, at = pigeons(holes)
     for last in range(holes - 1, 0, -1):
         made = {}
@@ -111,7 +111,8 @@ class Added:
         positive, negative = [[x, literal] for literal in literals], [[-x, *rest] for rest in rests]
         none = [-x, *(-literal for literal in literals)]
         between = self.style == "factor"
-        self.steps += [(False, clause) for clause in [*positive, *[none] * between, *negative]] + [(True, none)] * between
+        self.steps += [(False, clause) for clause in [*positive, *[none] * between, *negative]] + [(True,
+                                                                                                    none)] * between
         for literal in literals:
             for rest in rests:
                 self.drop((literal, *rest))

@@ -1,12 +1,13 @@
-"""A reader of the lines that `aig why --json` and `aig info --names --json` print, by Python's own reader of JSON. It shares
-nothing with the toolkit."""
+"""A reader of the lines that `aig why --json` and `aig info --names --json` print, by Python's own reader of JSON. It
+shares nothing with the toolkit."""
 
 import json
 
 from library.causes import number
 
 # The members of each kind of line, in their order.
-MEMBERS = {"asked": ["line", "frame", "name", "value", "by", "causes"], "latches": ["line", "frame", "signal", "by", "causes"],
+MEMBERS = {"asked": ["line", "frame", "name", "value", "by", "causes"],
+           "latches": ["line", "frame", "signal", "by", "causes"],
            "not explained": ["line", "frame", "latches"], "reset": ["line", "frame", "latches"],
            "start": ["line", "frame", "latches"]}
 SIGNAL = ["letter", "position", "name", "value"]

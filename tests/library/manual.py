@@ -1,5 +1,5 @@
-"""The manual pages, made from what the program's help says, from docs/BEHAVIOUR.md, docs/EXPLAIN.md and docs/FORMATS.md,
-and from the help of aig-verdicts."""
+"""The manual pages, made from what the program's help says, from docs/BEHAVIOUR.md, docs/EXPLAIN.md and
+docs/FORMATS.md, and from the help of aig-verdicts."""
 
 import os
 import re
@@ -62,7 +62,8 @@ def explain_page(version):
     """aig-explain(1): all of EXPLAIN.md."""
     text = document("EXPLAIN.md").split("\n", 1)[1]
     markdown = Markdown({"FORMATS.md": "\\fBaig\\-formats\\fP(5)", "BEHAVIOUR.md": "\\fBaig\\fP(1)"})
-    return finished(head("aig-explain", 1, version, "User Commands", "why a command of aig failed, where, and what to do")
+    return finished(head("aig-explain", 1, version, "User Commands",
+                         "why a command of aig failed, where, and what to do")
                     + ".SH SYNOPSIS\n.nf\naig-explain COMMAND ..\n.fi\n.SH DESCRIPTION\n" + markdown.page(text)
                     + ".SH SEE ALSO\n\\fBaig\\fP(1), \\fBaig\\-formats\\fP(5)\n")
 
@@ -136,7 +137,8 @@ def aig_page(ask, version):
     """aig(1): the help of each command, and sections of BEHAVIOUR.md."""
     overview, each = commands(ask)
     general = set(overview.options)
-    text = head("aig", 1, version, "User Commands", "verified AIGER toolkit that checks both verdicts of model checkers")
+    text = head("aig", 1, version, "User Commands",
+                "verified AIGER toolkit that checks both verdicts of model checkers")
     text += ".SH SYNOPSIS\n.nf\n" + "".join(lines(literal(one.usage)) for one in each.values()) + ".fi\n"
     text += f".SH DESCRIPTION\n{filled(prose(overview.about + '.'))}"
     for group, names in grouped(ask("--help")).items():

@@ -29,7 +29,8 @@ def read_model(text, variables):
                     ended = True
                     continue
                 begun = True
-                if not re.fullmatch("-?[1-9][0-9]*", word, re.ASCII) or abs(int(word)) > variables or -int(word) in named:
+                if not re.fullmatch("-?[1-9][0-9]*", word,
+                                    re.ASCII) or abs(int(word)) > variables or -int(word) in named:
                     return f"text at {place}"
                 named.add(int(word))
         offset += len(line) + 1

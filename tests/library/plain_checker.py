@@ -79,8 +79,8 @@ class Checker:
         return is_following
 
     def is_right_on_first(self, clause):
-        """Whether the clause is a resolution asymmetric tautology on its first literal: neither that nor its negation was
-        found to be true, and each clause that has the negation gives, without it and with this clause, one that
+        """Whether the clause is a resolution asymmetric tautology on its first literal: neither that nor its negation
+        was found to be true, and each clause that has the negation gives, without it and with this clause, one that
         follows."""
         if not clause or clause[0] in self.true or -clause[0] in self.true:
             return False

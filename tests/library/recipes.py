@@ -27,7 +27,7 @@ def shell(program, text):
 
 def make_witness(program, frames):
     """Makes `run.wit` of `row` and `old.aag`, for property 0 and so many frames; what the script says."""
-    return shell(program, script("{\n").replace("--frames 5", f"--frames {frames}"))
+    return shell(program, script("aig unroll --frames 5").replace("--frames 5", f"--frames {frames}"))
 
 
 def find_witness(program, abc, number):

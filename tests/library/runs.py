@@ -33,8 +33,8 @@ FIRST_FAILURE = "AIG_FIRST_FAILURE"
 
 
 class Ended(NamedTuple):
-    """How a run ended: its exit status, and the bytes on standard output and standard error. A run that was stopped has no
-    status."""
+    """How a run ended: its exit status, and the bytes on standard output and standard error. A run that was stopped has
+    no status."""
 
     status: Optional[int]
     out: bytes

@@ -10,6 +10,8 @@ import subprocess
 import threading
 from typing import Any, Iterator, Sequence
 
+# No program keeps anything for the next test: aig-verdicts keeps circuits where this says.
+os.environ["XDG_CACHE_HOME"] = "/dev/null"
 # How long a program may take, if nothing else is said.
 SECONDS = int(os.environ.get("AIG_TEST_SECONDS", "120"))
 # How long a script that runs several programs may take, which is a quarter of an hour.

@@ -16,8 +16,8 @@ SOURCE = f"{REPOSITORY}/python/src"
 
 
 def steps(document="README.md"):
-    """Yields the commands of a document, each with the output that it shows. A command goes on after a line that ends with
-    a backslash, and up to the line `END` of a text that it reads (`<< 'END'`)."""
+    """Yields the commands of a document, each with the output that it shows. A command goes on after a line that ends
+    with a backslash, and up to the line `END` of a text that it reads (`<< 'END'`)."""
     text = contents(f"{REPOSITORY}/{document}").decode()
     command = r".*<< 'END'\n(?:    .*\n)*?    END|(?:.*\\\n)*.*"
     for found in re.findall(rf"(?m)^    \$ ({command})\n((?:    (?!\$ ).*\n)*)", text):
@@ -25,8 +25,9 @@ def steps(document="README.md"):
 
 
 def take(program, examples, tally, prints=False):
-    """Runs the commands of README.md in a new folder `tour`, with these examples and with the program on the path. A folder
-    that `aig-verdicts run` makes is then checked again, from another folder and by the name that it has there."""
+    """Runs the commands of README.md in a new folder `tour`, with these examples and with the program on the path. A
+    folder that `aig-verdicts run` makes is then checked again, from another folder and by the name that it has
+    there."""
     room(program, examples, "tour")
     verdicts_on_path(program)
     for command, shown in steps():
@@ -41,11 +42,13 @@ def take(program, examples, tally, prints=False):
     for made in [name for name in os.listdir("tour") if name.endswith(".verdicts")]:
         os.rename(f"tour/{made}", "elsewhere/bundle")
         again = typed("elsewhere", "aig-verdicts recheck bundle")
-        tally.check("tour: the folder that it made", again.endswith("; all checked by aig; not compared with the sources\n"), again)
+        tally.check("tour: the folder that it made",
+                    again.endswith("; all checked by aig; not compared with the sources\n"), again)
 
 
 def as_shown(said):
-    """What was printed, as a document shows it: nothing is said of programs that are missing, and the solver writes DRAT."""
+    """What was printed, as a document shows it: nothing is said of programs that are missing, and the solver writes
+    DRAT."""
     said = re.sub(r"(?m)^aig-verdicts: there is no program .*\n|; not compared with a simulator", "", said)
     return said.replace(".lrat", ".drat")
 

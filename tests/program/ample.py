@@ -1,6 +1,6 @@
-"""Each command once, where there is memory enough. A contract allows a command to report that it is out of memory in place
-of any answer, so only a run shows that it does not. The circuits are an example and one of 40,000 gates. The commands
-are those of the help."""
+"""Each command once, where there is memory enough. A contract allows a command to report that it is out of memory in
+place of any answer, so only a run shows that it does not. The circuits are an example and one of 40,000 gates. The
+commands are those of the help."""
 
 import re
 
@@ -43,13 +43,14 @@ MORE = (
 
 
 def large(bad=None):
-    """A circuit that is bad from frame 3 on, as its last latch is 1 there, or where this literal is 1. A chain of gates makes
-    it large, which nothing reads but an output."""
+    """A circuit that is bad from frame 3 on, as its last latch is 1 there, or where this literal is 1. A chain of gates
+    makes it large, which nothing reads but an output."""
     inputs, latches = ([2 * at for at in range(first, end)] for first, end in ((1, WIDTH + 1), (WIDTH + 1, WIDTH + 4)))
     first = WIDTH + 4
     gates = [f"{2 * (first + at)} {2 * (first + at - 1)} {inputs[at % WIDTH] ^ (at & 1)}" for at in range(1, GATES)]
     lines = [f"aag {first + GATES - 1} {WIDTH} 3 1 {GATES} 1", *map(str, inputs), f"{latches[0]} 1",
-             f"{latches[1]} {latches[0]}", f"{latches[2]} {latches[1]}", str(2 * (first + GATES - 1)), str(latches[2] if bad is None else bad),
+             f"{latches[1]} {latches[0]}", f"{latches[2]} {latches[1]}", str(2 * (first + GATES - 1)),
+             str(latches[2] if bad is None else bad),
              f"{2 * first} {latches[2]} {inputs[0]}", *gates]
     return "".join(f"{line}\n" for line in lines)
 
@@ -66,8 +67,8 @@ def ample(program, tally, _):
     write("script", f"s 0 0 0\n+ {row}-\nt\ng 2 4\nu\n")
     write("proof", "")
     write("cuts", "".join(f"f {2 * at}\n" for at in range(WIDTH + 1, WIDTH + GATES)) + "r 402\n")
-    # A copy as the certificate, and a model in which the last latch is 1: all inputs of two frames come before the latches.
-    write("model", f"{2 * WIDTH + 4} 0\n")
+    # A copy as the certificate, and a model in which the last of three latches is 1: no input is read.
+    write("model", "4 0\n")
     write("never", large(bad=0))
     files = {"CIRCUIT": "large", "ROWS": "rows", "WITNESS": "witness", "SCRIPT": "script", "PROOF": "proof",
              "CERTIFICATE": "large", "CUTS": "cuts", "MODEL": "model", "NEVER": "never"}

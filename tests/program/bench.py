@@ -150,7 +150,8 @@ def ends_of_words(rows):
         rows.gives(f"a chain of {greatest} variables", "bench chain rows script",
                    f"{1 - greatest % 2}\nok\n{greatest % 2}\nok\nx\n", chain=falling_chain(greatest), rows="0\n",
                    script="v 0 2\ns 0 0 1\nv 0 2\n+ x\nv 1 2\n")
-    for greatest, gates in ((9, 7), (9, 8), (31, 7), (31, 8), (32, 15), (32, 16), (63, 15), (63, 16), (64, 23), (64, 24)):
+    for greatest, gates in ((9, 7), (9, 8), (31, 7), (31, 8), (32, 15), (32, 16), (63, 15), (63, 16), (64, 23),
+                            (64, 24)):
         others = "1" * (greatest - gates - 1)
         rows.gives(f"a chain of {gates} gates among {greatest} variables", "bench chain rows script",
                    f"{gates % 2}\nok\n{1 - gates % 2}\n{(others or '1')[-1]}\nok\nx\n{(others or 'x')[-1]}\n",

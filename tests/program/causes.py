@@ -3,8 +3,9 @@ what names of signals mean; and how values are spelled. Of two sides that are 0 
 they weigh the same, but the other one where that is known already."""
 
 import random
+from typing import NamedTuple
 
-from library.causes import Names, explained, resets_of
+from library.causes import Asked, Names, explained, resets_of
 from library.reference import Parts
 from library.runs import write
 from program.rows import Rows
@@ -23,7 +24,18 @@ BOTH = "aag 5 2 2 0 1/2/4/6 10/8 10/10 2 4/l0 a v[0]/l1 b v[1]/"
 WEIGHTS = "aag 11 4 2 0 4/2/4/8/10/6 20 1/22 20/14 2 4/16 15 6/18 8 10/20 19 16/"
 TWO_GATES = "aag 4 2 0 1 2/2/4/8/8 6 2/6 2 4/"
 
-# A name of the row, a circuit, a stimulus, what is asked at the last frame, and the text; / stands for LF.
+
+
+class Line(NamedTuple):
+    """A name of the row, a circuit, a stimulus, what is asked at the last frame, and the text; / stands for LF."""
+
+    name: str
+    circuit: str
+    stimulus: str
+    asked: str
+    text: str
+
+
 LINES = (
     ("the side that is 0", TWO_GATES, "10/", "8", "8=0 at 0: i1=0/"),
     ("both sides, which are x", TWO_GATES, "xx/", "9", "9=x at 0: i0=x i1=x/"),
@@ -81,23 +93,24 @@ def lines(text):
 
 def causes(program, tally, _):
     rows = Rows("causes", program, tally)
-    for name, circuit, stimulus, asked, text in LINES:
-        gives(rows, name, circuit, stimulus, asked, text)
+    for line in LINES:
+        gives(rows, Line(*line))
     meanings(rows, tally)
     for bits, value in VALUES:
         inputs = "".join(f"{2 * at}/" for at in range(1, len(bits) + 1))
         names = "".join(f"i{at} a[{at}]/" for at in range(len(bits))) if len(bits) > 1 else "i0 a/"
-        gives(rows, f"the value of {bits}", f"aag {len(bits)} {len(bits)} 0 0 0/{inputs}{names}", f"{bits}/", "a",
-              f"a={value} at 0: a={value}/")
+        gives(rows, Line(f"the value of {bits}", f"aag {len(bits)} {len(bits)} 0 0 0/{inputs}{names}", f"{bits}/", "a",
+                         f"a={value} at 0: a={value}/"))
     for circuit, stimulus, text in SOME_BITS:
-        gives(rows, f"some bits: {text}", circuit, stimulus, "o0", text)
+        gives(rows, Line(f"some bits: {text}", circuit, stimulus, "o0", text))
 
 
-def gives(rows, name, circuit, stimulus, asked, text):
+def gives(rows, row):
     """The text of a row, by the program and by the plain explainer."""
+    name, circuit, stimulus, asked, text = row
     circuit, run, parts = lines(circuit), stimulus.split("/")[:-1], Parts(lines(circuit))
     rows.tally.compare(f"causes: {name}, the plain explainer",
-                       explained(circuit, resets_of(parts), run, asked, len(run) - 1), lines(text))
+                       explained(circuit, resets_of(parts), run, Asked(asked, len(run) - 1)), lines(text))
     rows.gives(name, ["why", "--of", asked, "circuit", "rows"], lines(text), circuit=circuit.encode("latin-1"),
                rows=lines(stimulus))
 
@@ -116,6 +129,6 @@ def meanings(rows, tally):
             write("witness", "\n".join(["1", "b0", start, *run, "."]) + "\n")
             words = ["why", f"--of={name}", "--frame", "1", "--witness", "circuit", "witness"]
             if literals:
-                rows.gives(f"{name}, run {number}", words, explained(circuit, start, run, name, 1))
+                rows.gives(f"{name}, run {number}", words, explained(circuit, start, run, Asked(name, 1)))
             else:
                 rows.refuses(f"no name: {name!r}", words, "why: name")

@@ -4,12 +4,16 @@ from library.circuits import TEXTS, write_all
 from library.runs import write
 from program.rows import Rows
 
-# A free latch, and one that is not named; names with blanks.
+# A free latch, and one that is not named; names with blanks. The property reads the first input and the last two latches.
 STARTS = ("aag 6 2 4 0 0 1\n2\n4\n6 2 1\n8 4 8\n10 2\n12 10 12\n12\ni0 in\nl0 not free\nl3 free one\nb0 in\n")
 # A latch that starts at 0 and negates itself, as a bad literal.
 TOGGLES = "aag 1 0 1 0 0 1\n2 3\n2\n"
-# 64 inputs, one of which is bad.
-WIDE = "aag 64 64 0 0 0 1\n" + "".join(f"{2 * at}\n" for at in range(1, 65)) + "2\n"
+# 64 inputs, one of which is bad, and the same with all as constraints.
+INPUTS = "".join(f"{2 * at}\n" for at in range(1, 65))
+WIDE, WIDE_KEPT = f"aag 64 64 0 0 0 1\n{INPUTS}2\n", f"aag 64 64 0 0 0 1 64\n{INPUTS}2\n{INPUTS}"
+
+# Two inputs, of which the property reads the second.
+SECOND = "aag 2 2 0 0 0 1\n2\n4\n4\ni0 one\ni1 two\n"
 
 # A latch whose next state is the gate, so the gate of the last frame is read by nothing.
 LATER = "aag 3 1 1 0 1 1\n2\n4 6\n4\n6 4 2\n"
@@ -32,8 +36,7 @@ FORMULAS = (
      "c b -1 0\np cnf 1 2\n-1 0\n-1 0\n"),
     ("uninitialised latches, and names", "--frames 2 --property 0 starts", STARTS,
      "c aig cnf --frames 2 --property 0 in\n"
-     "c i 2 0 0 in\nc i 3 0 1 \nc i 4 1 0 in\nc i 5 1 1 \nc l 6 1 \nc l 7 3 free one\nc b 7 0\nc b 1 1\n"
-     "p cnf 7 2\n-1 0\n7 1 0\n"),
+     "c i 2 0 0 in\nc i 3 1 0 in\nc l 4 3 free one\nc b 4 0\nc b 1 1\np cnf 4 2\n-1 0\n4 1 0\n"),
     ("a constraint", "--frames 2 guarded", TEXTS["guarded"],
      "c aig cnf --frames 2 --property 0 \n"
      "c i 2 0 0 \nc i 3 0 1 \nc i 4 1 0 \nc i 5 1 1 \nc b 7 0\nc b 9 1\np cnf 9 14\n-1 0\n7 9 0\n"
@@ -41,7 +44,10 @@ FORMULAS = (
     ("a gate and an input that the property does not read", "--frames 1 outside",
      "aag 5 3 0 1 2 1\n2\n4\n6\n10\n8\n8 4 2\n10 8 6\n",
      "c aig cnf --frames 1 --property 0 \n"
-     "c i 2 0 0 \nc i 3 0 1 \nc i 4 0 2 \nc b 5 0\np cnf 6 5\n-1 0\n5 0\n-5 3 0\n-5 2 0\n5 -3 -2 0\n"),
+     "c i 2 0 0 \nc i 3 0 1 \nc b 4 0\np cnf 4 5\n-1 0\n4 0\n-4 3 0\n-4 2 0\n4 -3 -2 0\n"),
+    ("an input before those that are read", "--frames 2 second", SECOND,
+     "c aig cnf --frames 2 --property 0 \n"
+     "c i 2 0 1 two\nc i 3 1 1 two\nc b 2 0\nc b 3 1\np cnf 3 2\n-1 0\n2 3 0\n"),
     ("a gate that a later frame reads", "--frames 2 later", LATER,
      "c aig cnf --frames 2 --property 0 \n"
      "c i 2 0 0 \nc i 3 1 0 \nc b 1 0\nc b 4 1\np cnf 5 5\n-1 0\n1 4 0\n-4 2 0\n-4 1 0\n4 -2 -1 0\n"),
@@ -103,8 +109,7 @@ STEPS = (
      "c l 2 0 \nc b 2 0\nc b -2 1\nc b 2 2\np cnf 2 4\n-1 0\n-2 0\n2 0\n2 0\n"),
     ("a step of inputs, latches and names", "--step --frames 1 starts", STARTS,
      "c aig cnf --step --frames 1 --property 0 in\n"
-     "c i 2 0 0 in\nc i 3 0 1 \nc i 4 1 0 in\nc i 5 1 1 \nc l 6 0 not free\nc l 7 1 \nc l 8 2 \nc l 9 3 free one\n"
-     "c b 9 0\nc b 8 1\np cnf 9 3\n-1 0\n-9 0\n8 0\n"),
+     "c i 2 0 0 in\nc i 3 1 0 in\nc l 4 2 \nc l 5 3 free one\nc b 5 0\nc b 4 1\np cnf 5 3\n-1 0\n-5 0\n4 0\n"),
     ("a step with a constraint", "--step --frames 1 guarded", TEXTS["guarded"],
      "c aig cnf --step --frames 1 --property 0 \n"
      "c i 2 0 0 \nc i 3 0 1 \nc i 4 1 0 \nc i 5 1 1 \nc b 7 0\nc b 9 1\np cnf 9 15\n-1 0\n-7 0\n9 0\n"
@@ -115,8 +120,8 @@ STEPS = (
 ALIVE = (
     ("constraints and a bad state", "--alive --frames 2 guarded", TEXTS["guarded"],
      "c aig cnf --alive --frames 2 \n"
-     "c i 2 0 0 \nc i 3 0 1 \nc i 4 1 0 \nc i 5 1 1 \nc b 7 0\nc b 9 1\np cnf 9 14\n-1 0\n9 0\n"
-     "-6 3 0\n-6 -1 0\n6 -3 1 0\n-7 6 0\n-7 -1 0\n7 -6 1 0\n-8 6 0\n-8 5 0\n8 -6 -5 0\n-9 8 0\n-9 -1 0\n9 -8 1 0\n"),
+     "c i 2 0 1 \nc i 3 1 1 \nc b 5 0\nc b 7 1\np cnf 7 14\n-1 0\n7 0\n"
+     "-4 2 0\n-4 -1 0\n4 -2 1 0\n-5 4 0\n-5 -1 0\n5 -4 1 0\n-6 4 0\n-6 3 0\n6 -4 -3 0\n-7 6 0\n-7 -1 0\n7 -6 1 0\n"),
     ("constraints without a bad state", "--frames 1 --alive contradicts", "aag 1 1 0 0 0 0 2\n2\n2\n3\ni0 in\nc1 no\n",
      "c aig cnf --alive --frames 1 \n"
      "c i 2 0 0 in\nc b 5 0\np cnf 5 11\n-1 0\n5 0\n"
@@ -148,7 +153,7 @@ REFUSALS = (
     ("the greatest position", "--frames 1 --property 4294967295 guarded", "cnf: property"),
     ("more frames than there may be", "--frames 65537 bad_input", "cnf: limit"),
     ("the greatest number of frames", "--frames 4294967295 bad_input", "cnf: limit"),
-    ("a variable over its limit", "--frames 65536 wide_bad", "cnf: limit"),
+    ("a variable over its limit", "--frames 65536 wide_kept", "cnf: limit"),
     ("justice and fairness before a limit", "--frames 65537 sections", "cnf: limit"),
     ("a refused circuit", "--frames 2 cycle", "circuit: cycle 2"),
     ("a refused circuit before no frames", "--frames 0 --property 7 cycle", "circuit: cycle 2"),
@@ -159,6 +164,7 @@ def cnf(program, tally, _):
     rows = Rows("cnf", program, tally)
     write_all()
     write("wide_bad", WIDE)
+    write("wide_kept", WIDE_KEPT)
     write("eleven", ELEVEN)
     for name, words, circuit, text in FORMULAS:
         write(words.split(" ")[-1], circuit)
@@ -195,9 +201,10 @@ def binary(rows):
 
 
 def many_frames(rows):
-    """The greatest number of frames, in many blocks."""
+    """The greatest number of frames, in many blocks, also where the property reads one of many inputs."""
     frames = range(65536)
     text = "c aig cnf --frames 65536 --property 0 \n"
     text += "".join(f"c i {at + 2} {at} 0 \n" for at in frames) + "".join(f"c b {at + 2} {at}\n" for at in frames)
     text += "p cnf 65537 2\n-1 0\n" + "".join(f"{at + 2} " for at in frames) + "0\n"
-    rows.gives("the greatest number of frames", "cnf --frames 65536 bad_input", text)
+    for name in ("bad_input", "wide_bad"):
+        rows.gives(f"the greatest number of frames, {name}", f"cnf --frames 65536 {name}", text)

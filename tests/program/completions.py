@@ -89,7 +89,7 @@ OF_VERDICTS = (
     (["rec"], ["recheck"]),
     (["a"], []),
     (["recheck", "--j"], ["--jobs", "--json", "--junit"]),
-    (["run", "a.aag", "--fr"], ["--frames", "--free"]),
+    (["run", "a.aag", "--fr"], ["--frames", "--free", "--fresh"]),
     (["run", "a"], []),
     (["demo", "--"], ["--help"]),
     (["other", "--"], []),
@@ -114,6 +114,12 @@ TYPED = (
     ("aig info $PWD/no", ["info", "{here}/notes"]),
     ("aig unroll --frames no", ["unroll", "--frames", "no"]),
     ("aig unroll --frames=no", ["unroll", "--frames=no"]),
+    ("aig-verdicts rec", ["recheck"]),
+    ("aig-verdicts run --fram", ["run", "--frames"]),
+    ("aig-verdicts run b", ["run", "b.aig"]),
+    ("aig-verdicts run no", ["run", "notes"]),
+    ("aig-verdicts recheck --jun", ["recheck", "--junit"]),
+    ("aig-verdicts run --top=a w", ["run", "--top=a", "with space.aag"]),
 )
 
 # The same, where each tab brings the next of what fits.
@@ -126,7 +132,7 @@ IN_TURN = (
 )
 
 SHELLS = {
-    "bash": (["bash", "--norc", "--noprofile", "-i"], f"source '{FOLDER}/aig.bash'\n", "bind 'TAB: menu-complete'\n"),
+    "bash": (["bash", "--norc", "--noprofile", "-i"], f"source '{FOLDER}/aig.bash'; source '{FOLDER}/aig-verdicts.bash'\n", "bind 'TAB: menu-complete'\n"),
     "zsh": (["zsh", "-f", "-i"], f"fpath=('{FOLDER}' $fpath); autoload -Uz compinit; compinit -u -D\n",
             "setopt menu_complete\n"),
 }
@@ -181,13 +187,14 @@ def replies(words, breaks, name="aig", function="_aig"):
     script = """source "$1"; COMP_WORDBREAKS=$2 name=$3 function=$4; shift 4
 COMP_WORDS=("$name" "$@"); COMP_CWORD=$#; COMP_LINE="${COMP_WORDS[*]}"; COMP_POINT=${#COMP_LINE}
 "$function" "$name" "${COMP_WORDS[-1]}" "${COMP_WORDS[-2]}"; ((${#COMPREPLY[@]})) && printf '%s\\n' "${COMPREPLY[@]}" """
-    done = supervised.run(["bash", "--norc", "-c", script, "bash", f"{FOLDER}/{name}.bash", breaks, name, function, *words],
+    done = supervised.run(["bash", "--norc", "-c", script, "bash", f"{FOLDER}/{name}.bash", breaks, name, function,
+                           *words],
                           stdin=subprocess.DEVNULL, capture_output=True, text=True, check=False)
     return sorted(set(done.stdout.splitlines())) if not done.stderr else done.stderr
 
 
 class Shell:
-    """A shell on a terminal, in which `aig` is a function that prints its arguments."""
+    """A shell on a terminal, in which `aig` and `aig-verdicts` are functions that print their arguments."""
 
     def __init__(self, command, setup):
         self.command, self.setup = command, setup
@@ -197,7 +204,8 @@ class Shell:
         if self.child == 0:
             os.environ.update(TERM="dumb", PS1="", INPUTRC="/dev/null", HISTFILE="", LC_ALL="C", ZDOTDIR="/nonexistent")
             os.execvp(self.command[0], self.command)
-        self.talk(self.setup + "PS1=; PROMPT=; RPS1=\naig() { printf '<%s>' \"$@\"; echo '<'E'ND>'; }\naig ready\n")
+        self.talk(self.setup + "PS1=; PROMPT=; RPS1=\naig() { printf '<%s>' \"$@\"; echo '<'E'ND>'; }\n"
+                  "aig-verdicts() { aig \"$@\"; }\naig ready\n")
         return self
 
     def __exit__(self, *_):

@@ -26,7 +26,8 @@ CUTS = (
     ("the first and the last constraint", "c 2\nc 0\n", HEAD + LATCHES + "9\n10\n0\n1\n8\n1\n1\n17\n" + GATES + ENDS),
     ("latches before gates, in their order", "f 10\nf 12\nf 16\nf 6\n", "aag 13 6 3 1 3 2 3 1\n2\n14\n20\n22\n24\n26\n"
      "6 20 1\n8 6\n16 22 16\n" + REST + "12 24 1\n4 2 15\n10 26 1\n" + ENDS),
-    ("all of a latch", "r 8\nf 8\n", "aag 10 3 3 1 3 2 3 1\n2\n14\n20\n6 10 1\n8 20 8\n16 16 16\n" + REST + GATES + ENDS),
+    ("all of a latch", "r 8\nf 8\n",
+     "aag 10 3 3 1 3 2 3 1\n2\n14\n20\n6 10 1\n8 20 8\n16 16 16\n" + REST + GATES + ENDS),
     ("twice the same", "f 8\nf 8\nr 8\nf 8\nr 8\n",
      "aag 10 3 3 1 3 2 3 1\n2\n14\n20\n6 10 1\n8 20 8\n16 16 16\n" + REST + GATES + ENDS),
 )
@@ -35,8 +36,10 @@ CUTS = (
 CIRCUITS = (
     ("nothing of nothing", "aag 0 0 0 0 0\n", "", "aag", "aag 0 0 0 0 0\n"),
     ("a ready circuit stays", "aag 1 0 1 0 0 1\n2 3\n2\n", "r 2\n", "aig", "aig 1 0 1 0 0 1\n3 2\n2\n"),
-    ("a free latch of a ready one is renumbered", "aag 1 0 1 0 0 1\n2 3\n2\n", "f 2\n", "aig", "aig 2 1 1 0 0 1\n2\n4\n"),
-    ("a free gate is renumbered", "aag 2 1 0 1 1\n2\n4\n4 2 2\no0 q\n", "f 4\n", "aig", "aig 3 2 0 1 1\n6\n\x02\x03o0 q\n"),
+    ("a free latch of a ready one is renumbered", "aag 1 0 1 0 0 1\n2 3\n2\n", "f 2\n", "aig",
+     "aig 2 1 1 0 0 1\n2\n4\n"),
+    ("a free gate is renumbered", "aag 2 1 0 1 1\n2\n4\n4 2 2\no0 q\n", "f 4\n", "aig",
+     "aig 3 2 0 1 1\n6\n\x02\x03o0 q\n"),
     ("the greatest literal", "aag 4194303 0 1 1 0\n8388606 0\n8388606\n", "r 8388606\n", "aag",
      "aag 4194303 0 1 1 0\n8388606 0 8388606\n8388606\n"),
     ("the last variable of all", "aag 4194302 0 1 1 0\n8388604 0\n8388604\n", "f 8388604\n", "aag",
@@ -50,7 +53,8 @@ WRONG = (
     ("the reset of a gate", "r 4\n", 1), ("the reset of a negated latch", "r 9\n", 1),
     ("a constraint that is not there", "c 3\n", 1), ("the greatest number", "c 4294967295\n", 1),
     ("a number over it", "f 4294967302\n", 1), ("a greater number", "f 18446744073709551622\n", 1),
-    ("the second line", "f 6\nf 3\n", 2), ("the first of two", "x\nf 3\n", 1), ("line 12", "r 6\n" * 11 + "r 4\nf 2\n", 12),
+    ("the second line", "f 6\nf 3\n", 2), ("the first of two", "x\nf 3\n", 1),
+    ("line 12", "r 6\n" * 11 + "r 4\nf 2\n", 12),
     ("no LF at the end", "f 6\nr 6", 2), ("no LF", "f 6", 1), ("an empty line", "f 6\n\nr 6\n", 2),
     ("an empty first line", "\n", 1), ("a carriage return", "f 6\r\n", 1), ("two spaces", "f  6\n", 1),
     ("a space at the end", "f 6 \n", 1), ("a space in front", " f 6\n", 1), ("a tab", "f\t6\n", 1),
@@ -104,11 +108,14 @@ def cut(program, tally, _):
     for name, circuit, cuts in sizes():
         made = plainly_cut(Reader(data(circuit)).parts(), data(cuts))
         rows.gives(name, words("aag"), spelled(made, "aag"), source=circuit, cuts=cuts)
-        rows.refuses(f"{name}, and a wrong line", words("aag"), f"cuts: line {cuts.count(chr(10)) + 1}", cuts=cuts + "f 1\n")
+        rows.refuses(f"{name}, and a wrong line", words("aag"), f"cuts: line {cuts.count(chr(10)) + 1}",
+                     cuts=cuts + "f 1\n")
     rows.refuses("a wrong circuit comes first", words("aag"), "circuit: cycle 2", source=TEXTS["cycle"], cuts="x")
-    rows.refuses("a wrong line comes before a limit", words("aag"), "cuts: line 2", source=LIMITS[0][1], cuts="f 2\nf 4\n")
+    rows.refuses("a wrong line comes before a limit", words("aag"), "cuts: line 2", source=LIMITS[0][1],
+                 cuts="f 2\nf 4\n")
     rows.fails("no file of cuts", f"cut --to aag --cuts nowhere {EXAMPLES}/wraps.aag", "cuts")
     rows.fails("no file", "cut --to aag --cuts cuts nowhere", "circuit")
-    for arguments in ("cut --to aag source", "cut --cuts cuts source", "cut --to aag --cuts cuts", "cut --to aag --cuts"):
+    for arguments in ("cut --to aag source", "cut --cuts cuts source", "cut --to aag --cuts cuts",
+                      "cut --to aag --cuts"):
         ended = program.run(*arguments.split())
         tally.check(arguments, (ended.status, ended.out) == (2, b"") and ended.err != b"", ended)

@@ -60,7 +60,8 @@ def general_options(ask, tally):
     overview, each = commands(ask)
     general = {name: said for name, said in overview.options.items() if name.startswith("--")}
     for name, one in each.items():
-        tally.compare(f"help: {name}: general options", {option: one.options.get(option) for option in general}, general)
+        tally.compare(f"help: {name}: general options", {option: one.options.get(option) for option in general},
+                      general)
         tally.check(f"help: {name}: -h, --help", "-h, --help" in one.options, [*one.options])
 
 

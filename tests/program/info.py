@@ -14,7 +14,8 @@ FACTS = (
     ("the empty binary circuit", "aig 0 0 0 0 0\n", "aig 0 0 0 0 0 0 0 0 0 0 0 0 0 0 0 0 0 yes"),
     ("one gate, with its right sides swapped", TEXTS["one_gate"], "aag 3 2 0 1 1 0 0 0 0 0 0 0 0 1 1 0 0 no"),
     ("one gate in binary", "aig 3 2 0 1 1\n6\n\x02\x02", "aig 3 2 0 1 1 0 0 0 0 0 0 0 0 1 1 0 0 yes"),
-    ("a gate whose sides are of one variable", "aag 2 1 0 1 1\n2\n4\n4 2 3\n", "aag 2 1 0 1 1 0 0 0 0 0 0 0 0 1 1 0 0 no"),
+    ("a gate whose sides are of one variable", "aag 2 1 0 1 1\n2\n4\n4 2 3\n",
+     "aag 2 1 0 1 1 0 0 0 0 0 0 0 0 1 1 0 0 no"),
     ("a gate of constants", "aag 1 0 0 1 1\n2\n2 1 0\n", "aag 1 0 0 1 1 0 0 0 0 0 0 0 0 1 1 0 0 yes"),
     ("variables without a definition", TEXTS["unused"], "aag 7 1 0 1 2 0 0 0 0 0 0 0 0 2 2 0 0 no"),
     ("the deepest gate in the middle", "aag 5 2 0 1 3\n2\n4\n10\n6 4 2\n10 6 2\n8 4 2\n",
@@ -50,7 +51,8 @@ ENTRIES = (
     ("latches of each reset, by their literals", "aag 6 0 3 0 0\n12 4\n4 12 1\n6 6 6\nl2 c\nl0 a\n",
      "l 0 12 a\nl 1 4 \nl 2 6 c\n"),
     ("variables that nothing names, and the comment", "aag 5 1 0 0 1\n4\n6 4 4\ni0 in\nc\ni0 out\n", "i 0 4 in\n"),
-    ("positions of more than one digit", "aag 11 11 0 0 0\n" + "".join(f"{2 * at}\n" for at in range(1, 12)) + "i10 k\n",
+    ("positions of more than one digit", "aag 11 11 0 0 0\n" + "".join(f"{2 * at}\n" for at in range(1,
+                                                                                                     12)) + "i10 k\n",
      "".join(f"i {at} {2 * at + 2} \n" for at in range(10)) + "i 10 22 k\n"),
 )
 

@@ -1,10 +1,10 @@
-"""Rows of `why --json` and `info --names --json`: what Python's own reader of JSON finds in their lines is what the lines
-of text say. Names have quotes, backslashes, control bytes, and bytes that are no UTF-8."""
+"""Rows of `why --json` and `info --names --json`: what Python's own reader of JSON finds in their lines is what the
+lines of text say. Names have quotes, backslashes, control bytes, and bytes that are no UTF-8."""
 
 import json
 import random
 
-from library.causes import Names, explained, resets_of
+from library.causes import Asked, Names, explained, resets_of
 from library.circuits import write_all
 from library.json_lines import as_text, entry_line, objects, signals_of
 from library.reference import Parts
@@ -16,7 +16,8 @@ from program.why import STIMULI, WITNESSES, circuit_at_random, lines, words_of
 
 # Symbols of a bad state property, and what its name is in JSON. A symbol is any bytes but LF.
 SYMBOLS = (
-    (b"a", '"a"'), (b"a b", '"a b"'), (b'say "x"', r'"say \"x\""'), (b"\\top.u\\[0] ", r'"\\top.u\\[0] "'), (b"\\", r'"\\"'),
+    (b"a", '"a"'), (b"a b", '"a b"'), (b'say "x"', r'"say \"x\""'), (b"\\top.u\\[0] ", r'"\\top.u\\[0] "'),
+    (b"\\", r'"\\"'),
     (b"\x00\x01\x1f\t\r\x7f", '"\\u0000\\u0001\\u001f\\u0009\\u000d\x7f"'), (b"/", '"/"'),
     ("gr\u00f6\u00dfe \u2192 \U0001f600".encode(), '"gr\u00f6\u00dfe \u2192 \U0001f600"'),
     (b"h\xff", "[104,255]"), (b"\xff", "[255]"), (b"\xc3", "[195]"), (b"\xc0\xaf", "[192,175]"),
@@ -30,7 +31,8 @@ def json_lines(program, tally, _):
     names(rows, tally)
     for name, circuit, witness, options, wanted in WITNESSES:
         write("circuit", lines(circuit))
-        says(rows, tally, name, words_of(options, "--json", "--witness", "circuit", "witness"), lines(wanted), witness=lines(witness))
+        says(rows, tally, name, words_of(options, "--json", "--witness", "circuit", "witness"), lines(wanted),
+             witness=lines(witness))
     for name, circuit, stimulus, options, wanted in STIMULI:
         write("circuit", lines(circuit))
         says(rows, tally, name, words_of(options, "--json", "circuit", "rows"), lines(wanted), rows=lines(stimulus))
@@ -48,7 +50,8 @@ def says(rows, tally, name, words, wanted, /, **files):
     tally.compare(f"json: {name}: ends", (ended.status, ended.err), (0, b""))
     found = objects(ended.out)
     tally.compare(f"json: {name}", "".join(map(as_text, found)), wanted)
-    tally.compare(f"json: {name}: bytes", ended.out.decode(), "".join(json.dumps(it, separators=(",", ":")) + "\n" for it in found))
+    tally.compare(f"json: {name}: bytes", ended.out.decode(),
+                  "".join(json.dumps(it, separators=(",", ":")) + "\n" for it in found))
     return found
 
 
@@ -62,12 +65,15 @@ def names(rows, tally):
                    '{"letter":"i","position":0,"literal":2,"name":null}\n{"letter":"b","position":0,"literal":3,"name":' + wanted + "}\n",
                    source=b"aag 1 1 0 0 0 1\n2\n3\nb0 " + symbol + b"\n")
     each = [byte for byte in range(256) if byte != 10]
-    whole = b"".join(b"%d\n" % (2 * at + 2) for at in range(255)) + b"".join(b"i%d %c\n" % (at, byte) for at, byte in enumerate(each))
+    whole = b"".join(b"%d\n" % (2 * at + 2) for at in range(255)) + b"".join(b"i%d %c\n" % (at, byte) for at,
+                                                                             byte in enumerate(each))
     said = rows.run("info", "--names", "--json", write("source", b"aag 255 255 0 0 0\n" + whole))
     tally.compare("json: names: each byte", [it["name"].encode() if byte < 128 else bytes(it["name"])
-                                             for byte, it in zip(each, objects(said.out), strict=True)], [bytes([byte]) for byte in each])
+                                             for byte, it in zip(each, objects(said.out), strict=True)],
+                                             [bytes([byte]) for byte in each])
     rows.gives("names: a justice property", "info --names --json source",
-               '{"letter":"j","position":0,"literal":null,"name":"live"}\n', source="aag 0 0 0 0 0 0 0 1\n1\n0\nj0 live\n")
+               '{"letter":"j","position":0,"literal":null,"name":"live"}\n',
+               source="aag 0 0 0 0 0 0 0 1\n1\n0\nj0 live\n")
 
 
 def quoted(rows):
@@ -96,7 +102,8 @@ def shown(rows):
 
 
 def at_random(rows, tally):
-    """Random circuits beside the plain explainer: the signals too, by the letter and the position of their last letters."""
+    """Random circuits beside the plain explainer: the signals too, by the letter and the position of their last
+    letters."""
     for number in range(60):
         rng = random.Random(f"json {number}")
         text = circuit_at_random(rng)
@@ -110,6 +117,7 @@ def at_random(rows, tally):
             frame, depth = rng.randrange(len(run)), rng.choice((None, 0, 1, 2))
             options = ["--of", name, "--frame", str(frame), *(["--depth", str(depth)] if depth is not None else [])]
             found = says(rows, tally, f"case {number}, {options}", ["why", "--json", *options, "circuit", "rows"],
-                         explained(text, resets_of(parts), run, name, frame, depth))
-            named = {(it["letter"], it["position"], it["name"], len(it["value"])) for line in found for it in signals_of(line)}
+                         explained(text, resets_of(parts), run, Asked(name, frame, depth)))
+            named = {(it["letter"], it["position"], it["name"],
+                      len(it["value"])) for line in found for it in signals_of(line)}
             tally.check(f"json: case {number}, {options}: signals", named <= there, (named, there))

@@ -340,7 +340,8 @@ def failures(keeping):
     keeping.row("a refused circuit and a folder that is not there", ("--circuit-out", "nowhere/file"), NOT_BEGUN, {},
                 (("design", b"aag 1 0 0 0 1\n2 2 2\n"), ))
     for most in (0, 1, len(NEW_ROWS), len(NEW_CIRCUIT) - 1):
-        keeping.row(f"no room behind {most} bytes", BOTH, FAILED, dict(old), old, preexec_fn=lambda most=most: room(most),
+        keeping.row(f"no room behind {most} bytes", BOTH, FAILED, dict(old), old,
+                    preexec_fn=lambda most=most: room(most),
                     restore_signals=False)
     keeping.row("room for both", BOTH, DONE, {"new_circuit": NEW_CIRCUIT, "new_rows": NEW_ROWS}, old,
                 preexec_fn=lambda: room(len(NEW_CIRCUIT)), restore_signals=False)

@@ -1,7 +1,7 @@
-"""Proofs that cadical wrote (tests/proofs), as text and in the binary form: over 50 KB about 195 variables, and with over
-5,000 clauses and nearly as many deletions. Each is taken, and refused where a step or a clause that it needs is taken
-away, or the property is another. How those end is known by library/plain_checker.py. They end so too after many other
-clauses, which the first deletion then finds in the formula."""
+"""Proofs that cadical wrote (tests/proofs), as text and in the binary form: over 50 KB about 195 variables, and with
+over 5,000 clauses and nearly as many deletions. Each is taken, and refused where a step or a clause that it needs is
+taken away, or the property is another. How those end is known by library/plain_checker.py. They end so too after many
+other clauses, which the first deletion then finds in the formula."""
 
 import os
 import re
@@ -21,18 +21,19 @@ CHANGE = re.compile(r"(without|with) (?:clause (\d+) deleted after )?step (\d+)"
 def large_proofs(program, tally, _):
     rows = Rows("large_proofs", program, tally)
     outcomes = [line.split(": ") for line in contents(f"{FOLDER}/outcomes").decode().splitlines()]
-    for name, size, clauses, deletions in PROOFS:
+    for name, *sizes in PROOFS:
         text = contents(f"{FOLDER}/{name}.aag").decode()
         write(name, text)
         write("other", with_other_property(text))
         files = [file for file in (f"{name}.text.drat", f"{name}.binary.drat") if os.path.exists(f"{FOLDER}/{file}")]
         steps = steps_of(files[0])
-        is_large(tally, name, steps, size, clauses, deletions)
+        is_large(tally, name, steps, sizes)
         formula(rows, name, clauses_of(text))
         for file in files:
             rows.ends(f"{file}, as cadical wrote it", f"refute --frames 1 {name} {FOLDER}/{file}", REFUTED)
             words = ["refute", "--frames", "1", name, "/dev/stdin"]
-            tally.compare(f"large_proofs: {file}, in pieces", in_pieces(program, words, contents(f"{FOLDER}/{file}"), 4099),
+            tally.compare(f"large_proofs: {file}, in pieces",
+                          in_pieces(program, words, contents(f"{FOLDER}/{file}"), 4099),
                           REFUTED)
         for spelling, spelled in SPELLINGS:
             rows.ends(f"{name}, {spelling}", f"refute --frames 1 {name} proof", REFUTED, proof=spelled(steps))
@@ -48,7 +49,8 @@ def large_proofs(program, tally, _):
                               refused(f"proof: {fault}"), proof=spelled(OTHERS + changed))
 
 
-def is_large(tally, name, steps, size, clauses, deletions):
+def is_large(tally, name, steps, sizes):
+    size, clauses, deletions = sizes
     tally.check(f"large_proofs: {name}, its size", len(SPELLINGS[0][1](steps)) >= size)
     deleted = sum(is_deleted for is_deleted, _ in steps)
     tally.check(f"large_proofs: {name}, its steps", len(steps) - deleted >= clauses and deleted >= deletions)

@@ -1,6 +1,6 @@
-"""Large files of a session of `aig shell`: a circuit of 1.2 MB, 60,000 rows, and a witness and a dump of these. They have
-all bytes of what the session began with, but for what is edited; so has what a pipe gets. If the reader of a pipe leaves,
-the answer says that it is not written, and the circuit is still unsaved."""
+"""Large files of a session of `aig shell`: a circuit of 1.2 MB, 60,000 rows, and a witness and a dump of these. They
+have all bytes of what the session began with, but for what is edited; so has what a pipe gets. If the reader of a pipe
+leaves, the answer says that it is not written, and the circuit is still unsaved."""
 
 import os
 import random

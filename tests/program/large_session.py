@@ -1,5 +1,5 @@
-"""A session of `aig shell` about 1,500 signals, beside the plain workbench: each has a symbol of three words, of which some
-have 300 bytes, and there are 13 properties."""
+"""A session of `aig shell` about 1,500 signals, beside the plain workbench: each has a symbol of three words, of which
+some have 300 bytes, and there are 13 properties."""
 
 import random
 
@@ -123,7 +123,8 @@ class Talks:
         for place in range(len(names)):
             write(f"found{place}", "")
         session = self.answers(f"witnesses of {len(lines)} properties",
-                               [*lines, *(" ".join(["witness", f"found{place}", *words]) for place, words in enumerate(asked))])
+                               [*lines, *(" ".join(["witness", f"found{place}", *words]) for place,
+                                          words in enumerate(asked))])
         for place, words in enumerate(asked):
             self.tally.compare(f"large_session: a witness of {words}, one of {len(lines)} properties",
                                contents(f"found{place}"), session.witness_text(*words).encode())

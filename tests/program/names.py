@@ -7,8 +7,8 @@ from library.circuits import write_all
 from library.runs import write
 from program.rows import Rows
 
-# Six inputs, and each of them is a bad state property and an output. Some names are those of other entries too, some look
-# like numbers, and two properties have one name.
+# Six inputs, and each of them is a bad state property and an output. Some names are those of other entries too, some
+# look like numbers, and two properties have one name.
 CIRCUIT = ("aag 6 6 0 6 0 6\n" + "".join(f"{2 * at + 2}\n" for at in range(6)) * 3
            + "i0 safe\no3 safe\no0 out\nb0 safe\nb1 two words\nb2 same\nb4 5\nb3 same\nb5 b1\n")
 
@@ -27,10 +27,12 @@ FOUR = "aag 4 4 0 0 0 4\n2\n4\n6\n8\n2\n4\n6\n8\n"
 
 # Commands, with PROPERTY where the property is named; some print a result and some a refusal.
 COMMANDS = (
-    "cnf --frames 2 PROPERTY circuit", "cnf --step --frames 1 PROPERTY circuit", "cnf --certificate certificate PROPERTY circuit",
+    "cnf --frames 2 PROPERTY circuit", "cnf --step --frames 1 PROPERTY circuit",
+    "cnf --certificate certificate PROPERTY circuit",
     "refute --frames 1 PROPERTY circuit proof", "refute --frames 1 --step proof PROPERTY circuit proof",
     "refute --certificate certificate PROPERTY circuit proof", "witness PROPERTY circuit rows",
-    "witness --frames 1 --model model PROPERTY circuit", "witness --certificate certificate --model model PROPERTY circuit",
+    "witness --frames 1 --model model PROPERTY circuit",
+    "witness --certificate certificate --model model PROPERTY circuit",
     "strengthen --to aag --certificate certificate PROPERTY circuit", "select --to aag PROPERTY circuit",
     "select --to aig --names name PROPERTY circuit",
 )
@@ -55,7 +57,8 @@ def names(program, tally, _):
         rows.refuses(f"{command}: a name that two properties have", words_of(command, "same"), "property: twice 2 3")
         rows.refuses(f"{command}: a name in a faulty circuit", words_of(command.replace("circuit", "cycle"), "safe"),
                      "circuit: cycle 2")
-        rows.fails(f"{command}: a name in no circuit", words_of(command.replace("circuit", "nowhere"), "safe"), "circuit")
+        rows.fails(f"{command}: a name in no circuit", words_of(command.replace("circuit", "nowhere"), "safe"),
+                   "circuit")
     for text, position in OUTPUTS:
         command = "select --from outputs --to aag PROPERTY circuit"
         rows.ends(f"{command}: {text!r}", words_of(command, text), rows.run(*words_of(command, str(position))))
@@ -65,7 +68,8 @@ def names(program, tally, _):
         for order in itertools.permutations(range(4), count):
             symbols = "".join(f"b{at} p\n" for at in order)
             first, second = sorted(order)[:2]
-            rows.refuses(f"the least two of {order}", "cnf --frames 1 --property p four", f"property: twice {first} {second}",
+            rows.refuses(f"the least two of {order}", "cnf --frames 1 --property p four",
+                         f"property: twice {first} {second}",
                          four=FOUR + symbols)
     minus(rows)
     command = "cnf --frames 2 PROPERTY /dev/stdin"

@@ -3,6 +3,7 @@ such files, so elsewhere this is left out."""
 
 import os
 import shutil
+from typing import NamedTuple, Optional, Tuple
 
 from library.runs import Ended, LeftOut, contents, input_or_output, write
 
@@ -12,8 +13,20 @@ NOT_BEGUN = input_or_output("output")
 USER = 61000
 OWN, SHARED, OTHER = 61001, 61002, 61003
 
-# Who runs the program (None: root), in which further groups; the owner, the group and the mode of the file before; how
-# the run ends, and the owner, the group and the mode after it.
+
+
+class Row(NamedTuple):
+    """Who runs the program (None: root), in which further groups; the owner, the group and the mode of the file before;
+    how the run ends, and the owner, the group and the mode after it."""
+
+    name: str
+    user: Optional[int]
+    groups: Tuple[int, ...]
+    before: Tuple[int, int, int]
+    ended: Ended
+    after: Tuple[int, int, int]
+
+
 ROWS = (
     ("an own file", USER, (), (USER, OWN, 0o640), DONE, (USER, OWN, 0o640)),
     ("a shared file", USER, (SHARED, ), (USER, SHARED, 0o660), DONE, (USER, SHARED, 0o660)),
@@ -41,23 +54,24 @@ def owners(program, tally, _):
     os.chmod(".", 0o777)
     os.umask(0o22)
     for row in ROWS:
-        each(program, tally, *row)
+        each(program, tally, Row(*row))
     unsearched(program, tally)
 
 
-def each(program, tally, name, user, groups, before, ended, behind):
+def each(program, tally, row):
+    name, ended = row.name, row.ended
     for at, option in enumerate(("--circuit-out", "--map")):
         for file, content in (("design", DESIGN), ("rows", b""), ("script", b"o 0 3\n"), ("file", b"old")):
             write(file, content)
-        owner, group, mode = before
+        owner, group, mode = row.before
         os.chown("file", owner, group)
         os.chmod("file", mode)
         words = (["bench", "--circuit-out", "file", "design", "rows", "script"],
                  ["unroll", "--frames", "1", "--to", "aag", "--map", "file", "design"])[at]
         wanted = (ended, ended._replace(out=DESIGN) if ended is DONE else ended)[at]
-        got = run(program, user, groups, words)
+        got = run(program, row.user, row.groups, words)
         tally.compare(f"owners: {name}, {option}", got, wanted)
-        tally.compare(f"owners: {name}, {option}, the owner, the group and the mode", owned("file"), shown(*behind))
+        tally.compare(f"owners: {name}, {option}, the owner, the group and the mode", owned("file"), shown(*row.after))
         text = (NEW_DESIGN, b"i 0 0 0 \n")[at] if ended is DONE else b"old"
         tally.compare(f"owners: {name}, {option}, the file", (contents("file"), os.path.exists("file.new")),
                       (text, False))

@@ -1,6 +1,6 @@
-"""The manual pages and the completions: they are what tools/make_manual.py and tools/make_completions.py write of the program's help. A
-terminal of 80 columns shows the manual pages whole, and mandoc has nothing to say of them where it is installed. The
-page on the examples names each of them."""
+"""The manual pages and the completions: they are what tools/make_manual.py and tools/make_completions.py write of the
+program's help. A terminal of 80 columns shows the manual pages whole, and mandoc has nothing to say of them where it is
+installed. The page on the examples names each of them."""
 
 import os
 import shutil

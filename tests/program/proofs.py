@@ -42,12 +42,12 @@ UNFINISHED = (
 
 class Conjunctions:
     """A circuit of conjunctions (a | b) & (a | !b) & (!a | b) & (!a | !b), which are never 1, each of two inputs of its
-    own. The gates are in the order of an unrolled circuit, so in the formula for one frame the variable of a literal is
-    half of it, and one more."""
+    own, after so many others. The gates are in the order of an unrolled circuit, so in the formula for one frame, where
+    a property reads them all, the variable of a literal is half of it, and one more."""
 
-    def __init__(self, count):
-        self.inputs, self.gates = 2 * count, []
-        pairs = [(4 * at + 2, 4 * at + 4) for at in range(count)]
+    def __init__(self, count, others=0):
+        self.inputs, self.gates = others + 2 * count, []
+        pairs = [(2 * others + 4 * at + 2, 2 * others + 4 * at + 4) for at in range(count)]
         sides = [[self.gate(b + 1, a + 1), self.gate(b, a + 1), self.gate(b + 1, a), self.gate(b, a)] for a, b in pairs]
         halves = [(self.gate(only_b + 1, neither + 1), self.gate(both + 1, only_a + 1))
                   for neither, only_b, only_a, both in sides]
@@ -57,6 +57,12 @@ class Conjunctions:
         literal = 2 * (self.inputs + len(self.gates) + 1)
         self.gates.append((literal, max(left, right), min(left, right)))
         return literal
+
+    def all_of(self, end, count):
+        """The literal that is 1 where this one and so many of the first inputs are."""
+        for at in range(count):
+            end = self.gate(end, 2 * at + 2)
+        return end
 
     def any(self):
         """The literal that is 1 where one of the conjunctions is."""
@@ -221,9 +227,11 @@ def block_edges(rows):
         for at in range(len(steps)):
             proof = begin + b"x" * (BLOCK - at - len(begin) - 1) + b"\n" + steps
             wanted = REFUTED if wrong is None else refused(f"proof: text at {BLOCK - at + wrong}")
-            rows.ends(f"an edge of a block before byte {at} of {steps!r}", "refute --frames 1 never proof", wanted, proof=proof)
+            rows.ends(f"an edge of a block before byte {at} of {steps!r}", "refute --frames 1 never proof", wanted,
+                      proof=proof)
     begin = WITH_A.encode() + b"c"
-    for steps, wrong in ((b"24 d 3 24999 0\n" + WITH_NO_CLAUSE.encode(), None), (b"25 0 24 x 0\n", 8), (b"25x 0 0\n", 0),
+    for steps, wrong in ((b"24 d 3 24999 0\n" + WITH_NO_CLAUSE.encode(), None), (b"25 0 24 x 0\n", 8),
+                         (b"25x 0 0\n", 0),
                          (b"25 d 3 9999999999 0\n", 7), (b"25", 2)):
         for at in range(len(steps)):
             proof = begin + b"x" * (BLOCK - at - len(begin) - 1) + b"\n" + steps
@@ -238,7 +246,8 @@ def block_edges(rows):
             short = -(BLOCK - at) % 4
             proof = b"d\x06\0" * short + begin * ((BLOCK - at - 3 * short) // 4) + steps
             wanted = REFUTED if wrong is None else refused(f"proof: text at {BLOCK - at + wrong}")
-            rows.ends(f"an edge of a block before byte {at} of {steps!r}", "refute --frames 1 never proof", wanted, proof=proof)
+            rows.ends(f"an edge of a block before byte {at} of {steps!r}", "refute --frames 1 never proof", wanted,
+                      proof=proof)
 
 
 def named_pipes(program, tally):

@@ -3,9 +3,10 @@ answer, so a program that takes another one says something else."""
 
 import itertools
 
-import itertools
-
+from at_random.cones import Asked
 from library.circuits import write_all
+from library.dimacs import read_formula
+from library.plain_checker import outcome
 from library.runs import Ended, refused, write
 from program.proofs import Conjunctions
 from program.rows import Rows
@@ -52,32 +53,42 @@ def refutations(rows, asked, count):
         name = f"property {asked} of {count}, literal {literal} and others {others}: {words}"
         wanted = Ended(0, f"{answer}\n".encode(), b"") if answer.startswith("unreachable") else refused(answer)
         rows["refute"].ends(name, f"refute {words} --property {asked} circuit proof", wanted)
-    made = Conjunctions(count)
-    write("circuit", made.circuit(made.ends))
-    # A proof is the first input of the property's conjunction, at the last frame. No clause about another property has
-    # this input, so such a step is taken there on its first literal, and proves nothing.
-    at_start, at_step = ([f"{2 + first + 2 * at} 0\n" for at in range(count)] for first in (0, 2 * count))
+    # Property P reads the first P inputs, and then the two of its own conjunction. A proof is the first of these two, at
+    # the last frame: one about another property refutes nothing, or is another step there.
+    made = Conjunctions(count, count)
+    text = made.circuit([made.all_of(end, at) for at, end in enumerate(made.ends)])
+    write("circuit", text)
+    at_start, at_step = [at + 2 for at in range(count)], [2 * at + 4 for at in range(count)]
     words = f"refute --frames 1 --property {asked}"
     for other in range(count):
         name = f"property {asked} of {count}, a proof about property {other}"
-        right = other == asked
-        wanted = Ended(0, b"unreachable within 1\n", b"") if right else refused("proof: no refutation")
-        rows["refute"].ends(name, f"{words} circuit proof", wanted, proof=at_start[other])
-        wanted = Ended(0, b"unreachable\n", b"") if right else refused("step proof: no refutation")
-        rows["refute"].ends(f"{name}, of the step", f"{words} --step step circuit proof", wanted, proof=at_start[asked],
-                            step=at_step[other])
+        wanted = shown(text, "within", asked, at_start[other], "unreachable within 1")
+        rows["refute"].ends(name, f"{words} circuit proof", wanted, proof=f"{at_start[other]} 0\n")
+        rows["refute"].ends(f"{name}, of the step", f"{words} --step step circuit proof",
+                            shown(text, "step", asked, at_step[other], "unreachable"), proof=f"{at_start[asked]} 0\n",
+                            step=f"{at_step[other]} 0\n")
 
 
-def formula(asked, count, frames, is_step, options=None):
+def shown(text, goal, asked, literal, line):
+    """What a proof of this one literal shows of a property, by the plain checker."""
+    _, _, clauses = read_formula(Asked(text, goal, 1, asked).text())
+    number = outcome(clauses, [(False, [literal])])
+    if number is None:
+        return Ended(0, f"{line}\n".encode(), b"")
+    part = "step proof" if goal == "step" else "proof"
+    return refused(f"{part}: step {number}" if number else f"{part}: no refutation")
+
+
+def formula(asked, frames, is_step, options=None):
     """The formula of a circuit whose properties are its inputs, in their order, and which was asked for by these options."""
     options = options or f"{'--step ' if is_step else ''}--frames {frames}"
     lines = [f"c aig cnf {options} --property {asked} "]
     frames += is_step
-    bad = [2 + frame * count + asked for frame in range(frames)]
-    lines += [f"c i {2 + frame * count + at} {frame} {at} " for frame in range(frames) for at in range(count)]
+    bad = [2 + frame for frame in range(frames)]
+    lines += [f"c i {literal} {frame} {asked} " for frame, literal in enumerate(bad)]
     lines += [f"c b {literal} {frame}" for frame, literal in enumerate(bad)]
     goals = [[-literal] for literal in bad[:-1]] + [bad[-1:]] if is_step else [bad]
-    lines += [f"p cnf {1 + frames * count} {1 + len(goals)}", "-1 0"]
+    lines += [f"p cnf {1 + frames} {1 + len(goals)}", "-1 0"]
     lines += [" ".join(map(str, [*goal, 0])) for goal in goals]
     return "".join(line + "\n" for line in lines)
 
@@ -90,9 +101,8 @@ def witness_of(asked, lines):
     return f"1\nb{asked}\n\n" + "".join(line + "\n" for line in lines) + ".\n"
 
 
-def model_of(lines):
-    """A solver's model whose run has these rows."""
-    values = "".join(lines)
+def model_of(values):
+    """A solver's model whose run has these values at the property's input."""
     literals = (at + 2 if value == "1" else -at - 2 for at, value in enumerate(values))
     return "s SATISFIABLE\nv -1 " + " ".join(map(str, literals)) + " 0\n"
 
@@ -106,9 +116,9 @@ def of_inputs(rows, asked, count):
     for step in ("", "--step "):
         for frames in (1, 2):
             rows["cnf"].gives(f"{name}, {frames} frames {step}", f"cnf {step}--frames {frames} {option} circuit",
-                              formula(asked, count, frames, step != ""))
+                              formula(asked, frames, step != ""))
     write("claims", NO_CLAIM)
-    certified_formula = formula(asked, count, 2, False, "--certificate")
+    certified_formula = formula(asked, 2, False, "--certificate")
     rows["cnf"].gives(f"{name}, with a certificate", f"cnf --certificate claims {option} circuit", certified_formula)
     strengthened = f"{inputs}{2 * asked + 2}\n{2 * asked + 2}\n"
     rows["strengthen"].gives(name, f"strengthen --to aag --certificate claims {option} circuit",
@@ -125,16 +135,18 @@ def of_inputs(rows, asked, count):
             (f"{option} ", [others, others], None)):
         write("rows", "".join(line + "\n" for line in stimulus))
         written(rows, f"{name}, {options}a stimulus of {stimulus[0]}", f"witness {options}circuit rows", wanted)
+    # The other inputs are not read.
+    reached = [row_of(count, (), "x")[:asked] + value + row_of(count, (), "x")[asked + 1:] for value in "01"]
     for words in (f"--frames 2 {option}", f"--step --frames 1 {option}"):
-        for lines, wanted in (([others, only], others_first), ([others, others], None)):
-            write("model", model_of(lines))
-            written(rows, f"{name}, a model of {lines[-1]}", f"witness --model model {words} circuit", wanted)
+        for values, wanted in (("01", witness_of(asked, reached)), ("00", None)):
+            write("model", model_of(values))
+            written(rows, f"{name}, a model of {values}", f"witness --model model {words} circuit", wanted)
     # The run is one of the strengthened circuit, which has one property.
-    for lines, wanted in (([others, only], witness_of(0, [others, only])), ([others, others], None)):
+    for values, wanted in (("01", witness_of(0, reached)), ("00", None)):
         words = f"witness --model model --certificate claims {option} circuit"
-        rows["witness"].ends(f"{name}, a model of {lines[-1]}, with a certificate", words,
+        rows["witness"].ends(f"{name}, a model of {values}, with a certificate", words,
                              refused("witness: no run") if wanted is None else Ended(0, wanted.encode(), b""),
-                             model=model_of(lines))
+                             model=model_of(values))
     rows["check"].gives(f"{name}, which is not reached", "check circuit found", "not bad\n", 1,
                         found=witness_of(asked, [only, others]))
     needed = [row_of(count, (), "x"), row_of(count, {asked}, "x")]
@@ -164,7 +176,8 @@ def selections(rows, kept, count):
     for section, options in (("b", ""), ("o", "--from outputs --as outputs ")):
         write("circuit", selected(range(count), count, section, "aag"))
         for to, spelled in itertools.product(("aag", "aig"), (("",), ("n",), ("", "n"))):
-            words = options + " ".join(f"--property {spelled[place % len(spelled)]}{at}" for place, at in enumerate(kept))
+            words = options + " ".join(f"--property {spelled[place % len(spelled)]}{at}" for place,
+                                       at in enumerate(kept))
             rows["select"].gives(f"{len(kept)} of {count}, to {to}: {words}", f"select {words} --to {to} circuit",
                                  selected(kept, count, section, to))
 

@@ -1,4 +1,5 @@
-"""Rows of `aig refute`: proofs by hand as text, in the binary form and with hints, those that are refused, and broken ones."""
+"""Rows of `aig refute`: proofs by hand as text, in the binary form and with hints, those that are refused, and broken
+ones."""
 
 from library.circuits import TEXTS, write_all
 from library.plain_steps import steps_of
@@ -10,8 +11,8 @@ from program.rows import Rows
 # variable 3, and the bad state is variable 10. Propagation leaves the four clauses of a and b.
 NEVER = ("aag 9 2 0 0 7 1\n2\n4\n18\n6 5 3\n8 4 3\n10 5 2\n12 4 2\n14 9 7\n16 13 11\n18 16 14\n")
 
-# Its formula has 23 clauses, so steps with hints have numbers from 24 on. The first one adds the literal of a, by the bad
-# state, its gates, and both clauses that have b.
+# Its formula has 23 clauses, so steps with hints have numbers from 24 on. The first one adds the literal of a, by the
+# bad state, its gates, and both clauses that have b.
 WITH_A = "24 2 0 2 21 22 15 16 5 8 0\n"
 WITH_NO_CLAUSE = "25 0 24 2 21 18 19 11 14 0\n"
 RENUMBERED = (WITH_A + WITH_NO_CLAUSE).replace("24 ", "27 ").replace("25 ", "28 ")
@@ -56,7 +57,8 @@ PROOFS = (
     ("hints: a comment in a step", WITH_A.replace(" 21", "\nc 8 0\n21") + WITH_NO_CLAUSE),
     ("hints: gaps in the numbers",
      WITH_A.replace("24 ", "100 ") + WITH_NO_CLAUSE.replace("24 ", "100 ").replace("25 ", "2147483647 ")),
-    ("hints that give nothing", WITH_A.replace(" 2 21", " 3 3 99 2147483647 2 21") + WITH_NO_CLAUSE.replace(" 14", " 14 1")),
+    ("hints that give nothing", WITH_A.replace(" 2 21", " 3 3 99 2147483647 2 21") + WITH_NO_CLAUSE.replace(" 14",
+                                                                                                            " 14 1")),
     ("hints: a deletion of a clause that no hint names", WITH_A + "24 d 3 20 0\n" + WITH_NO_CLAUSE),
     ("hints: a deletion first", "1 d 3 0\n" + WITH_A + WITH_NO_CLAUSE),
     ("hints: a deletion of clauses that are not there",
@@ -180,7 +182,8 @@ FAULTS = (
     ("a refused circuit", "--frames 2 cycle", "circuit: cycle 2"),
 )
 
-# Numbers of a step that does not follow, and the proofs it is in: what is proved, arguments, and the part of the message.
+# Numbers of a step that does not follow, and the proofs it is in: what is proved, arguments, and the part of the
+# message.
 NUMBERS = (2, 3, 10, 256, 65537)
 GOALS = (
     ("a run of some frames", "--frames 1 never proof", "proof"),
@@ -190,8 +193,8 @@ GOALS = (
     ("a certificate", "--certificate no_claim never proof", "proof"),
 )
 
-# A latch that keeps its value, which starts at 0 and is bad. In the step of one frame it is variable 2, and the formula is
-# refuted by propagation alone.
+# A latch that keeps its value, which starts at 0 and is bad. In the step of one frame it is variable 2, and the formula
+# is refuted by propagation alone.
 KEPT = "aag 1 0 1 0 0 1\n2 2\n2\n"
 # The same latch, and the conjunction that is never 1: the step needs a proof of its own.
 NEVER_KEPT = ("aag 10 2 1 0 7 1\n2\n4\n6 6\n20\n8 5 3\n10 4 3\n12 5 2\n14 4 2\n16 11 9\n18 15 13\n20 18 16\n")
@@ -219,12 +222,15 @@ def refute(program, tally, _):
     rows.fails("a folder in place of a proof", "refute --frames 1 never .", "proof")
     rows.gives("propagation alone, and a proof that is not read", "refute --frames 3 --property 0 constants proof",
                "unreachable within 3\n", constants="aag 0 0 0 0 0 2\n0\n1\n", proof="x")
-    rows.fails("propagation alone, and a proof that cannot be read", "refute --frames 3 --property 0 constants .", "proof")
+    rows.fails("propagation alone, and a proof that cannot be read", "refute --frames 3 --property 0 constants .",
+               "proof")
     rows.gives("propagation alone, and right hints", "refute --frames 3 --property 0 constants proof",
                "unreachable within 3\n", proof="3 0 1 2 0\n")
-    rows.refuses("propagation alone, and wrong hints", "refute --frames 3 --property 0 constants proof", "proof: step 1",
+    rows.refuses("propagation alone, and wrong hints", "refute --frames 3 --property 0 constants proof",
+                 "proof: step 1",
                  proof="3 0 1 0\n")
-    rows.refuses("a state that is reached", "refute --frames 3 --property 1 constants proof", "proof: no refutation", proof="")
+    rows.refuses("a state that is reached", "refute --frames 3 --property 1 constants proof", "proof: no refutation",
+                 proof="")
     steps(rows)
     alive(rows)
     numbers(rows)
@@ -235,7 +241,8 @@ def refute(program, tally, _):
 
 
 def numbers(rows):
-    """The number of a step that does not follow, in a proof of each formula. All before it is right and changes nothing."""
+    """The number of a step that does not follow, in a proof of each formula. All before it is right and changes
+    nothing."""
     write("kept_too", NEVER_KEPT)
     write("kept_to", NEVER_KEPT_TO)
     write("no_claim", "aag 0 0 0 0 0\n")
@@ -243,7 +250,8 @@ def numbers(rows):
     for number in NUMBERS:
         for form, proof in ends_wrong(number):
             for goal, words, part in GOALS:
-                rows.refuses(f"step {number} of {goal}, {form}", f"refute {words}", f"{part}: step {number}", proof=proof)
+                rows.refuses(f"step {number} of {goal}, {form}", f"refute {words}", f"{part}: step {number}",
+                             proof=proof)
 
 
 def ends_wrong(number):
@@ -295,7 +303,8 @@ def frat(rows):
 
 def steps(rows):
     """Proofs of the induction step too."""
-    rows.gives("a latch that keeps 0, by induction", "refute --frames 1 --step step kept proof", "unreachable\n", kept=KEPT, proof="",
+    rows.gives("a latch that keeps 0, by induction", "refute --frames 1 --step step kept proof", "unreachable\n",
+               kept=KEPT, proof="",
                step="")
     rows.gives("other files of the step", "refute --step proof --property 0 --frames 3 kept proof", "unreachable\n")
     write("kept_too", NEVER_KEPT)
@@ -303,12 +312,15 @@ def steps(rows):
                               ("one of each", b"a\x04\x00", "4 0\n"), ("hints", WITH_A + WITH_NO_CLAUSE, STEP_HINTS),
                               ("hints of the step", "2 0\n", STEP_HINTS),
                               ("hints of the proof", WITH_A + WITH_NO_CLAUSE, "4 0\n")):
-        rows.gives(f"two proofs: {name}", "refute --frames 1 --step step kept_too proof", "unreachable\n", proof=proof, step=step)
-    for name, proof, step, fault in (("the proof first", "x", "x", "proof: text at 0"), ("the step's", "2 0\n", "x", "step proof: text at 0"),
+        rows.gives(f"two proofs: {name}", "refute --frames 1 --step step kept_too proof", "unreachable\n", proof=proof,
+                   step=step)
+    for name, proof, step, fault in (("the proof first", "x", "x", "proof: text at 0"),
+                                     ("the step's", "2 0\n", "x", "step proof: text at 0"),
                                      ("the step's, which does not follow", "2 0\n", "0\n", "step proof: step 1"),
                                      ("the step's, which is not finished", "2 0\n", "", "step proof: no refutation"),
                                      ("the step's, with other hints", "2 0\n", WITH_A, "step proof: step 1")):
-        rows.refuses(f"two proofs, refused: {name}", "refute --frames 1 --step step kept_too proof", fault, proof=proof, step=step)
+        rows.refuses(f"two proofs, refused: {name}", "refute --frames 1 --step step kept_too proof", fault, proof=proof,
+                     step=step)
     rows.refuses("a step that fails", "refute --frames 1 --step step loose proof", "step proof: no refutation",
                  loose="aag 1 0 1 0 0 1\n2 3\n2\n", proof="", step="")
     rows.refuses("a step over its limit", "refute --frames 65536 --step step bad_input proof", "cnf: limit", step="x")
@@ -333,9 +345,11 @@ def alive(rows):
                        "no run of 1 frames\n", kept_to=circuit, proof=proof)
         rows.refuses(f"constraints that contradict, {name}: no proof", "refute --frames 1 --alive kept_to proof",
                      "proof: no refutation", proof="")
-        rows.refuses(f"constraints that contradict, {name}: what does not follow", "refute --frames 1 --alive kept_to proof",
+        rows.refuses(f"constraints that contradict, {name}: what does not follow",
+                     "refute --frames 1 --alive kept_to proof",
                      "proof: step 1", proof="0\n")
-    rows.gives("a run that ends", "refute --alive --frames 2 short proof", "no run of 2 frames\n", short=SHORT, proof="x")
+    rows.gives("a run that ends", "refute --alive --frames 2 short proof", "no run of 2 frames\n", short=SHORT,
+               proof="x")
     rows.refuses("a run before its end", "refute --alive --frames 1 short proof", "proof: no refutation", proof="")
     rows.refuses("no constraint", "refute --alive --frames 3 constants proof", "proof: no refutation")
     rows.refuses("no frames of a run", "refute --alive --frames 0 short proof", "cnf: no frames")

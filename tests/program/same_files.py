@@ -1,5 +1,5 @@
-"""A FILE that a run writes, and that is also standard output or another FILE: it is refused before anything is written to
-it, whether it is a file, a pipe or a terminal. A device that keeps nothing may be both."""
+"""A FILE that a run writes, and that is also standard output or another FILE: it is refused before anything is written
+to it, whether it is a file, a pipe or a terminal. A device that keeps nothing may be both."""
 
 import os
 
@@ -41,7 +41,8 @@ def twice(program, tally):
     for other in NAMES:
         for name in NAMES:
             ended = program.run(*SESSION, input=f"save {other} {name}\n".encode())
-            tally.compare(f"same_files: save {other} {name}", (ended, left()), (Ended(0, TWICE % name.encode(), b""), []))
+            tally.compare(f"same_files: save {other} {name}", (ended, left()),
+                          (Ended(0, TWICE % name.encode(), b""), []))
         words = ("bench", "--circuit-out", "new", "--stimulus-out", other, "two_gates", "rows", "script")
         tally.compare(f"same_files: {words}", (program.run(*words), left()), (input_or_output("output"), []))
     write("new", "old")
@@ -74,7 +75,8 @@ def sessions(program, tally):
     tally.compare("same_files: a session on a file", contents("out"), wanted)
     with Terminal() as terminal:
         ended = program.run(*SESSION, input=typed, stdout=terminal.end)
-        tally.compare("same_files: a session on a terminal", ended._replace(out=terminal.close()), Ended(0, wanted, b""))
+        tally.compare("same_files: a session on a terminal", ended._replace(out=terminal.close()),
+                      Ended(0, wanted, b""))
     tally.compare("same_files: files of refused lines", left(), [])
     with open("/dev/null", "wb") as null:
         ended = program.run(*SESSION, input=b"save /dev/stdout\nwave /dev/null\n", stdout=null)
@@ -82,14 +84,16 @@ def sessions(program, tally):
 
 
 def runs(program, tally):
-    """Runs with standard output as their FILE are refused before they write; with another pipe or terminal they are not."""
+    """Runs with standard output as their FILE are refused before they write; with another pipe or terminal they are
+    not."""
     for words in RUNS:
         words = words.replace("OUT", "/dev/stdout").split()
         refused = input_or_output("output")
         tally.compare(f"same_files: {words}: a pipe", program.run(*words), refused)
         with Terminal() as terminal:
             ended = program.run(*words, stdout=terminal.end)
-            tally.compare(f"same_files: {words}: a terminal", (ended, terminal.close()), (refused._replace(out=None), b""))
+            tally.compare(f"same_files: {words}: a terminal", (ended, terminal.close()),
+                          (refused._replace(out=None), b""))
         with Terminal() as terminal:
             words[words.index("/dev/stdout")] = terminal.name
             plain = program.run(*words)

@@ -97,11 +97,14 @@ def select(program, tally, _):
         rows.gives(f"names: {name}", arguments("aag", f"{options} --names names"), text, source=DESIGN,
                    names=names)
     for name, options, names in UNNAMED:
-        rows.refuses(f"names: {name}", arguments("aag", f"{options} --names names"), "names: lines", source=data(DESIGN),
+        rows.refuses(f"names: {name}", arguments("aag", f"{options} --names names"), "names: lines",
+                     source=data(DESIGN),
                      names=names)
-    rows.gives("names: of no property", arguments("aig", "--names names"), "aig 1 1 0 0 0\n", source="aag 1 1 0 0 0\n2\n",
+    rows.gives("names: of no property", arguments("aig", "--names names"), "aig 1 1 0 0 0\n",
+               source="aag 1 1 0 0 0\n2\n",
                names=b"")
-    rows.refuses("names: a property that is not there", arguments("aag", "--property 3 --names names"), "select: property",
+    rows.refuses("names: a property that is not there", arguments("aag", "--property 3 --names names"),
+                 "select: property",
                  source=data(DESIGN), names=b"")
     rows.refuses("names: no circuit", arguments("aag", "--names names"), "circuit: text at 0", source="", names=b"")
     rows.fails("names: no file", f"select --to aag --names nowhere {EXAMPLES}/wraps.aag", "names")
@@ -109,7 +112,8 @@ def select(program, tally, _):
         for to in ("aag", "aig"):
             rows.refuses(f"{name}, to {to}", arguments(to, options), "select: property", source=data(circuit))
     for fault, circuit in (("text at 0", ""), ("cycle 2", TEXTS["cycle"]), ("counts", "aag 1 2 0 0 0\n")):
-        rows.refuses(f"a circuit with the fault {fault}", arguments("aag", "--property 7"), f"circuit: {fault}", source=circuit)
+        rows.refuses(f"a circuit with the fault {fault}", arguments("aag", "--property 7"), f"circuit: {fault}",
+                     source=circuit)
     rows.fails("no file", "select --to aag nowhere", "circuit")
     for words in WORDS:
         ended = program.run(*arguments("aag", words))

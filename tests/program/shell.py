@@ -28,7 +28,8 @@ ANSWERS = (
     ("frames", "set 11 push 1\nset 3-1 push 1\nset a push 1\nset 01 push 1\nshow full @\nshow full @5-99\n",
      "no: no frame 11: the last is 10\nno: 3-1 holds no frame\nno: a is no frame\nno: 01 is no frame\n"
      "no:  is no frame\nno: no frame 99: the last is 10\n"),
-    ("a refused span sets no frame", "set 1-99 push 0\nshow push @1\n", "no: no frame 99: the last is 10\nframe 1\npush  1\n"),
+    ("a refused span sets no frame", "set 1-99 push 0\nshow push @1\n",
+     "no: no frame 99: the last is 10\nframe 1\npush  1\n"),
     ("values", "set 3 din 1ff\nset 3 din zz\nset 3 din 4'h3\nset 3 din x'h3\nset 3 push 10\nset 3 din 8'b1\nset 3 count 10\n",
      "no: 1ff is over 8 bits\nno: zz is no value of 8 bits\nno: 4'h3 has 4 bits, not 8\nno: x'h3 is no value of 8 bits\n"
      "no: 10 is over 1 bit\nno: 8'b1 is no value of 8 bits\nno: count is no input\n"),
@@ -38,7 +39,8 @@ ANSWERS = (
      "din          a5       a5 1010x101 1010x101        x       a5\n"
      "din[0]        1        1        1        1        x        1\n"
      "din[7]        1        1        1        1        x        1\n"),
-    ("a value that could be binary", "start count 1010\n", "no: 1010 is over 4 bits (hexadecimal; 4'b1010 is binary)\n"),
+    ("a value that could be binary", "start count 1010\n",
+     "no: 1010 is over 4 bits (hexadecimal; 4'b1010 is binary)\n"),
     ("a vector where a bit is wanted", "gate din\nnew din 4\n",
      "no: din has 8 bits; name one, such as din[0]\nno: din has 8 bits; name one, such as din[0]\n"),
     ("other kinds", "set 1 full 1\nstart push 1\nout push 4\nwitness f push\n",
@@ -64,7 +66,8 @@ ESCAPES = ("\x1b[31mf", "\x1b]0;f\x07", "\x7ff", "\x9bf", "\x08f")
 REPEATED = (("witness {}", "b0 at 10: {}\n"), ("wave n/{}", "no: n/{} is not written: No such file or directory\n"),
             ("save a n/{}", "no: n/{} is not written: No such file or directory\n"),
             ("start count f", ""), ("save a {}", "{} has no start of latches; witness FILE has\n"),
-            ("show {}", "no: no name {}\n"), ("names {}", "no: no name contains {}\n"), ("gate {} 4 5", "no: no name {}\n"),
+            ("show {}", "no: no name {}\n"), ("names {}", "no: no name contains {}\n"),
+            ("gate {} 4 5", "no: no name {}\n"),
             ("set 0 push {}", "no: {} is no value of 1 bit\n"), ("set {} push 1", "no: {} is no frame\n"),
             ("{}", "no: no command {}; help lists the commands\n"), ("why full {}", "no: {} is no frame\n"),
             ("add {}", "no: {} is no number of frames\n"))
@@ -124,7 +127,8 @@ class Sessions:
 
     def ends(self):
         self.tally.compare("shell: an edited run", self.run("set 9 push 0\n"), Ended(0, b"unsaved: run\n", b""))
-        self.tally.compare("shell: what is unsaved", self.run("set 9 push 0\nnew 4 6\nquit\nshow\nquit\nquit\nshow\n"), Ended(
+        self.tally.compare("shell: what is unsaved", self.run("set 9 push 0\nnew 4 6\nquit\nshow\nquit\nquit\nshow\n"),
+                           Ended(
             0, b"1244\nunsaved: circuit and run; quit again to leave\nno: usage: show NAME .. [@A-B]\n"
             b"unsaved: circuit and run; quit again to leave\n", b""))
         self.tally.compare("shell: no run", self.run("show full\nadd\nshow rst\nwhy\n", "queue.aig"), Ended(
@@ -136,7 +140,8 @@ class Sessions:
         self.tally.compare("shell: names that come twice", self.run("names\n", "twins.aag"), Ended(
             0, b"a both b more\n", b""))
         for words, wanted in (
-                (("nix.aig",), input_or_output("circuit")), (("queue.aig", "queue.wit"), refused("stimulus: length of line 1")),
+                (("nix.aig",), input_or_output("circuit")), (("queue.aig", "queue.wit"),
+                                                             refused("stimulus: length of line 1")),
                 (("--witness", "queue.aig", "cache.wit"), refused("witness: text"))):
             self.tally.compare(f"shell: {' '.join(words)}", self.run("show full\n", *words), wanted)
         self.tally.compare("shell: a witness that is missing", self.run("", "--witness", "queue.aig").status, 2)
@@ -172,7 +177,8 @@ class Sessions:
                                          stdout=terminal.end)
                 seen = terminal.close()
             wanted = "".join(answer.replace("{}", shown) for _, answer in REPEATED) + "unsaved: run\n"
-            self.tally.compare(f"shell: a terminal gets {shown}", (ended.status, ended.err, seen.decode()), (0, b"", wanted))
+            self.tally.compare(f"shell: a terminal gets {shown}", (ended.status, ended.err, seen.decode()),
+                               (0, b"", wanted))
 
 
 def shell(program, tally, _):

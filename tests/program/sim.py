@@ -39,9 +39,10 @@ FAILURES = (
     ("stimulus", ("one_gate nowhere", "one_gate .", "cycle nowhere", ". nowhere")),
 )
 
-# Inputs, latches and outputs at which a trace line, or a field of one, is spelled in another way: lines of 63, 64 and 65
-# bytes, and fields of 31, 32 and 33 literals, and of 256 and 257.
-WIDTHS = ((20, 10, 19), (20, 10, 20), (20, 10, 21), (59, 0, 0), (60, 0, 0), (61, 0, 0), (0, 30, 0), (0, 31, 0), (31, 31, 31),
+# Inputs, latches and outputs at which a trace line, or a field of one, is spelled in another way: lines of 63, 64 and
+# 65 bytes, and fields of 31, 32 and 33 literals, and of 256 and 257.
+WIDTHS = ((20, 10, 19), (20, 10, 20), (20, 10, 21), (59, 0, 0), (60, 0, 0), (61, 0, 0), (0, 30, 0), (0, 31, 0),
+          (31, 31, 31),
           (32, 32, 32), (33, 33, 33), (1, 256, 31), (31, 257, 256))
 
 
@@ -53,7 +54,8 @@ def wide(inputs, latches, outputs):
     nexts = [(lits[i % inputs] if inputs else lit) + i % 2 for i, lit in enumerate(states)]
     shown = [(nexts[i % latches] if latches else lits[i % inputs]) ^ (i // 7 % 2) for i in range(outputs)]
     text = [f"aag {inputs + latches} {inputs} {latches} {outputs} 0", *map(str, lits[:inputs])]
-    text += [f"{lit} {after} {'01'[i % 3 == 1] if i % 3 < 2 else lit}" for i, (lit, after) in enumerate(zip(states, nexts))]
+    text += [f"{lit} {after} {'01'[i % 3 == 1] if i % 3 < 2 else lit}" for i,
+             (lit, after) in enumerate(zip(states, nexts))]
     text += map(str, shown)
     rows = ["".join("01x"[(i * i + frame) % 3] for i in range(inputs)) for frame in range(2)]
     state, trace = "".join("01x"[i % 3] for i in range(latches)), []

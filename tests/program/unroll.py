@@ -39,7 +39,8 @@ MAPS = (
     ("inputs and frames", 2, "guarded", "i 0 0 0 \ni 1 0 1 \ni 2 1 0 \ni 3 1 1 \n"),
     ("names and starts", 2, "starts", "i 0 0 0 in\ni 1 0 1 \ni 2 1 0 in\ni 3 1 1 \nl 4 1 \nl 5 3 free one\n"),
     ("12 frames", 12, "bad_input", "".join(f"i {at} {at} 0 \n" for at in range(12))),
-    ("12 frames, names and starts", 12, "starts", "".join(f"i {2 * at} {at} 0 in\ni {2 * at + 1} {at} 1 \n" for at in range(12))
+    ("12 frames, names and starts", 12, "starts",
+     "".join(f"i {2 * at} {at} 0 in\ni {2 * at + 1} {at} 1 \n" for at in range(12))
      + "l 24 1 \nl 25 3 free one\n"),
     ("400 frames", 400, "bad_input", "".join(f"i {at} {at} 0 \n" for at in range(400))),
 )
@@ -110,8 +111,8 @@ def over_its_circuit(rows):
 
 
 def recipe(rows):
-    """The recipe that makes a witness of a row: of all rows of a circuit, those give one that by the plain simulator reach
-    its bad state at some frame, and it is confirmed."""
+    """The recipe that makes a witness of a row: of all rows of a circuit, those give one that by the plain simulator
+    reach its bad state at some frame, and it is confirmed."""
     write("old.aag", RUN)
     write("unrolled.aag", rows.program.run("unroll", "--frames", "3", "--to", "aag", "old.aag").out)
     parts = reference.Parts(contents("unrolled.aag").decode())

@@ -76,7 +76,8 @@ HEADERS = (
     ("bytes that are no visible ASCII", (b"\tx\r", b"\x00\x1f\x7f\x80\xff", "\u00e9t\u00e9".encode(), b"!\"#~", b"#0"),
      ("! _x_", '" _____', "# __t__", '$ !"#~', "% #0")),
     ("colons", (b"queue.v:37", b":", b"a:b:c", b"$assert$q.v:3$4", b"a[3:0]", b"a[1:0]:", b"::.:x"),
-     ("+ queue", "! v_37", "-", '" _', "# a_b_c", "+ _assert$q", "$ v_3$4", "-", "% a[3_0]", "& a[1_0]_", "+ __", "' _x",
+     ("+ queue", "! v_37", "-", '" _', "# a_b_c", "+ _assert$q", "$ v_3$4", "-", "% a[3_0]", "& a[1_0]_", "+ __",
+      "' _x",
       "-")),
     ("a $ at the front of a piece", (b"$end", b"$$", b"a$", b"$u.$q", b"$u", b"$scope $end"),
      ("! _end", '" _$', "# a$", "+ _u", "$ _q", "-", "% _u", "& _scope", "& _end")),
@@ -192,7 +193,8 @@ def wave(program, tally, _):
     rows.gives("the example of FORMATS.md", "wave described rows", DESCRIBED_DUMP, described=DESCRIBED, rows="x\n1\n")
     rows.gives("a latch of two names, and an input that changes", "wave two_names rows",
                FRONT + scope("inputs", "wire", ("!", "en"))
-               + scope("latches", "reg", ('"', "_count"), ('"', "0")) + BEHIND + '#0\n$dumpvars\nx!\n0"\n$end\n#1\n1!\n#2\n',
+               + scope("latches", "reg", ('"', "_count"), ('"',
+                                                           "0")) + BEHIND + '#0\n$dumpvars\nx!\n0"\n$end\n#1\n1!\n#2\n',
                two_names="aag 2 1 1 0 0\n2\n4 4\ni0 en\nl0 $count 0\n", rows="x\n1\n")
     document = contents(REPOSITORY + "/docs/FORMATS.md").decode()
     indented = "".join(f"    {line}\n" for line in DESCRIBED_DUMP.splitlines())

@@ -1,11 +1,11 @@
-"""Rows of `aig why`: explanations by hand, names, refusals, and random circuits beside a plain explainer. For a witness,
-the values that an explanation names are given to `aig check` without the others: the run is confirmed, or lacks a
-constraint."""
+"""Rows of `aig why`: explanations by hand, names, refusals, and random circuits beside a plain explainer. For a
+witness, the values that an explanation names are given to `aig check` without the others: the run is confirmed, or
+lacks a constraint."""
 
 import random
 import re
 
-from library.causes import Names, explained, resets_of
+from library.causes import Asked, Names, explained, resets_of
 from library.circuits import write_all
 from library.reference import Parts
 from library.runs import EXAMPLES, EXPECTED, contents, refused, write
@@ -36,9 +36,11 @@ WITNESSES = (
     ("a start", SHIFT, "1/b0/01/x/./", "", "at 0, by start: q=2'b1?/"),
     ("an input one frame before", SHIFT, "1/b0/0x/1/x/x/./", "--of q[1]",
      "q=2'b1? at 2, by 1: q=2'b?1/q=2'b?1 at 1, by 0: d=1/"),
-    ("a depth", SHIFT, "1/b0/0x/1/x/x/./", "--of q[1] --depth 1", "q=2'b1? at 2, by 1: q=2'b?1/at 1, not explained: q=2'b?1/"),
+    ("a depth", SHIFT, "1/b0/0x/1/x/x/./", "--of q[1] --depth 1",
+     "q=2'b1? at 2, by 1: q=2'b?1/at 1, not explained: q=2'b?1/"),
     ("no depth", SHIFT, "1/b0/0x/1/x/x/./", "--of q[1] --depth 0", "at 2, not explained: q=2'b1?/"),
-    ("a frame", SHIFT, "1/b0/0x/1/x/x/./", "--of q --frame 1", "q=2'h1 at 1, by 0: d=1 q=2'b?0/at 0, by reset: q=2'b?0/"),
+    ("a frame", SHIFT, "1/b0/0x/1/x/x/./", "--of q --frame 1",
+     "q=2'h1 at 1, by 0: d=1 q=2'b?0/at 0, by reset: q=2'b?0/"),
     ("a value that is kept", KEPT, "1/b0/10////./", "", "late=1 at 2, by 1: early=1/at 0, by start: early=1/"),
     ("a reset and a start", KEPT, "1/b0/10/./".replace("/10/", "/x0//"), "--of late", "at 0, by reset: late=0/"),
 )
@@ -50,7 +52,8 @@ STIMULI = (
     ("an uninitialised latch", SHIFT, "0/", "--of b0", "at 0, by start: q=2'bx?/"),
     ("the negation of an uninitialised latch", SHIFT, "0/", "--of !b0", "!b0=x at 0: q=2'bx?/at 0, by start: q=2'bx?/"),
     ("a vector that is x", "aag 2 2 0 0 0/2/4/i0 a[0]/i1 a[1]/", "xx/", "--of a", "a=x at 0: a=x/"),
-    ("a vector from another bit than 0", "aag 2 2 0 0 0/2/4/i0 a[3]/i1 a[4]/", "10/", "--of a[4:3]", "a[4:3]=2'h1 at 0: a[4:3]=2'h1/"),
+    ("a vector from another bit than 0", "aag 2 2 0 0 0/2/4/i0 a[3]/i1 a[4]/", "10/", "--of a[4:3]",
+     "a[4:3]=2'h1 at 0: a[4:3]=2'h1/"),
 )
 
 
@@ -78,7 +81,8 @@ def why(program, tally, _):
 
 def queue(rows):
     """The overflow of the queue, and what the page on behaviour shows of it."""
-    rows.gives("the queue", ["why", "--witness", f"{EXAMPLES}/queue.aig", f"{EXAMPLES}/queue.wit"], contents(f"{EXPECTED}/queue.why"))
+    rows.gives("the queue", ["why", "--witness", f"{EXAMPLES}/queue.aig", f"{EXAMPLES}/queue.wit"],
+               contents(f"{EXPECTED}/queue.why"))
     shown = [(command, text) for command, text in steps("docs/BEHAVIOUR.md") if command.startswith("aig why ")]
     for command, text in shown:
         rows.gives(f"docs/BEHAVIOUR.md: {command}", command.replace("examples/", f"{EXAMPLES}/").split()[1:], text)
@@ -97,7 +101,8 @@ def refusals(rows):
     rows.refuses("a faulty circuit", "why --of b0 cycle rows", "circuit: cycle 2")
     rows.refuses("a faulty stimulus", "why --of b0 circuit faulty", "stimulus: length of line 1", faulty="1\n")
     rows.refuses("a faulty witness", "why --witness circuit faulty", "witness: text", faulty="1\nb0\n\n1\n.\n")
-    rows.refuses("a property that is not there", "why --witness circuit faulty", "witness: property", faulty="1\nb1\n\n11\n.\n")
+    rows.refuses("a property that is not there", "why --witness circuit faulty", "witness: property",
+                 faulty="1\nb1\n\n11\n.\n")
     rows.refuses("a stimulus in place of a witness", "why --witness circuit rows", "witness: text")
     rows.refuses("over the cells of a bench", "why --of 0 many deep", "bench: limit", deep="\n" * 17)
     rows.fails("no circuit", "why --of b0 nowhere rows", "circuit")
@@ -131,7 +136,8 @@ def circuit_at_random(rng):
         for position in range(count):
             if rng.randrange(4):
                 words = rng.choice((f"q[{position + first + rng.choice((0, 0, 0, 1))}]",
-                                    f"q[{position + first}] w[{rng.randrange(4)}]", f"n{position} again", f"a\t{position}"))
+                                    f"q[{position + first}] w[{rng.randrange(4)}]", f"n{position} again",
+                                    f"a\t{position}"))
                 body.append(f"{letter}{position} {letter}_{words}")
     head = f"aag {greatest} {inputs} {latches} 3 {gates} 2 {constraints}"
     return "".join(f"{line}\n" for line in [head, *body])
@@ -143,7 +149,8 @@ def at_random(rows, tally):
         text = circuit_at_random(rng)
         parts = Parts(text)
         run = ["".join(rng.choices("01x", (4, 4, 1), k=len(parts.inputs))) for _ in range(rng.randrange(1, 6))]
-        start = "".join(rng.choice("01x") if reset > 1 or rng.randrange(10) == 0 else str(reset) for _, _, reset in parts.latches)
+        start = "".join(rng.choice("01x") if reset > 1 or rng.randrange(10) == 0 else str(reset) for _, _,
+                        reset in parts.latches)
         write("circuit", text)
         write("rows", "".join(f"{row}\n" for row in run))
         write("witness", "\n".join(["1", "b1", start, *run, "."]) + "\n")
@@ -152,9 +159,9 @@ def at_random(rows, tally):
             options = ["--of", name, "--frame", str(frame), *(["--depth", str(depth)] if depth is not None else [])]
             note = f"case {number}, {options}"
             rows.gives(f"{note}, a stimulus", ["why", *options, "circuit", "rows"],
-                       explained(text, resets_of(parts), run, name, frame, depth))
+                       explained(text, resets_of(parts), run, Asked(name, frame, depth)))
             rows.gives(f"{note}, a witness", ["why", *options, "--witness", "circuit", "witness"],
-                       explained(text, start, run, name, frame, depth))
+                       explained(text, start, run, Asked(name, frame, depth)))
         named_alone(rows, tally, number, text, run)
 
 
@@ -168,7 +175,8 @@ def named_alone(rows, tally, number, text, run):
     said = rows.run("why", "--witness", "circuit", "reached")
     write("named", "\n".join(["1", bad, *values_named(text, said.out.decode(), start, kept), "."]) + "\n")
     verdict = rows.run("check", "circuit", "named").out.decode()
-    tally.check(f"why: case {number}, the named values alone", re.match("confirmed|constraint", verdict), (said, verdict))
+    tally.check(f"why: case {number}, the named values alone", re.match("confirmed|constraint", verdict),
+                (said, verdict))
 
 
 # The frame that the causes of a line are of, or the starts.

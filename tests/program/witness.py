@@ -9,6 +9,10 @@ from program.rows import Rows
 TWO = "aag 3 2 0 0 1 2 1\n2\n4\n4\n2\n7\n6 4 2\n"
 # Latches that start at 0, at 1 and at any value; the property is that the second one and the input are 1.
 RESETS = "aag 5 1 3 0 1 1\n2\n4 2\n6 6 1\n8 8 8\n10\n10 6 2\n"
+# The same, where the property is that the third one is 1 too.
+BEHIND = "aag 6 1 3 0 2 1\n2\n4 2\n6 6 1\n8 8 8\n12\n10 6 2\n12 10 8\n"
+# Three inputs, of which the second is the property.
+SECOND = "aag 3 3 0 0 0 1\n2\n4\n6\n4\n"
 # A latch without a reset that takes the input, as the property.
 FREE = "aag 2 1 1 0 0 1\n2\n4 2 4\n4\n"
 # No inputs: a latch that is 0 and then 1, as the property, and one that follows it.
@@ -66,7 +70,8 @@ REFUSALS = (
 # A name of the row, options, the circuit, a solver's model of the formula, and what is written. Variable 2 is the first
 # input at frame 0; the inputs of the frames and then the free latches follow.
 MODELS = (
-    ("cadical's form", "--frames 2", "bad_input", "c an answer\ns SATISFIABLE\nv -1 -2 3 0\nc done\n", "1\nb0\n\n0\n1\n.\n"),
+    ("cadical's form", "--frames 2", "bad_input", "c an answer\ns SATISFIABLE\nv -1 -2 3 0\nc done\n",
+     "1\nb0\n\n0\n1\n.\n"),
     ("picosat's form", "--frames 2", "bad_input", "s SATISFIABLE\nv -1 2 -3 0\n", "1\nb0\n\n1\n.\n"),
     ("minisat's form", "--frames 2", "bad_input", "SAT\n-1 -2 3 0\n", "1\nb0\n\n0\n1\n.\n"),
     ("cryptominisat's form", "--frames 2", "bad_input", "s SATISFIABLE\nv -1 -2 \nv 3 \nv 0\n", "1\nb0\n\n0\n1\n.\n"),
@@ -77,7 +82,9 @@ MODELS = (
     ("the start of a free latch", "--frames 2", FREE, "-1 -2 -3 4 0", "1\nb0\n1\n0\n.\n"),
     ("a free latch that starts at 0", "--frames 2", FREE, "-1 2 -3 -4 0", "1\nb0\n0\n1\n0\n.\n"),
     ("a free latch that is not named", "--frames 2", FREE, "2 0", "1\nb0\nx\n1\nx\n.\n"),
-    ("a free latch behind others", "--frames 2", RESETS, "-2 3 4 0", "1\nb0\n011\n0\n1\n.\n"),
+    ("latches that nothing reads", "--frames 2", RESETS, "-2 3 0", "1\nb0\n01x\n0\n1\n.\n"),
+    ("inputs that nothing reads", "--frames 2", SECOND, "-2 3 0", "1\nb0\n\nx0x\nx1x\n.\n"),
+    ("a free latch behind others", "--frames 2", BEHIND, "-2 3 4 0", "1\nb0\n011\n0\n1\n.\n"),
     ("two free latches", "--frames 2", "aag 3 1 2 0 0 1\n2\n4 2 4\n6 4 6\n6\n", "-2 -3 4 -5 0", "1\nb0\n10\n0\n0\n.\n"),
     ("rows of two inputs", "--frames 2", "guarded", "-2 3 4 5 0", "1\nb0\n\n01\n11\n.\n"),
     ("the property that is named", "--frames 1 --property 1", TWO, "2 -3 0", "1\nb1\n\n10\n.\n"),
@@ -85,7 +92,8 @@ MODELS = (
     ("no inputs", "--frames 3", TOGGLES, "-1 0\n", "1\nb0\n0\n\n\n.\n"),
 )
 
-# Models of the formula of bad_input and two frames, which has three variables, and why they are refused.
+# Models and why they are refused: of the formula of bad_input and two frames, which has three variables, and of that of a
+# run of one frame of an input as the constraint, which has four. LAST is the last one, and one more.
 BAD_MODELS = (
     ("no model", "s UNSATISFIABLE\n", "unsatisfiable"),
     ("no model, after a comment, and more", "c why\nUNSATISFIABLE\nv 9 0\n", "unsatisfiable"),
@@ -93,7 +101,7 @@ BAD_MODELS = (
     ("no answer", "s UNKNOWN\n", "unknown"),
     ("no answer of minisat", "INDETERMINATE\n", "unknown"),
     ("no text", "", "text at 0"),
-    ("a variable over the last", "-1 -2 4 0\n", "text at 6"),
+    ("a variable over the last", "-1 -2 LAST 0\n", "text at 6"),
     ("a variable with both signs", "-1 1 0\n", "text at 3"),
     ("no 0 at the end", "-1 -2 3\n", "text at 8"),
     ("a literal after the 0", "0\n3\n", "text at 2"),
@@ -115,8 +123,8 @@ BAD_MODELS = (
 DELAY = "aag 2 1 1 0 0 1\n2\n4 2\n4\n"
 KEEPS = "aag 2 0 2 0 0 1\n2 2\n4 2\n4\n"
 
-# A name of the row, options, the circuit, a solver's model of the formula of the induction step, what is written, and the
-# verdict on it. After variable 1 come the inputs of one frame more, and then all latches.
+# A name of the row, options, the circuit, a solver's model of the formula of the induction step, what is written, and
+# the verdict on it. After variable 1 come the inputs of one frame more, and then all latches.
 STEP_MODELS = (
     ("a step from the resets", "--frames 1", DELAY, "2 -3 -4 0", "1\nb0\n0\n1\n0\n.\n", "confirmed"),
     ("a step of two frames", "--frames 2", DELAY, "-2 3 -4 -5 0", "1\nb0\n0\n0\n1\n0\n.\n", "confirmed"),
@@ -127,19 +135,22 @@ STEP_MODELS = (
     ("a step that reaches the property at once", "--frames 1", DELAY, "4 0", "1\nb0\n1\nx\n.\n", "initial 0"),
 )
 
-# The constraint is the input; the latch, which keeps any value; one of two inputs; the input and a latch that starts at 1.
+# The constraint is the input; the latch, which keeps any value; one of two inputs; that one of two is 0; the input and a
+# latch that starts at 1.
 KEEPS_INPUT = "aag 1 1 0 0 0 0 1\n2\n2\n"
 KEEPS_LATCH = "aag 1 0 1 0 0 0 1\n2 2 2\n2\n"
 KEEPS_SECOND = "aag 2 2 0 0 0 1 1\n2\n4\n2\n4\n"
+KEEPS_EITHER = "aag 3 2 0 0 1 0 1\n2\n4\n7\n6 4 2\n"
 KEEPS_BOTH = "aag 3 1 2 0 0 1 2\n2\n4 4 1\n6 2 6\n2\n2\n4\n"
 
 # A name of the row, the frames, the circuit, a solver's model of the formula of cnf --alive, and what is written.
 ALIVE_MODELS = (
     ("a run of one frame", 1, KEEPS_INPUT, "s SATISFIABLE\nv -1 2 0\n", "1\nb0\n\n1\n.\n"),
     ("a run of two frames", 2, KEEPS_INPUT, "2 3 0", "1\nb0\n\n1\n1\n.\n"),
-    ("inputs that are not named", 2, KEEPS_SECOND, "3 5 -4 0", "1\nb0\n\nx1\n01\n.\n"),
+    ("inputs that are not read", 2, KEEPS_SECOND, "2 3 0", "1\nb0\n\nx1\nx1\n.\n"),
+    ("inputs that are not named", 2, KEEPS_EITHER, "-2 -5 0", "1\nb0\n\n0x\nx0\n.\n"),
     ("a start that the model names", 2, KEEPS_LATCH, "2 0", "1\nb0\n1\n\n\n.\n"),
-    ("a start by the resets", 2, KEEPS_BOTH, "2 3 -4 0", "1\nb0\n10\n1\n1\n.\n"),
+    ("a start by the resets", 2, KEEPS_BOTH, "2 3 0", "1\nb0\n1x\n1\n1\n.\n"),
     ("no constraint", 3, "bad_input", "0\n", "1\nb0\n\nx\nx\nx\n.\n"),
 )
 
@@ -204,11 +215,13 @@ def alive_models(rows):
         write("model", model)
         rows.refuses(name, f"witness --alive --model model --frames {frames} circuit", "witness: no run")
     for name, model, fault in BAD_MODELS:
-        write("model", model)
-        rows.refuses(f"{name}, of a run", "witness --alive --frames 2 --model model bad_input", f"model: {fault}")
+        write("model", model.replace("LAST", "5"))
+        rows.refuses(f"{name}, of a run", "witness --alive --frames 1 --model model kept_input", f"model: {fault}",
+                     kept_input=KEEPS_INPUT)
     for name, words, fault in ALIVE_REFUSALS:
         rows.refuses(name, f"witness --alive --model model {words}", fault)
-    for words in ("--alive", "--alive --model model", "--alive --frames 1", "--alive --model model --frames 1 --property 0",
+    for words in ("--alive", "--alive --model model", "--alive --frames 1",
+                  "--alive --model model --frames 1 --property 0",
                   "--alive --model model --frames 1 --step", "--alive --model model --certificate bad_input"):
         got = rows.run("witness", *words.split(" "), "bad_input")
         rows.tally.check(f"witness: {words}", got.status == 2 and not got.out, got)
@@ -228,7 +241,7 @@ def models(rows):
         write("found", text)
         rows.gives(f"{name}, checked", f"check {file} found", "confirmed\n")
     for name, model, fault in BAD_MODELS:
-        write("model", model)
+        write("model", model.replace("LAST", "4"))
         rows.refuses(name, "witness --frames 2 --model model bad_input", f"model: {fault}")
     write("model", "-2 0\n")
     for name, words, fault in MODEL_REFUSALS:

@@ -56,7 +56,8 @@ def words(program, tally, _):
     write_all()
     for word in ("--help", "-h", "help"):
         tells(rows, [word], contents(f"{EXPECTED}/help/aig.txt"))
-    for command in ("toaig", "sim", "wave", "bench", "unroll", "check", "cnf", "info", "select", "cut", "witness", "refute",
+    for command in ("toaig", "sim", "wave", "bench", "unroll", "check", "cnf", "info", "select", "cut", "witness",
+                    "refute",
                     "reduce", "why", "strengthen"):
         for asked in ([command, "--help"], [command, "-h"], ["help", command]):
             tells(rows, asked, contents(f"{EXPECTED}/help/{command}.txt"))

@@ -79,8 +79,8 @@ def families():
 
 
 def added_variables(program, tally, _):
-    """Refutations after bounded variable addition and then a search, each step as library/plain_checker.py marks it; those
-    of a formula without a clause, where a search finds an assignment, are refused."""
+    """Refutations after bounded variable addition and then a search, each step as library/plain_checker.py marks it;
+    those of a formula without a clause, where a search finds an assignment, are refused."""
     rng, refused = random.Random(1), 0
     for name, variables, clauses in families():
         for style in STYLES:
@@ -91,7 +91,8 @@ def added_variables(program, tally, _):
             for (form, _), line, text in zip(SPELLINGS, lines, texts):
                 tally.compare(f"{name}, {style}, {form}", line, line_of(clauses, text))
                 is_right = WRONG not in line.partition(" ")[0] and line.endswith(REFUTED)
-                tally.check(f"{name}, {style}, {form}: is right, on first literals", is_right and ON_FIRST in line, line)
+                tally.check(f"{name}, {style}, {form}: is right, on first literals", is_right and ON_FIRST in line,
+                            line)
             for place in rng.sample(range(len(clauses)), 8):
                 less = without(clauses, place)
                 if searched(less) is None:
@@ -107,8 +108,8 @@ def chain(length, *more):
 
 
 def tables(program, tally, _):
-    """As many clauses as the table of deletions has room for, one fewer and one more; 16,000 variables of a proof's own,
-    in a row and far apart, up to 2,147,483,647."""
+    """As many clauses as the table of deletions has room for, one fewer and one more; 16,000 variables of a proof's
+    own, in a row and far apart, up to 2,147,483,647."""
     for length in (1023, 1024, 1025, 2047, 2048, 2049, 4096, 4097):
         whole, end = [-1, length], [1, length + 1]
         clauses = chain(length, end, [-length, length + 1])
@@ -122,8 +123,8 @@ def tables(program, tally, _):
 
 
 def many_names(program, tally):
-    """Variables of its own that are far apart or in a row. Each is made true, which no clause forbids. Then each is true,
-    and none may be made false."""
+    """Variables of its own that are far apart or in a row. Each is made true, which no clause forbids. Then each is
+    true, and none may be made false."""
     rng = random.Random(1)
     names = [*rng.sample(range(70_000, MOST), 10_000), *range(3, 5_000), *range(65_000, 66_000), MOST]
     first = [(False, [name]) for name in names]

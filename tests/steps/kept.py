@@ -51,21 +51,26 @@ def kept(program, tally, _):
         tally.compare(f"kept: {name}, the plain checker", line_of(clauses, proofs[0]), wanted)
         form = next((form for form, begins in OF_CADICAL.items() if name.startswith(begins)), None)
         if form:
-            needs_all(program, tally, name, variables, clauses, proofs)
+            needs_all(program, tally, name, (variables, clauses), proofs)
         if form and form not in met:
             met.add(form)
             wrong = [*broken(dict(SPELLINGS)[form](steps))]
-            stays_open(program, tally, f"{name}: broken", variables, clauses[:-1], wrong)
+            stays_open(program, tally, f"{name}: broken", (variables, clauses[:-1]), wrong)
 
 
-def needs_all(program, tally, name, variables, clauses, proofs):
+def needs_all(program, tally, name, formula, proofs):
     """A proof of cadical needs the last clause, and the formula needs the proof."""
-    stays_open(program, tally, f"{name}: without the last clause", variables, clauses[:-1], proofs)
-    stays_open(program, tally, f"{name}: without a step", variables, clauses, [b""], OPEN)
+    variables, clauses = formula
+    stays_open(program, tally, f"{name}: without the last clause", (variables, clauses[:-1]), proofs)
+    opened(tally, f"{name}: without a step", lines_of(program, [case(variables, clauses, b"")]), OPEN)
 
 
-def stays_open(program, tally, name, variables, clauses, proofs, end=""):
-    """No proof refutes the formula; each line ends as is wanted."""
-    lines = lines_of(program, [case(variables, clauses, proof) for proof in proofs])
+def stays_open(program, tally, name, formula, proofs):
+    """No proof refutes the formula."""
+    opened(tally, name, lines_of(program, [case(*formula, proof) for proof in proofs]), "")
+
+
+def opened(tally, name, lines, end):
+    """No line says that the formula is refuted; each ends as is wanted."""
     wrong = [line for line in lines if line.endswith(REFUTED) or not line.endswith(end)]
     tally.check(f"kept: {name}", not wrong, wrong[:1])

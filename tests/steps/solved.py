@@ -27,7 +27,8 @@ def solved(program, tally, _):
     if not shutil.which("cadical"):
         raise LeftOut("cadical is missing: apt-get install cadical")
     rng, satisfiable, on_first = random.Random(1), 0, 0
-    for name, variables, clauses in (("pigeons in 9 holes", *pigeons(9)[:2]), ("at most one, 32 rows", *at_most_one(32, 1))):
+    for name, variables, clauses in (("pigeons in 9 holes", *pigeons(9)[:2]),
+                                     ("at most one, 32 rows", *at_most_one(32, 1))):
         for style in STYLES:
             added = Added(variables, clauses, style)
             status = cadical(added.variables, [*added.clauses], "--no-binary")

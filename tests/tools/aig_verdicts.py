@@ -113,7 +113,8 @@ def hints(tally):
         run(source, *words, out=f"{name}_lrat")
         tally.compare(f"hints: {name}", judged(f"{name}_lrat"), judged(f"{name}_drat"))
         for row in manifest_of(f"{name}_lrat")["rows"]:
-            proofs = {role: file for role, file in row.get("files", {}).items() if role not in ("witness", "certificate")}
+            proofs = {role: file for role, file in row.get("files", {}).items() if role not in ("witness",
+                                                                                                "certificate")}
             tally.check(f"hints: {name}: {row['position']}", all(it.endswith(".lrat") for it in proofs.values()), row)
             roles |= set(proofs)
     tally.compare("hints: of each kind", roles & {*PROOFS}, {*PROOFS})

@@ -1,6 +1,6 @@
-"""Certificates by `aig-verdicts`, and by hand. For each property of the designs it says what ABC says, and holds where `pdr`
-proves it. Where it made a certificate, the circuit and the formula of that are those of library/certificate.py. It goes from
-induction to a certificate. The certificates of `examples/` are right."""
+"""Certificates by `aig-verdicts`, and by hand. For each property of the designs it says what ABC says, and holds where
+`pdr` proves it. Where it made a certificate, the circuit and the formula of that are those of library/certificate.py.
+It goes from induction to a certificate. The certificates of `examples/` are right."""
 
 import itertools
 import os
@@ -13,7 +13,7 @@ from library import supervised
 from library.certificate import formula, strengthened
 from library.plain_reader import in_order, spelled
 from library.runs import DESIGNS, EXAMPLES, Ended, write
-from tools.external import LOGIC, Tools, parts_of
+from tools.external import LOGIC, Tools, Trial, parts_of
 from tools.proofs import UNSATISFIABLE, Property, circuits
 from tools.table import table
 
@@ -46,22 +46,24 @@ def designs(program, tally, tools):
         found = {row.position: row for row in table(program, "bad.aig", "--out", "found", "--frames", "1").rows}
         for place in range(properties):
             asked = f"certificates: {name}, property {place}"
-            reached, is_proved = Property(program, tally, tools, {}, name, place).opinion()
+            reached, is_proved = Property(Trial(program, tally, tools, {}), name, place).opinion()
             tally.check(f"{asked}: ABC", is_proved or reached is not None, tools.last_lines())
             counts["proved" if is_proved else "reached"] += 1
             row = found[f"b{place}"]
             tally.compare(asked, row.words, "holds" if is_proved else "fails")
             if row.by == "invariant":
                 counts["certified"] += 1
-                same_bytes(program, tally, asked, "bad.aig", f"found/{place}.cert.aag", place)
+                same_bytes(program, tally, asked, ("bad.aig", f"found/{place}.cert.aag"), place)
     least = sum(PROVED_DESIGNS.values())
     is_enough = counts["proved"] > least and counts["reached"] > 0 and counts["certified"] >= 5
     tally.check("certificates: properties of each kind", is_enough, counts)
     return counts
 
 
-def same_bytes(program, tally, asked, model, certificate, place=0):
-    """The strengthened circuit and the formula are those of library/certificate.py to the byte."""
+def same_bytes(program, tally, asked, files, place=0):
+    """The strengthened circuit and the formula of a model and a certificate are those of library/certificate.py to the
+    byte."""
+    model, certificate = files
     circuit = strengthened(parts_of(model), place, parts_of(certificate))
     words = ["--certificate", certificate, "--property", str(place), model]
     for to, parts in (("aag", circuit), ("aig", in_order(circuit))):
@@ -86,7 +88,8 @@ def ways(program, tally):
     """What `aig-verdicts` says, and how it ends, where it proves a property and where it does not."""
     def compare(name, status, said, *words):
         found = table(program, *words, "--out", re.sub(r"\W", "_", name))
-        tally.compare(f"certificates: {name}", (found.status, [(row.words, row.by) for row in found.rows]), (status, said))
+        tally.compare(f"certificates: {name}", (found.status, [(row.words, row.by) for row in found.rows]),
+                      (status, said))
 
     ring, wraps = f"{EXAMPLES}/ring.aag", f"{EXAMPLES}/wraps.aag"
     compare("induction of the ring", PROVED, [("holds", "induction of 3")], ring, "--abc", "")
@@ -121,15 +124,17 @@ def free_starts(program, tally):
 
 
 def shipped(program, tally):
-    """The certificates of `examples/`: cadical's proof is taken, one of fewer claims is refused; and the least induction."""
+    """The certificates of `examples/`: cadical's proof is taken, one of fewer claims is refused; and the least
+    induction."""
     for name, least in SHIPPED:
         circuit, file = f"{EXAMPLES}/{name}.aag", f"{EXAMPLES}/{name}.cert.aag"
         tally.compare(f"certificates: {name}", refuted(program, circuit, file), Ended(0, b"unreachable\n", b""))
-        same_bytes(program, tally, f"certificates: {name}", circuit, file)
+        same_bytes(program, tally, f"certificates: {name}", (circuit, file))
         fewer = program.run("select", "--to", "aag", "--property", "0", file)
         write("fewer.aag", fewer.out)
         ended = refuted(program, circuit, "fewer.aag")
-        tally.compare(f"certificates: {name}, the first claim alone", ended, Ended(1, b"", b"aig: proof: no refutation\n"))
+        tally.compare(f"certificates: {name}, the first claim alone", ended,
+                      Ended(1, b"", b"aig: proof: no refutation\n"))
         steps_refuted = [solved(program, "cnf", "--step", "--frames", str(frames), circuit) == UNSATISFIABLE
                          for frames in range(1, least + 1)]
         tally.compare(f"certificates: {name}, induction", steps_refuted, [False] * (least - 1) + [True])

@@ -5,6 +5,7 @@ import re
 import shutil
 import subprocess
 import sys
+from typing import Any, Dict, NamedTuple
 
 from library import supervised
 from library.plain_reader import Reader, spelled
@@ -13,6 +14,15 @@ from library.runs import DESIGNS, contents, write
 LOGIC = "opt -full; techmap; opt -fast; dffunmap; abc -g AND -fast; opt_clean"
 # Designs with outputs that may be taken for bad states, and how they are read.
 FORMAL = ("counter -formal", "shift_register -formal", "fifo -formal", "arbiter")
+
+
+class Trial(NamedTuple):
+    """The program, the tally of its checks, the other tools, and what was counted so far."""
+
+    program: Any
+    tally: Any
+    tools: Any
+    counts: Dict[str, int]
 
 
 class Tools:

@@ -1,5 +1,5 @@
-"""Rows that ABC's `sat` finds for unrolled designs of Yosys, each made a witness by the recipe of docs/FORMATS.md: each is
-confirmed."""
+"""Rows that ABC's `sat` finds for unrolled designs of Yosys, each made a witness by the recipe of docs/FORMATS.md: each
+is confirmed."""
 
 import os
 import re
@@ -7,7 +7,7 @@ import re
 from library.plain_reader import spelled
 from library.recipes import make_witness
 from library.runs import Ended, contents, write
-from tools.external import FORMAL, Tools, parts_of, with_bad
+from tools.external import FORMAL, Tools, Trial, parts_of, with_bad
 
 FRAMES = 12
 
@@ -22,7 +22,7 @@ def maps(program, tally, _):
             continue
         for place in range(len(parts.outputs)):
             for is_free in (False, True):
-                counts["free"] += is_free * of_output(program, tally, tools, counts, f"{design}, output {place}",
+                counts["free"] += is_free * of_output(Trial(program, tally, tools, counts), f"{design}, output {place}",
                                                       started(with_bad(parts, place), is_free))
     tally.check("maps: rows were found, some with free latches", counts["found"] > counts["free"] > 0, counts)
     return f"{counts['found']} rows, {counts['free']} of them for circuits with free latches: "
@@ -37,8 +37,9 @@ def started(parts, is_free):
     return parts._replace(latches=latches)
 
 
-def of_output(program, tally, tools, counts, name, parts):
+def of_output(trial, name, parts):
     """Checks the witnesses of all frames at which ABC finds a row; how many there are."""
+    program, tally, tools, counts = trial
     write("old.aag", spelled(parts, "aag"))
     ended = program.run("unroll", "--frames", str(FRAMES), "--to", "aag", "old.aag")
     tally.check(f"maps: {name}", ended.status == 0, ended.err)

@@ -1,6 +1,6 @@
-"""Proofs that runs of a queue and a fifo reach no bad state, which cadical does not write by itself: those after bounded
-variable addition (library/families.py), and those of cryptominisat, in FRAT, made DRAT by the script of FORMATS.md. The
-same proofs are refused of a property that a run reaches."""
+"""Proofs that runs of a queue and a fifo reach no bad state, which cadical does not write by itself: those after
+bounded variable addition (library/families.py), and those of cryptominisat, in FRAT, made DRAT by the script of
+FORMATS.md. The same proofs are refused of a property that a run reaches."""
 
 import os
 import shutil

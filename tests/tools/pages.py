@@ -1,5 +1,5 @@
-"""Pages of `aig-verdicts` that Yosys and cadical took part in, each picture beside the plain simulator and explainer; and a
-hostile page in Chromium."""
+"""Pages of `aig-verdicts` that Yosys and cadical took part in, each picture beside the plain simulator and explainer;
+and a hostile page in Chromium."""
 
 import os
 import sys

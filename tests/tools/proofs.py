@@ -1,7 +1,7 @@
-"""Properties of Yosys designs by cadical's proofs, beside ABC's opinion. Where ABC's `bmc3` finds a run to a bad state at
-a frame, `aig refute` says that it is unreachable within the frames up to it, and never within more, whatever proof it is
-given. Where ABC's `pdr` proves that no run reaches it and an induction step of up to 20 frames has a proof, `aig refute
---step` says so of runs of any length, and never where there is a run."""
+"""Properties of Yosys designs by cadical's proofs, beside ABC's opinion. Where ABC's `bmc3` finds a run to a bad state
+at a frame, `aig refute` says that it is unreachable within the frames up to it, and never within more, whatever proof
+it is given. Where ABC's `pdr` proves that no run reaches it and an induction step of up to 20 frames has a proof, `aig
+refute --step` says so of runs of any length, and never where there is a run."""
 
 import os
 import re
@@ -12,7 +12,7 @@ import sys
 from library import supervised
 from library.plain_reader import in_order, spelled
 from library.runs import DESIGNS, EXAMPLES, Ended, write
-from tools.external import FORMAL, LOGIC, Tools, parts_of, with_bad
+from tools.external import FORMAL, LOGIC, Tools, Trial, parts_of, with_bad
 
 MOST = 20
 SATISFIABLE, UNSATISFIABLE = 10, 20  # cadical's statuses
@@ -27,7 +27,7 @@ def proofs(program, tally, _):
     counts = {"reached": 0, "proved": 0, "by induction": 0, "proofs": 0, "refused": 0}
     for name, properties in circuits(tally, tools):
         for place in range(properties):
-            Property(program, tally, tools, counts, f"{name}, property {place}", place).checks()
+            Property(Trial(program, tally, tools, counts), f"{name}, property {place}", place).checks()
         tally.check(f"proofs: {name} has properties", properties > 0)
     tally.check("proofs: properties of each kind", min(counts.values()) > 0, counts)
     return (f"{counts['reached']} properties that runs reach, {counts['proved']} that pdr proves, {counts['by induction']} of "
@@ -54,8 +54,8 @@ def circuits(tally, tools):
 class Property:
     """A property of `bad.aig`."""
 
-    def __init__(self, program, tally, tools, counts, name, place):
-        self.program, self.tally, self.tools, self.counts = program, tally, tools, counts
+    def __init__(self, trial, name, place):
+        self.program, self.tally, self.tools, self.counts = trial
         self.name, self.place = name, str(place)
 
     def checks(self):

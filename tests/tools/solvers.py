@@ -1,8 +1,8 @@
-"""SAT solvers on the formulas of `aig cnf`, beside ABC's opinion, for each property of the designs and 1 to 30 frames. The
-formula is satisfiable exactly where ABC's `bmc3` finds a run to a bad state within these frames. `aig witness --model`
-makes a witness of each model, which `aig check` confirms, and again after `aig reduce`. `aig refute` takes each proof of
-cadical. Each model of an induction step becomes a witness of as many frames and one more, which `aig check` confirms for
-the circuit in which all latches are uninitialised."""
+"""SAT solvers on the formulas of `aig cnf`, beside ABC's opinion, for each property of the designs and 1 to 30 frames.
+The formula is satisfiable exactly where ABC's `bmc3` finds a run to a bad state within these frames. `aig witness
+--model` makes a witness of each model, which `aig check` confirms, and again after `aig reduce`. `aig refute` takes
+each proof of cadical. Each model of an induction step becomes a witness of as many frames and one more, which `aig
+check` confirms for the circuit in which all latches are uninitialised."""
 
 import re
 import shutil
@@ -12,7 +12,7 @@ import sys
 from library import supervised
 from library.plain_reader import spelled
 from library.runs import Ended, contents, write
-from tools.external import Tools, parts_of
+from tools.external import Tools, Trial, parts_of
 from tools.proofs import circuits
 
 FRAMES = 30
@@ -33,16 +33,16 @@ def solvers(program, tally, _):
         sys.exit("no solver is installed: apt-get install cadical picosat minisat cryptominisat")
     tools = Tools()
     counts = {"satisfiable": 0, "unsatisfiable": 0, "proofs": 0, "steps": 0}
+    trial = Trial(program, tally, found, counts)
     for name, properties in circuits(tally, tools):
         write("any.aag", from_any_state(program))
         for place in range(properties):
             for frames in range(1, STEPS + 1):
-                fail_step(program, tally, found, counts, f"solvers: {name}, property {place}, a step of {frames}", place, frames)
+                fail_step(trial, f"solvers: {name}, property {place}, a step of {frames}", place, frames)
             reached = first_reached(program, tools, place)
             for frames in range(1, FRAMES + 1):
                 title = f"solvers: {name}, property {place}, {frames} frames"
-                ask_each(program, tally, found, counts, title, str(place), frames,
-                         reached is not None and reached < frames)
+                ask_each(trial, title, asked_of(place, frames), reached is not None and reached < frames)
     tally.check("solvers: formulas of each kind", min(counts.values()) > 0 or "cadical" not in found, counts)
     return (f"{', '.join(found)}: {counts['satisfiable']} models and {counts['unsatisfiable']} formulas without one, "
             f"{counts['proofs']} proofs taken, {counts['steps']} models of steps: ")
@@ -56,9 +56,14 @@ def from_any_state(program):
     return spelled(parts._replace(latches=latches), "aag")
 
 
-def fail_step(program, tally, found, counts, title, place, frames):
+def asked_of(place, frames):
+    return "--frames", str(frames), "--property", str(place)
+
+
+def fail_step(trial, title, place, frames):
     """The run by which an induction step fails, of each solver's model."""
-    asked = ("--frames", str(frames), "--property", str(place))
+    program, tally, found, counts = trial
+    asked = asked_of(place, frames)
     write("f.cnf", program.run("cnf", "--step", *asked, "bad.aig").out)
     for name, words in found.items():
         done = supervised.run(words, stdin=subprocess.DEVNULL, stdout=subprocess.PIPE, stderr=subprocess.DEVNULL,
@@ -83,8 +88,8 @@ def first_reached(program, tools, place):
     return int(asserted[1]) if asserted else None
 
 
-def ask_each(program, tally, found, counts, title, place, frames, is_reached):
-    asked = ("--frames", str(frames), "--property", place)
+def ask_each(trial, title, asked, is_reached):
+    program, tally, found, counts = trial
     write("f.cnf", program.run("cnf", *asked, "bad.aig").out)
     for name, words in found.items():
         done = supervised.run(words, stdin=subprocess.DEVNULL, stdout=subprocess.PIPE, stderr=subprocess.DEVNULL,
@@ -102,7 +107,7 @@ def ask_each(program, tally, found, counts, title, place, frames, is_reached):
             if name == "cadical":
                 counts["proofs"] += 1
                 tally.compare(f"{title}: proof", program.run("refute", *asked, "bad.aig", "f.drat"),
-                              Ended(0, f"unreachable within {frames}\n".encode(), b""))
+                              Ended(0, f"unreachable within {asked[1]}\n".encode(), b""))
 
 
 def confirm(program, tally, title, ended):

@@ -1,5 +1,5 @@
-"""Traces of Yosys: `yosys-witness` makes witnesses of those of its own model checker, which asks another solver and knows no
-AIGER, and `check` confirms them. A reduced one becomes a trace, and the same witness again."""
+"""Traces of Yosys: `yosys-witness` makes witnesses of those of its own model checker, which asks another solver and
+knows no AIGER, and `check` confirms them. A reduced one becomes a trace, and the same witness again."""
 
 import os
 import shutil

@@ -44,7 +44,8 @@ def of_design(program, tally, file, jobs):
         if place:
             tally.check(f"verdicts: {row.name}", "assert" in lines[int(place[1]) - 1], lines[int(place[1]) - 1])
         for witness in (file for file in row.files if file.endswith(".wit")):
-            tally.compare(f"verdicts: {name}, {witness}", program.run("check", f"{name}/circuit.aig", f"{name}/{witness}"),
+            tally.compare(f"verdicts: {name}, {witness}", program.run("check", f"{name}/circuit.aig",
+                                                                      f"{name}/{witness}"),
                           Ended(0, b"confirmed\n", b""))
 
 

@@ -10,7 +10,7 @@ from library import reference
 from library.plain_reader import in_order, spelled
 from library.recipes import find_witness, solve_witness
 from library.runs import DESIGNS, EXAMPLES, Ended, contents, write
-from tools.external import FORMAL, LOGIC, Tools, parts_of, with_bad
+from tools.external import FORMAL, LOGIC, Tools, Trial, parts_of, with_bad
 
 # Designs with uninitialised latches, their bad states, and those that no run reaches.
 FREE = ((f"{EXAMPLES}/queue.v", 2, {1}), (f"{DESIGNS}/unwritten.v", 4, set()))
@@ -19,16 +19,17 @@ FREE = ((f"{EXAMPLES}/queue.v", 2, {1}), (f"{DESIGNS}/unwritten.v", 4, set()))
 def witnesses(program, tally, _):
     tools = Tools()
     counts = {"found": 0, "turned": 0, "still": 0, "free": 0}
+    trial = Trial(program, tally, tools, counts)
     for design in FORMAL:
         parts = tools.formal_text(design)
         if parts is None:
             tally.check(f"witnesses: yosys {design}", False, tools.last_lines())
             continue
         for place in range(len(parts.outputs)):
-            of_output(program, tally, tools, counts, f"{design}, output {place}", with_bad(parts, place))
+            of_output(trial, f"{design}, output {place}", with_bad(parts, place))
     tally.check("witnesses: values that are turned", counts["found"] > 0 and counts["still"] < counts["turned"], counts)
     for file, bad, unreached in FREE:
-        uninitialised(program, tally, tools, counts, file, bad, unreached)
+        uninitialised(trial, file, bad, unreached)
     return (f"{counts['found']} witnesses; of {counts['turned']} with one value turned {counts['still']} still reach "
             f"the bad state; {counts['free']} witnesses of designs with uninitialised latches: ")
 
@@ -42,7 +43,8 @@ def found(program, tools, number):
     return os.path.exists("cex.txt"), said
 
 
-def of_output(program, tally, tools, counts, name, parts):
+def of_output(trial, name, parts):
+    program, tally, tools, counts = trial
     write("bad.aag", spelled(parts, "aag"))
     write("old.aig", spelled(in_order(parts), "aig"))
     is_found, _ = found(program, tools, 0)
@@ -67,9 +69,10 @@ def of_output(program, tally, tools, counts, name, parts):
             tally.check(f"witnesses: {name}, value {place} of frame {frame} turned", is_right, got)
 
 
-def uninitialised(program, tally, tools, counts, file, bad, unreached):
+def uninitialised(trial, file, bad, unreached):
     """A design that keeps its uninitialised latches: the recipe with a SAT solver gives a confirmed witness of each bad
     state that a run reaches."""
+    program, tally, tools, counts = trial
     name = os.path.basename(file).removesuffix(".v")
     if not tools.yosys(f"read_verilog -sv -formal {file}; prep -flatten -top {name}; async2sync; memory_map; {LOGIC}; "
                        "write_aiger -symbols design.aig"):

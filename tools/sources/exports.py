@@ -10,10 +10,8 @@ from __future__ import annotations
 import re
 from typing import Iterator, List, NamedTuple, Optional, Set, Tuple
 
+from sources.clauses import Clause, braces, signature, stripped
 from sources.specs import ROOT, Known, imports
-
-# A clause: its head, as `ensures kept`, and its text in braces.
-Clause = Tuple[str, str]
 
 
 class Block(NamedTuple):
@@ -26,9 +24,9 @@ class Block(NamedTuple):
 
 
 class Export(NamedTuple):
-    """A function, method or law with its clauses, or a type, a trait or an implementation with what contracts see of it.
-    `bound` are the names of the parameters, `types` are all names in the signature, and `known` says what the imports of
-    the file mean."""
+    """A function, method or law with its clauses, or a type, a trait or an implementation with what contracts see of
+    it. `bound` are the names of the parameters, `types` are all names in the signature, and `known` says what the
+    imports of the file mean."""
 
     crate: str
     module: str
@@ -50,7 +48,6 @@ PLAIN = re.compile(r"pub (?:const|type) (\w+)")
 NAMED = re.compile(r"(?m)^pub (?:struct|enum|trait|const|type|(?:extern \"C\" )?fn) (\w+)")
 HELD = re.compile(r"(?m)^(?:pub(?:\(\w+\))? )?(?:struct|enum|trait|const|type|(?:extern \"C\" )?fn) (\w+)")
 USED = re.compile(r"pub use (?:crate::)?((?:\w+::)*\w+)::(?:\{([\w\s,]*)\}|(\w+));")
-CLAUSE = re.compile(r"\s*\b((?:requires|ensures)\b[^{;]*?)\s*\{")
 
 # What a block says for its own proofs.
 UNSEEN = ("invariant", "inverse_ok", "also_owns")
@@ -62,21 +59,6 @@ def crates() -> List[str]:
     names = [line.partition(":")[0].split()[0] for line in lines]
     return [name for name in names
             if (ROOT / "crates" / name / "src" / "lib.rt").exists() and not name.endswith(("_tests", "_examples"))]
-
-
-def braces(text: str, at: int) -> str:
-    """Returns the text from a brace to the one that closes it."""
-    depth = 0
-    for end in range(at, len(text)):
-        depth += (text[end] == "{") - (text[end] == "}")
-        if not depth:
-            return text[at : end + 1]
-    return text[at:]
-
-
-def stripped(text: str) -> str:
-    """Returns a text without the blanks at the edges of its lines."""
-    return "\n".join(line.strip() for line in text.split("\n") if line.strip())
 
 
 def sentence(lines: List[str]) -> str:
@@ -96,24 +78,6 @@ def doc_above(lines: List[str], number: int) -> str:
             break
     found.reverse()
     return sentence(found[: found.index("")] if "" in found else found)
-
-
-def signature(text: str, start: int) -> Tuple[str, List[Clause]]:
-    """Returns the head of the function that begins at a place, and its clauses."""
-    depth, at = 0, start
-    stop = re.compile(r"\s*(?:[{;]|\b(?:requires|ensures)\b)")
-    while depth or not stop.match(text, at):
-        depth += (text[at] in "([") - (text[at] in ")]")
-        at += 1
-    indent = start - text.rindex("\n", 0, start) - 1
-    head, clauses = text[start:at].replace("\n" + " " * indent, "\n"), []
-    while True:
-        found = CLAUSE.match(text, at)
-        if not found:
-            return head, clauses
-        clause = braces(text, found.end() - 1)
-        clauses.append((found[1], stripped(clause)))
-        at = found.end() - 1 + len(clause)
 
 
 def seen(text: str, start: int) -> List[Clause]:

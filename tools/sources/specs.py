@@ -15,7 +15,8 @@ from typing import Dict, Iterable, Iterator, List, NamedTuple, Optional, Set, Tu
 
 ROOT = pathlib.Path(__file__).resolve().parent.parent.parent
 NAME = r"[^\s(){}\[\],;.:`'\"|]+'*"
-IMPORT = re.compile(r"(?m)^\s*(?:ghost )?(?:pub )?use Rattle\.(\w+)\.specs\.([\w.]+?)(?:\.\{([^}]*)\}|\s+as\s+(\w+))?;?\s*$")
+IMPORT = re.compile(r"(?m)^\s*(?:ghost )?(?:pub )?use Rattle\.(\w+)\.specs\.([\w.]+?)"
+                    r"(?:\.\{([^}]*)\}|\s+as\s+(\w+))?;?\s*$")
 ITEM = re.compile(rf"^(?:(?:abbrev|unfoldable|opaque|pub)\s+)*(?:(data|record)\s+)?({NAME})")
 
 # A definition by its crate, its module and its name; an alias of a module has no name.

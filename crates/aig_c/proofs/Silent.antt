@@ -20,7 +20,7 @@ use Rattle.aig_commands.specs.Check.{Checks, RefusesWitness}
 use Rattle.aig_commands.specs.Cnf.{WritesAsked}
 use Rattle.aig_commands.specs.Cut.{WritesCut}
 use Rattle.aig_commands.specs.Info.{ListsFacts}
-use Rattle.aig_commands.specs.ModelWitness.{WritesModel, WritesNamed, names, no_formula, no_model}
+use Rattle.aig_commands.specs.ModelWitness.{WritesModel, WritesReached, names, no_formula, no_model, rows_named, start_named}
 use Rattle.aig_commands.specs.Names.{ListsNames}
 use Rattle.aig_commands.specs.Questions.{Asked, NamesFor, NamesQuestion, OfSubject, RefutesFor, RefutesQuestion}
 use Rattle.aig_commands.specs.Questions.{WritesFor, WritesQuestion, certificate_of, heading_of}
@@ -124,26 +124,28 @@ writes_for (headings.Certified p) raw = formula (headings.Certified p) (inductio
 pub writes : (asked : Asked) (file : List ℕ) → Silent (WritesQuestion asked file)
 writes asked file = of_subject (WritesFor (heading_of asked)) (writes_for (heading_of asked)) (certificate_of asked) file
 
-named : (k p : ℕ) (values : List Tern) (raw : Raw) → Silent (WritesNamed k p values raw)
-named k p values raw (run_faults.Reach reaches.NoRun) bytes m = m.1
-named k p values raw (run_faults.Reach reaches.Memory) bytes m = m
-named k p values raw fault bytes m = absurd m
+reached : (raw : Raw) (p : ℕ) (start : List Tern) (rows : List (List Tern)) → Silent (WritesReached raw p start rows)
+reached raw p start rows (run_faults.Reach reaches.NoRun) bytes m = m.1
+reached raw p start rows (run_faults.Reach reaches.Memory) bytes m = m
+reached raw p start rows fault bytes m = absurd m
 
 model : (query : Query) (text : List ℕ) (raw : Raw) → Silent (WritesModel query text raw)
 model query text raw fault bytes (no_formula why refused) = refl
-model query text raw fault bytes (no_model why has refused) = refl
-model query text raw fault bytes (names values answer bytes' has is m) =
-    named (depth query) query.property values (subject query.goal raw) fault bytes m
+model query text raw fault bytes (no_model read why has is refused) = refl
+model query text raw fault bytes (names read values answer bytes' has is of_model m) =
+    reached (subject query.goal raw) query.property (start_named raw read (depth query) values)
+    (rows_named raw read (depth query) values) fault bytes m
 
-kept : (k : ℕ) (values : List Tern) (raw : Raw) → Silent (WritesKept k values raw)
-kept k values raw (run_faults.Reach reaches.NoRun) bytes m = m.1
-kept k values raw (run_faults.Reach reaches.Memory) bytes m = m
-kept k values raw fault bytes m = absurd m
+kept : (raw : Raw) (k : ℕ) (start : List Tern) (rows : List (List Tern)) → Silent (WritesKept raw k start rows)
+kept raw k start rows (run_faults.Reach reaches.NoRun) bytes m = m.1
+kept raw k start rows (run_faults.Reach reaches.Memory) bytes m = m
+kept raw k start rows fault bytes m = absurd m
 
 alive_model : (k : ℕ) (text : List ℕ) (raw : Raw) → Silent (WritesAliveModel k text raw)
 alive_model k text raw fault bytes (WritesAliveModel.no_formula why refused) = refl
-alive_model k text raw fault bytes (WritesAliveModel.no_model why has refused) = refl
-alive_model k text raw fault bytes (WritesAliveModel.names values answer bytes' has is m) = kept k values raw fault bytes m
+alive_model k text raw fault bytes (WritesAliveModel.no_model read why has is refused) = refl
+alive_model k text raw fault bytes (WritesAliveModel.names read values answer bytes' has is of_model m) =
+    kept raw k (start_named raw read k values) (rows_named raw read k values) fault bytes m
 
 names_for : (asked : Heading) (text : List ℕ) (raw : Raw) → Silent (NamesFor asked text raw)
 names_for (headings.Runs query) text raw = model query text raw

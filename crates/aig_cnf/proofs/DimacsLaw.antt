@@ -16,22 +16,24 @@ use Rattle.aig_parts.specs.declared.symbols.Kind.{Kind}
 use Rattle.aig_parts.specs.declared.symbols.Kind.TheVariants as kinds
 use Rattle.aig_base.specs.Circuit.{IsCircuit}
 use Rattle.aig_base.specs.Order.{IsCanonicalOrder}
-use Rattle.aig_cnf.specs.Alive.{HasAliveFormula, IsAliveFormulaOf, always_bad}
+use Rattle.aig_base.specs.Part.{part}
+use Rattle.aig_cnf.specs.Alive.{always_bad}
 use Rattle.aig_cnf.specs.Answers.{HasFormula}
-use Rattle.aig_cnf.specs.CnfText.{cnf_text, goal_line, goal_lines}
+use Rattle.aig_cnf.specs.CnfText.{goal_line, goal_lines, read_text}
 use Rattle.aig_cnf.specs.Dimacs.{formula_text, literal_text, sign_text}
 use Rattle.aig_cnf.specs.DimacsRead.{read_formula}
-use Rattle.aig_cnf.specs.Formula.{Cnf, IsFormulaOf, all_but_last, cone, first_reached, formula_of, gate_clauses}
+use Rattle.aig_cnf.specs.Formula.{Cnf, all_but_last, cone, first_reached, formula_of, gate_clauses}
 use Rattle.aig_cnf.specs.Formula.{goal_clauses, implies, last_alone, start_literals}
 use Rattle.aig_cnf.specs.Heading.{asked_options, goal_option, heading}
 use Rattle.aig_cnf.specs.Query.{depth, from_any_state, last, subject}
+use Rattle.aig_cnf.specs.ReadFormula.{HasReadAliveFormula, HasReadFormula, IsReadAliveOf, IsReadOf, ReadCnf, marked, of_part}
 use Rattle.aig_cnf.specs.declared.heading.Heading.{Heading}
 use Rattle.aig_cnf.specs.declared.heading.Heading.TheVariants as headings
 use Rattle.aig_cnf.specs.declared.query.Goal.{Goal}
 use Rattle.aig_cnf.specs.declared.query.Goal.TheVariants as asked
 use Rattle.aig_cnf.specs.declared.query.Query.{Query}
 use Rattle.aig_unroll.specs.InputMap.{Origin, input, start, is_input, is_latch, is_same, map_field, origin_line}
-use Rattle.aig_unroll.specs.InputMap.{origin_lines, origins, symbol_name_at}
+use Rattle.aig_unroll.specs.InputMap.{origin_lines, read_origins, symbol_name_at}
 use Rattle.aig_unroll.specs.Unrolled.{frames, unrolled}
 use Rattle.aig_unroll.proofs.UnrolledCircuit.{unrolled_circuit}
 use Rattle.aig_unroll.proofs.UnrolledReady.{IsReadyGate, gates_ready}
@@ -43,6 +45,8 @@ use Rattle.aig_cnf.proofs.DimacsLines.{HasLines, lines_none, lines_then, comment
 use Rattle.aig_cnf.proofs.DimacsReading.{AreBelow, reads_after}
 use Rattle.aig_cnf.proofs.FormulaText.{length-formula, length-goal_clauses}
 use Rattle.aig_cnf.proofs.GoalLemmas.{goals_below, length-goals}
+use Rattle.aig_cnf.proofs.PartCircuit.{part_circuit}
+use Rattle.aig_cnf.proofs.ReadFormulas.{part_fits}
 use Rattle.aig_cnf.proofs.SignLemmas.{signs}
 use Rattle.aig_cnf.proofs.StartLemmas.{all_uninitialised, few_starts, resets_below}
 
@@ -276,37 +280,58 @@ module _ (raw : Raw) (query : Query) (circuit : IsCircuit raw) (has : HasFormula
       let part = length-cone F.goals C.gates in
       omega (arith, all, most, part, unrolled_is.formed.counts.gates)
 
-  -- whatever circuit its comment lines are about
-  reads_text : (about : Raw) (head : Heading) → HaveNoEnd about.symbols
-      → read_formula (cnf_text about head F) ≡ Some (F.variables, length F.clauses, F.clauses)
-  reads_text about head no_end =
+  -- whatever circuit its comment lines are about, and whichever inputs they name
+  reads_text : (about : Raw) (head : Heading) (os : List Origin) → HaveNoEnd about.symbols
+      → read_formula (heading head about ++ (origin_lines (codes "c ") about 2 os
+      ++ (goal_lines F.goals ++ formula_text F.variables F.clauses)))
+      ≡ Some (F.variables, length F.clauses, F.clauses)
+  reads_text about head os no_end =
       let first : List ℕ = heading head about in
-      let inputs : List ℕ = origin_lines (codes "c ") about 2 (origins about (length F.goals)) in
+      let inputs : List ℕ = origin_lines (codes "c ") about 2 os in
       let text : List ℕ = formula_text F.variables F.clauses in
       ap (λ (t : List ℕ). read_formula (first ++ t)) (sym (append_assoc inputs (goal_lines F.goals) text))
       ∙ (ap read_formula (sym (append_assoc first (inputs ++ goal_lines F.goals) text))
       ∙ reads_after F.variables (omega (arith, unrolled_is.formed.counts.max_var)) (first ++ (inputs ++ goal_lines F.goals))
       F.clauses
       (lines_then first (inputs ++ goal_lines F.goals) [] [] (heading_skipped about no_end head)
-      (lines_then inputs (goal_lines F.goals) [] [] (origins_skipped about no_end 2 (origins about (length F.goals)))
+      (lines_then inputs (goal_lines F.goals) [] [] (origins_skipped about no_end 2 os)
       (goals_skipped F.goals))) few_clauses clauses_below)
 
 no_ends : (raw : Raw) → IsCircuit raw → HaveNoEnd raw.symbols
 no_ends raw circuit = All-weaker (IsSymbolOf raw) (λ s. HasNoEnd s.1) (λ s h. h.1.1) raw.symbols circuit.formed.symbols
 
-pub reads_formula : (raw : Raw) (query : Query) (head : Heading) (formula : Cnf) → IsCircuit raw → HasFormula raw query
-    → IsFormulaOf raw query formula
-    → read_formula (cnf_text (subject query.goal raw) head formula)
-    ≡ Some (formula.variables, length formula.clauses, formula.clauses)
-reads_formula raw query head formula circuit has (order, canonical, is) =
-    subst (λ (f : Cnf). read_formula (cnf_text (subject query.goal raw) head f)
-    ≡ Some (f.variables, length f.clauses, f.clauses)) (sym is)
-    (reads_text raw query circuit has order canonical (subject query.goal raw) head
-    (no_ends (subject query.goal raw) (subject_circuit query.goal raw circuit)))
+-- the formula of a query over the part, in the text for a circuit without such names
+reads_over : (raw about : Raw) (query : Query) (head : Heading) (read : ReadCnf) → IsCircuit raw → HaveNoEnd about.symbols
+    → HasReadFormula raw query → IsReadOf raw query read
+    → read_formula (read_text about head read)
+    ≡ Some (read.cnf.variables, length read.cnf.clauses, read.cnf.clauses)
+reads_over raw about query head read circuit no_end has is =
+    let test = marked read.marks in
+    let small : Raw = part raw is.bad test in
+    let has_small : HasFormula small (of_part query) = record {
+      frames = has.frames;
+      property = omega arith;
+      limits = part_fits raw query is has.limits;
+    } in
+    let (order, canonical, e) = is.cnf in
+    subst (λ (f : Cnf). read_formula (heading head about
+    ++ (origin_lines (codes "c ") about 2 (read_origins test about (length f.goals))
+    ++ (goal_lines f.goals ++ formula_text f.variables f.clauses)))
+    ≡ Some (f.variables, length f.clauses, f.clauses)) (sym e)
+    (reads_text small (of_part query) (part_circuit raw is.bad test is.marks.exact circuit query.property is.bad_is) has_small
+    order canonical about head
+    (read_origins test about (length (formula_of small order (of_part query)).goals)) no_end)
 
-pub reads_alive : (raw : Raw) (k : ℕ) (head : Heading) (formula : Cnf) → IsCircuit raw → HasAliveFormula raw k
-    → IsAliveFormulaOf raw k formula
-    → read_formula (cnf_text raw head formula) ≡ Some (formula.variables, length formula.clauses, formula.clauses)
-reads_alive raw k head formula circuit has (order, canonical, is) =
-    subst (λ (f : Cnf). read_formula (cnf_text raw head f) ≡ Some (f.variables, length f.clauses, f.clauses)) (sym is)
-    (reads_text (always_bad raw) (last k 0) (always_circuit raw circuit) has order canonical raw head (no_ends raw circuit))
+pub reads_read : (raw : Raw) (query : Query) (head : Heading) (read : ReadCnf) → IsCircuit raw → HasReadFormula raw query
+    → IsReadOf raw query read
+    → read_formula (read_text (subject query.goal raw) head read)
+    ≡ Some (read.cnf.variables, length read.cnf.clauses, read.cnf.clauses)
+reads_read raw query head read circuit has is =
+    reads_over raw (subject query.goal raw) query head read circuit
+    (no_ends (subject query.goal raw) (subject_circuit query.goal raw circuit)) has is
+
+pub reads_alive : (raw : Raw) (k : ℕ) (head : Heading) (read : ReadCnf) → IsCircuit raw → HasReadAliveFormula raw k
+    → IsReadAliveOf raw k read
+    → read_formula (read_text raw head read) ≡ Some (read.cnf.variables, length read.cnf.clauses, read.cnf.clauses)
+reads_alive raw k head read circuit has is =
+    reads_over (always_bad raw) raw (last k 0) head read (always_circuit raw circuit) (no_ends raw circuit) has is

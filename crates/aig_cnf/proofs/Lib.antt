@@ -9,9 +9,16 @@ pub mod DimacsLines
 pub mod DimacsReading
 pub mod FormulaText
 pub mod GoalLemmas
+pub mod PartCircuit
+pub mod PartLists
+pub mod PartReads
+pub mod Picked
+pub mod ReadFormulas
 pub mod ReadGates
+pub mod ReadMap
 pub mod ReadParts
 pub mod SignLemmas
 pub mod StartLemmas
+pub mod Sublists
 pub mod TermLemmas
 pub mod Thinned

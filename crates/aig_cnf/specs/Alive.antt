@@ -1,13 +1,10 @@
 -- The question whether a run keeps the constraints of a circuit (AIGER 1.9, invariant constraints; the formula is our
 -- own choice).
 -- Example: with the constraint 0, no assignment satisfies it.
-use Rattle.std.specs.Prelude.{ℕ, ◌≢◌, [], ◌∷◌, None}
+use Rattle.std.specs.Prelude.{ℕ, [], ◌∷◌, None}
 use Rattle.aig_parts.specs.declared.raw.Raw.{Raw}
-use Rattle.aig_cnf.specs.Answers.{HasFormula, RefusesFormula}
 use Rattle.aig_cnf.specs.Formula.{Cnf, IsFormulaOf}
 use Rattle.aig_cnf.specs.Query.{last}
-use Rattle.aig_cnf.specs.declared.fault.CnfFault.{CnfFault}
-use Rattle.aig_cnf.specs.declared.fault.CnfFault.TheVariants as faults
 
 -- the circuit in which every state is bad; it has no other property, and no name
 abbrev pub always_bad : Raw → Raw
@@ -18,11 +15,3 @@ always_bad raw =
 -- them.
 abbrev pub IsAliveFormulaOf : Raw → ℕ → Cnf → Type 0
 IsAliveFormulaOf raw k formula = IsFormulaOf (always_bad raw) (last k 0) formula
-
--- there is one
-abbrev pub HasAliveFormula : Raw → ℕ → Type 0
-HasAliveFormula raw k = HasFormula (always_bad raw) (last k 0)
-
--- there is none, for this reason; memory may run out in any case
-abbrev pub RefusesAlive : Raw → ℕ → CnfFault → Type 0
-RefusesAlive raw k fault = fault ≢ faults.Memory → RefusesFormula (always_bad raw) (last k 0) fault

@@ -5,10 +5,10 @@
 use Rattle.std.specs.Prelude.{ℕ, List, ◌++◌, length, codes, decimal, slice_index}
 use Rattle.aig_parts.specs.declared.raw.Raw.{Raw}
 use Rattle.aig_cnf.specs.Dimacs.{formula_text, literal_text}
-use Rattle.aig_cnf.specs.Formula.{Cnf}
 use Rattle.aig_cnf.specs.Heading.{heading}
 use Rattle.aig_cnf.specs.declared.heading.Heading.{Heading}
-use Rattle.aig_unroll.specs.InputMap.{origin_lines, origins}
+use Rattle.aig_cnf.specs.ReadFormula.{ReadCnf, marked}
+use Rattle.aig_unroll.specs.InputMap.{origin_lines, read_origins}
 use Rattle.aig_unroll.specs.Unrolled.{frames}
 
 -- the bad literal of frame t
@@ -19,10 +19,10 @@ goal_line l t = codes "c b " ++ (literal_text l ++ (decimal t ++ codes "\n"))
 abbrev pub goal_lines : List ℕ → List ℕ
 goal_lines goals = frames (λ t. goal_line (slice_index goals t) t) (length goals)
 
--- What was asked for; the inputs of the unrolled circuit, as its map has them, with their variables in the formula,
--- which count from 2; the bad literals; and the formula.
-abbrev pub cnf_text : Raw → Heading → Cnf → List ℕ
-cnf_text raw asked formula =
+-- What was asked for; the inputs of the unrolled part, with their positions and symbols in the whole circuit and their
+-- variables in the formula, which count from 2; the bad literals; and the formula.
+abbrev pub read_text : Raw → Heading → ReadCnf → List ℕ
+read_text raw asked read =
     heading asked raw
-    ++ (origin_lines (codes "c ") raw 2 (origins raw (length formula.goals))
-    ++ (goal_lines formula.goals ++ formula_text formula.variables formula.clauses))
+    ++ (origin_lines (codes "c ") raw 2 (read_origins (marked read.marks) raw (length read.cnf.goals))
+    ++ (goal_lines read.cnf.goals ++ formula_text read.cnf.variables read.cnf.clauses))

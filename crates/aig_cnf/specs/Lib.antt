@@ -6,4 +6,6 @@ pub mod DimacsRead
 pub mod Formula
 pub mod Heading
 pub mod Query
+pub mod ReadFormula
+pub mod ReadMap
 pub mod state

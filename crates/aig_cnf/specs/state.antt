@@ -3,4 +3,5 @@ pub mod Added
 pub mod Cones
 pub mod Kept
 pub mod Made
+pub mod Over
 pub mod Terms

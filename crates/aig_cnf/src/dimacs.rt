@@ -6,17 +6,15 @@ ghost use Rattle.std.specs.List.{flat_map};
 ghost use Rattle.aig_bytes.specs.Bytes.{Writes};
 ghost use Rattle.aig_bytes.specs.Gathered.{Gathers};
 ghost use Rattle.aig_bytes.specs.Term.{term_text};
-ghost use Rattle.aig_cnf.specs.CnfText.{cnf_text, goal_line, goal_lines};
+ghost use Rattle.aig_cnf.specs.CnfText.{goal_line, goal_lines};
 ghost use Rattle.aig_cnf.specs.Dimacs.{clause_text, formula_text, gate_text, literal_text, problem_line, sign_text};
 ghost use Rattle.aig_cnf.specs.Formula.{all_but_last, first_reached, goal_clauses, implies};
 ghost use Rattle.aig_cnf.specs.state.Kept.{IsShort};
 ghost use Rattle.aig_cnf.specs.state.Terms.{literal_term};
 
 use crate::formula::{Formula, last_of};
-use crate::heading::Heading;
 use crate::query::Goal;
-use aig_base::{Block, Circuit, Gate, Io, Lit, Term, Write, write_all};
-use aig_unroll::write_input_lines;
+use aig_base::{Block, Gate, Io, Lit, Term, Write, write_all};
 use itoa::Buffer;
 
 // Puts a minus where the literal is negated.
@@ -277,8 +275,8 @@ impl Formula {
         put_gates(out, block, gates)
     }
 
-    // Writes the comment lines of the bad literals, and the clauses.
-    fn write_goals_and_clauses<W: Write>(&self, out: &mut W) -> Result<(), Io>
+    /// Writes the comment lines of the bad literals, and the clauses.
+    pub(crate) fn write_goals_and_clauses<W: Write>(&self, out: &mut W) -> Result<(), Io>
         ensures { Writes W.written W.failures out.old out.new
             (goal_lines self.now.goals ++ formula_text self.now.variables self.now.clauses) result }
     {
@@ -287,18 +285,5 @@ impl Formula {
         put_problem(out, &mut block, self.variables(), self.clause_count())?;
         self.put_clauses(out, &mut block)?;
         write_all(out, block.as_slice())
-    }
-
-    /// Writes the formula in DIMACS, with comment lines that say what was asked for and what its variables are, for the
-    /// circuit that it was made of. The literal of a literal `l` of the unrolled circuit is `l / 2 + 1`, negative where
-    /// `l` is odd; variable 1 is false. `law_of_dimacs` says what a reader finds in the text. It takes no memory, and
-    /// writes the comment lines in small pieces: pass a writer that buffers them.
-    pub fn write<W: Write>(&self, circuit: &Circuit, asked: Heading, out: &mut W) -> Result<(), Io>
-        ensures { Writes W.written W.failures out.old out.new (cnf_text circuit.now asked self.now) result }
-    {
-        asked.write(circuit, out)?;
-        // The constant is variable 1, so the variable of the first input is 2.
-        write_input_lines(b"c ", circuit, 2, self.depth(), out)?;
-        self.write_goals_and_clauses(out)
     }
 }

@@ -77,7 +77,7 @@ fn depth_of(query: Query) -> u32
 }
 
 // Lets the circuit start where the goal does.
-fn set_start(circuit: &mut Circuit, goal: Goal)
+pub(crate) fn set_start(circuit: &mut Circuit, goal: Goal)
     ensures { circuit.new ≡ subject goal circuit.old }
 {
     match goal {

@@ -1,5 +1,5 @@
 -- A run that nothing breaks keeps all constraints, and one that something breaks does not.
-use Rattle.std.proofs.Common.{◌≡◌, ◌≢◌, ◌⊎◌, inl, inr, ℕ, ◌<◌, ◌≤◌, List, [], length, Contains, Option, None, Some, Result, Ok}
+use Rattle.std.proofs.Common.{◌≡◌, ◌≢◌, ◌↔◌, ◌⊎◌, inl, inr, ℕ, ◌<◌, ◌≤◌, List, [], length, Contains, Option, None, Some, Result, Ok}
 use Rattle.std.proofs.Common.{Err, refl, sym, ap, ◌∙◌, subst, arith}
 use Rattle.std.specs.Prelude.{IfErr, IfNone, IfSome}
 use Rattle.std.specs.Fmt.{decimal}
@@ -8,26 +8,30 @@ use Rattle.aig_parts.specs.declared.raw.Raw.{Raw}
 use Rattle.aig_parts.specs.declared.ternary.Tern.{Tern}
 use Rattle.aig_parts.specs.declared.ternary.Tern.TheVariants.{Zero, One, X}
 use Rattle.aig_base.specs.Circuit.{IsCircuit}
+use Rattle.aig_base.specs.Part.{TestsRead, part}
 use Rattle.aig_base.specs.Value.{Value, Fits}
 use Rattle.aig_base.proofs.lists.Positions.{Contains-from_slice_get, position_of}
 use Rattle.aig_base.proofs.values.OneValue.{exists_value}
 use Rattle.aig_base.proofs.values.UniqueValue.{unique}
+use Rattle.aig_cnf.specs.Alive.{always_bad}
+use Rattle.aig_cnf.specs.ReadFormula.{IsReadAliveOf, ReadCnf, marked}
 use Rattle.aig_values.specs.InputRows.{HaveWidth}
 use Rattle.aig_sim.specs.declared.witness.breaks.Break.{Break}
 use Rattle.aig_sim.specs.declared.witness.breaks.Break.TheVariants as breaks
 use Rattle.aig_sim.specs.declared.witness.reach_fault.ReachFault.{ReachFault}
 use Rattle.aig_sim.specs.declared.witness.reach_fault.ReachFault.TheVariants as reaches
-use Rattle.aig_sim.specs.Breaks.{Breaks, BreaksNothing, IsFirstBreak, SpellsRun, as_witness}
-use Rattle.aig_sim.specs.WitnessText.{IsDecimal, SpellsWitness, witness_text}
+use Rattle.aig_sim.specs.Breaks.{Breaks, BreaksNothing, IsFirstBreak, SpellsRun}
+use Rattle.aig_sim.specs.WitnessText.{IsDecimal, witness_text}
 use Rattle.aig_values.proofs.PropertyLines.{constraint_defined}
-use Rattle.aig_refute.specs.PartialModels.{inputs_in, named_rows, named_start}
+use Rattle.aig_refute.specs.PartialModels.{named_rows, named_start}
 use Rattle.aig_refute.specs.Satisfiable.{KeepsConstraints}
 use Rattle.aig_refute.proofs.Reached.{allowed_where_none}
-use Rattle.aig_refute.proofs.RowValues.{length-cut}
+use Rattle.aig_refute.proofs.SpreadRuns.{spread_keeps_alive}
 use Rattle.aig_command.specs.declared.run_fault.RunFault.TheVariants as run_faults
 use Rattle.aig_commands.specs.AliveWitness.{WritesKept}
 use Rattle.aig_commands.specs.CheckAlive.{SaysOfRun}
-use Rattle.aig_commands.proofs.NamedRuns.{named_start_length, named_widths}
+use Rattle.aig_commands.specs.ModelWitness.{rows_named, start_named}
+use Rattle.aig_commands.proofs.NamedRuns.{named_fits}
 use Rattle.aig_unroll.specs.FrameLiteral.{input_count}
 
 one_or_not : (w : Tern) → (w ≡ One) ⊎ (w ≢ One)
@@ -83,34 +87,52 @@ module _ (raw : Raw) (circuit : IsCircuit raw) (start : List Tern) (rows : List 
   says_of_run fits (Some reason) some none = some
 
 -- no witness is written
-pub kept_refused : {T : Type 0} (raw : Raw) (k : ℕ) (values : List Tern) (r : Result T ReachFault)
-    → (r ≡ Err reaches.NoRun → KeepsConstraints raw k (named_start raw k values) (named_rows raw k values) → ⊥)
-    → (r ≡ Err reaches.Property → ⊥) → IfErr r (λ fault. WritesKept k values raw (Err (run_faults.Reach fault)) [])
-kept_refused raw k values (Ok run) none never = tt
-kept_refused raw k values (Err reaches.NoRun) none never = (none refl, refl)
-kept_refused raw k values (Err reaches.Property) none never = absurd (never refl)
-kept_refused raw k values (Err reaches.Memory) none never = refl
+pub kept_refused : {T : Type 0} (raw : Raw) (k : ℕ) (start : List Tern) (rows : List (List Tern)) (r : Result T ReachFault)
+    → (r ≡ Err reaches.NoRun → KeepsConstraints raw k start rows → ⊥) → (r ≡ Err reaches.Property → ⊥)
+    → IfErr r (λ fault. WritesKept raw k start rows (Err (run_faults.Reach fault)) [])
+kept_refused raw k start rows (Ok run) none never = tt
+kept_refused raw k start rows (Err reaches.NoRun) none never = (none refl, refl)
+kept_refused raw k start rows (Err reaches.Property) none never = absurd (never refl)
+kept_refused raw k start rows (Err reaches.Memory) none never = refl
 
--- the witness of the run that values name, if it keeps all constraints
-pub spells_kept : (raw : Raw) (k : ℕ) (values start : List Tern) (rows : List (List Tern)) → 0 < k
-    → input_count raw k < length values → start ≡ named_start raw k values → rows ≡ named_rows raw k values
-    → KeepsConstraints raw k (named_start raw k values) (named_rows raw k values) → IsDecimal (decimal 0) 0
-    → WritesKept k values raw (Ok tt) (witness_text (decimal 0) start rows)
-spells_kept raw k values start rows some enough start_is rows_are kept position =
-    subst (λ (s : List Tern). WritesKept k values raw (Ok tt) (witness_text (decimal 0) s rows)) (sym start_is)
-    (subst (λ (r : List (List Tern)). WritesKept k values raw (Ok tt) (witness_text (decimal 0) (named_start raw k values) r))
-    (sym rows_are) (kept, spelled))
-  where
-    long : length (named_rows raw k values) ≡ k
-    long = length-cut (length raw.inputs) k (inputs_in raw k values)
+-- the witness of a run that keeps all constraints
+pub spells_kept : (raw : Raw) (k : ℕ) (wide start : List Tern) (wides rows : List (List Tern)) → 0 < k → start ≡ wide → rows ≡ wides
+    → KeepsConstraints raw k wide wides → IsDecimal (decimal 0) 0
+    → WritesKept raw k wide wides (Ok tt) (witness_text (decimal 0) start rows)
+spells_kept raw k wide start wides rows some start_is rows_are (fits, allowed, long, kept) position =
+    subst (λ (s : List Tern). WritesKept raw k wide wides (Ok tt) (witness_text (decimal 0) s rows)) (sym start_is)
+    (subst (λ (r : List (List Tern)). WritesKept raw k wide wides (Ok tt) (witness_text (decimal 0) wide r)) (sym rows_are) (
+      (fits, allowed, long, kept),
+      record {
+        start_is = fits.latches;
+        widths = fits.inputs;
+        some = λ none. omega (arith, long, some, ap length none);
+        digits = decimal 0;
+        position = position;
+        text_is = refl;
+      },
+    ))
 
-    spelled : SpellsWitness raw (witness_text (decimal 0) (named_start raw k values) (named_rows raw k values))
-        (as_witness (named_start raw k values) (named_rows raw k values))
-    spelled = record {
-      start_is = named_start_length raw k values;
-      widths = named_widths raw k values enough;
-      some = λ none. omega (arith, long, some, ap length none);
-      digits = decimal 0;
-      position = position;
-      text_is = refl;
-    }
+-- ---- the run that values name
+
+module _ (raw : Raw) (k : ℕ) (read : ReadCnf) (h : IsReadAliveOf raw k read) where
+  is_true : h.bad ≡ 1
+  is_true = let e : Some h.bad ≡ Some 1 = sym h.bad_is in cc
+
+  small_is : read.small ≡ part raw 1 (marked read.marks)
+  small_is = h.small ∙ ap (λ b. part (always_bad raw) b (marked read.marks)) is_true
+
+  exact : TestsRead (always_bad raw) 1 (marked read.marks)
+  exact = subst (λ b. TestsRead (always_bad raw) b (marked read.marks)) is_true h.marks.exact
+
+  -- its run of the part keeps all constraints exactly where that of the circuit does
+  pub kept_alike : (values : List Tern) → input_count read.small k < length values
+      → KeepsConstraints read.small k (named_start read.small k values) (named_rows read.small k values)
+      ↔ KeepsConstraints raw k (start_named raw read k values) (rows_named raw read k values)
+  kept_alike values enough =
+      let few : List Tern = named_start read.small k values in
+      let fews : List (List Tern) = named_rows read.small k values in
+      subst (λ (r : Raw). KeepsConstraints r k few fews
+      ↔ KeepsConstraints raw k (start_named raw read k values) (rows_named raw read k values)) (sym small_is)
+      (spread_keeps_alive raw (marked read.marks) exact few fews
+      (subst (λ (r : Raw). Fits r few fews) small_is (named_fits read.small k values enough)) k)

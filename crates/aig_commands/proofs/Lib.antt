@@ -15,5 +15,6 @@ pub mod Refutations
 pub mod Replays
 pub mod Runs
 pub mod Selections
+pub mod Spreads
 pub mod Unrollings
 pub mod WitnessTexts

@@ -1,8 +1,7 @@
 -- The run that values name: the start that they fill in, and the rows that are cut from them.
 use Rattle.std.proofs.Common.{◌≡◌, ℕ, suc, ◌+◌, ◌-◌, ◌*◌, ◌<◌, ◌≤◌, true, false, if◌then◌else◌, List, [], ◌∷◌, ◌++◌}
-use Rattle.std.proofs.Common.{length, take, drop, get_or, Some}
+use Rattle.std.proofs.Common.{length, take, drop, get_or}
 use Rattle.std.proofs.Common.{Result, Ok, Err, refl, sym, ap, ◌∙◌, subst, arith, append_assoc, length-drop}
-use Rattle.std.specs.Prelude.{IfErr}
 use Rattle.std.specs.Result.{IsErrAnd}
 use Rattle.std.proofs.lemmas.Bool.Decides.{nat_tests}
 use Rattle.std.proofs.lemmas.List.{append-nil, drop_more, drop_all, length-take-le}
@@ -10,17 +9,12 @@ use Rattle.aig_parts.specs.declared.latch.Latch.{Latch}
 use Rattle.aig_parts.specs.declared.raw.Raw.{Raw}
 use Rattle.aig_parts.specs.declared.ternary.Tern.{Tern}
 use Rattle.aig_parts.specs.declared.ternary.Tern.TheVariants.{X}
-use Rattle.aig_base.specs.Value.{reset_value}
+use Rattle.aig_base.specs.Value.{Fits, reset_value}
 use Rattle.aig_values.specs.InputRows.{HaveWidth}
 use Rattle.aig_refute.proofs.RowValues.{cut_wide, length-filled}
 use Rattle.aig_refute.specs.PartialModels.{inputs_in, named_rows, named_start}
-use Rattle.aig_refute.specs.UnrolledWitness.{cut, filled, rows_in, start_in}
-use Rattle.aig_sim.specs.Reached.{ReachesNone}
-use Rattle.aig_sim.specs.declared.witness.reach_fault.ReachFault.{ReachFault}
-use Rattle.aig_sim.specs.declared.witness.reach_fault.ReachFault.TheVariants as reaches
-use Rattle.aig_command.specs.declared.run_fault.RunFault.TheVariants as run_faults
+use Rattle.aig_refute.specs.UnrolledWitness.{cut, filled}
 use Rattle.aig_unroll.specs.FrameLiteral.{input_count, is_uninitialised}
-use Rattle.aig_commands.specs.ModelWitness.{WritesNamed}
 
 -- ---- the start
 
@@ -130,19 +124,5 @@ module _ (raw : Raw) (k : ℕ) (values : List Tern) where
       length-take-le (input_count raw k) (drop 1 values) (omega (arith, length-drop 1 values, enough)) in
       cut_wide (length raw.inputs) k (inputs_in raw k values) (omega (arith, long))
 
-  -- no witness is written
-  pub named_refused : (p : ℕ) (fault : ReachFault)
-      → (fault ≡ reaches.NoRun → ReachesNone raw (named_start raw k values) (named_rows raw k values) (Some p))
-      → (fault ≡ reaches.Property → ⊥) → WritesNamed k p values raw (Err (run_faults.Reach fault)) []
-  named_refused p reaches.NoRun none never = (none refl, refl)
-  named_refused p reaches.Property none never = absurd (never refl)
-  named_refused p reaches.Memory none never = refl
-
-  pub none_named : {T : Type 0} (p : ℕ) (row : List Tern) (r : Result T ReachFault) → row ≡ inputs_in raw k values
-      → (r ≡ Err reaches.NoRun → ReachesNone raw (start_in raw k row) (rows_in raw k row) (Some p))
-      → (r ≡ Err reaches.Property → ⊥) → IfErr r (λ fault. WritesNamed k p values raw (Err (run_faults.Reach fault)) [])
-  none_named p row (Ok x) same none never = tt
-  none_named p row (Err f) same none never =
-      named_refused p f
-      (λ is. subst (λ (r : List Tern). ReachesNone raw (start_in raw k r) (rows_in raw k r) (Some p)) same (none (ap Err is)))
-      (λ is. never (ap Err is))
+  pub named_fits : input_count raw k < length values → Fits raw (named_start raw k values) (named_rows raw k values)
+  named_fits enough = record { latches = named_start_length; inputs = named_widths enough }

@@ -9,18 +9,17 @@ use Rattle.aig_parts.specs.declared.raw.Raw.{Raw}
 use Rattle.aig_base.specs.Circuit.{IsCircuit}
 use Rattle.aig_certificate.specs.declared.fault.StrengthenFault.{StrengthenFault}
 use Rattle.aig_certificate.specs.declared.fault.StrengthenFault.TheVariants as faults
-use Rattle.aig_cnf.specs.CnfText.{cnf_text}
-use Rattle.aig_cnf.specs.Formula.{Cnf}
+use Rattle.aig_cnf.specs.CnfText.{read_text}
+use Rattle.aig_cnf.specs.ReadFormula.{ReadCnf}
 use Rattle.aig_cnf.specs.declared.fault.CnfFault.{CnfFault}
-use Rattle.aig_cnf.specs.Query.{induction}
+use Rattle.aig_cnf.specs.Alive.{always_bad}
+use Rattle.aig_cnf.specs.Query.{induction, last, within}
 use Rattle.aig_cnf.specs.declared.heading.Heading.{Heading}
 use Rattle.aig_cnf.specs.declared.heading.Heading.TheVariants.{Runs, Alive, Certified}
 use Rattle.aig_cnf.specs.declared.query.Goal.{Goal}
 use Rattle.aig_cnf.specs.declared.query.Goal.TheVariants as goals
 use Rattle.aig_cnf.specs.declared.query.Query.{Query}
-use Rattle.aig_refute.proofs.NoRuns.{no_run}
-use Rattle.aig_refute.proofs.OneFormula.{by_one_formula}
-use Rattle.aig_refute.proofs.UnreachableLemmas.{unreachable_within}
+use Rattle.aig_refute.proofs.ReadFormulas.{read_formula, read_no_run, read_one_formula, read_unreachable_within}
 use Rattle.aig_command.specs.Command.{CommandEnds, OfFile}
 use Rattle.aig_command.specs.declared.run_fault.RunFault.{RunFault}
 use Rattle.aig_command.specs.declared.run_fault.RunFault.TheVariants as run_faults
@@ -111,15 +110,15 @@ about_certified file claims p (Err fault) is extension = tt
 
 -- ---- the formula
 
-pub writes_formula : (asked : Heading) (raw shown : Raw) (heading : Heading) (formula : Cnf) → HasItsFormula asked raw
-    → IsItsFormula asked raw formula → shown ≡ subject_of asked raw → heading ≡ asked
-    → WritesFor asked raw (Ok tt) (cnf_text shown heading formula)
-writes_formula (Runs query) raw shown heading formula has is same said =
-    (has, (formula, is, ap₂ (λ (r : Raw) (h : Heading). cnf_text r h formula) same said))
-writes_formula (Alive k) raw shown heading formula has is same said =
-    (has, (formula, is, ap₂ (λ (r : Raw) (h : Heading). cnf_text r h formula) same said))
-writes_formula (Certified p) raw shown heading formula has is same said =
-    (has, (formula, is, ap₂ (λ (r : Raw) (h : Heading). cnf_text r h formula) same said))
+pub writes_formula : (asked : Heading) (raw shown : Raw) (heading : Heading) (read : ReadCnf) → HasItsFormula asked raw
+    → IsItsFormula asked raw read → shown ≡ subject_of asked raw → heading ≡ asked
+    → WritesFor asked raw (Ok tt) (read_text shown heading read)
+writes_formula (Runs query) raw shown heading read has is same said =
+    (has, (read, is, ap₂ (λ (r : Raw) (h : Heading). read_text r h read) same said))
+writes_formula (Alive k) raw shown heading read has is same said =
+    (has, (read, is, ap₂ (λ (r : Raw) (h : Heading). read_text r h read) same said))
+writes_formula (Certified p) raw shown heading read has is same said =
+    (has, (read, is, ap₂ (λ (r : Raw) (h : Heading). read_text r h read) same said))
 
 pub writes_none : (asked : Heading) (raw : Raw) (fault : CnfFault) → RefusesItsFormula asked raw fault
     → WritesFor asked raw (Err (run_faults.Cnf fault)) []
@@ -138,7 +137,7 @@ writes_no_fault (Certified p) raw fault bytes h = h
 pub names_no_fault : (asked : Heading) (model : List ℕ) (raw : Raw) (fault : Fault) (bytes : List ℕ)
     → NamesFor asked model raw (Err (run_faults.Circuit fault)) bytes → ⊥
 names_no_fault (Runs query) model raw fault bytes h = no_circuit_fault query model raw fault bytes h
-names_no_fault (Alive k) model raw fault bytes (WritesAliveModel.names values answer text has is m) = m
+names_no_fault (Alive k) model raw fault bytes (WritesAliveModel.names read values answer text has is of_model m) = m
 names_no_fault (Certified p) model raw fault bytes h = no_circuit_fault (induction 1 0) model raw fault bytes h
 
 -- ---- the check of its proof
@@ -146,19 +145,19 @@ names_no_fault (Certified p) model raw fault bytes h = no_circuit_fault (inducti
 -- what follows from one refuted formula
 pub checks_one : (asked : Asked) (raw : Raw) → IsCircuit raw → (query_of asked).goal ≢ goals.Step
     → (r : Result (Unit {0}) RunFault) → ChecksFormula (heading_of asked) raw r → ChecksFor asked raw r
-checks_one (questions.Within k p) raw circuit one (Ok done) (has, (formula, is, refuted)) =
-    (has, unreachable_within raw formula circuit k p is refuted)
+checks_one (questions.Within k p) raw circuit one (Ok done) (has, (read, is, refuted)) =
+    (has, read_unreachable_within raw circuit read.cnf k p (read_formula raw (within k p) read is) refuted)
 checks_one (questions.Within k p) raw circuit one (Err (run_faults.Cnf fault)) refuses = refuses
 checks_one (questions.Within k p) raw circuit one (Err (run_faults.Proof fault)) has = has
 checks_one (questions.Within k p) raw circuit one (Err fault) never = never
 checks_one (questions.Step k p) raw circuit one r checks = absurd (one refl)
-checks_one (questions.Alive k) raw circuit one (Ok done) (has, (formula, is, refuted)) =
-    (has, no_run raw formula circuit k has.frames is refuted)
+checks_one (questions.Alive k) raw circuit one (Ok done) (has, (read, is, refuted)) =
+    (has, read_no_run raw circuit read.cnf k has.frames (read_formula (always_bad raw) (last k 0) read is) refuted)
 checks_one (questions.Alive k) raw circuit one (Err (run_faults.Cnf fault)) refuses = refuses
 checks_one (questions.Alive k) raw circuit one (Err (run_faults.Proof fault)) has = has
 checks_one (questions.Alive k) raw circuit one (Err fault) never = never
-checks_one (questions.Certified claims p) raw circuit one (Ok done) (has, (formula, is, refuted)) =
-    (has, by_one_formula raw formula circuit 1 0 is refuted)
+checks_one (questions.Certified claims p) raw circuit one (Ok done) (has, (read, is, refuted)) =
+    (has, read_one_formula raw circuit read.cnf 1 0 (read_formula raw (induction 1 0) read is) refuted)
 checks_one (questions.Certified claims p) raw circuit one (Err (run_faults.Cnf fault)) refuses = refuses
 checks_one (questions.Certified claims p) raw circuit one (Err (run_faults.Proof fault)) has = has
 checks_one (questions.Certified claims p) raw circuit one (Err fault) never = never

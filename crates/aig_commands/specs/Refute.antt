@@ -4,8 +4,8 @@
 -- step `unreachable/`.
 use Rattle.std.specs.Prelude.{◌≡◌, ◌⊎◌, ℕ, List, [], ◌++◌, codes, decimal, Result, Ok, Err}
 use Rattle.aig_parts.specs.declared.raw.Raw.{Raw}
-use Rattle.aig_cnf.specs.Answers.{HasFormula, RefusesFormula}
 use Rattle.aig_cnf.specs.Query.{induction, step, within}
+use Rattle.aig_cnf.specs.ReadFormula.{HasReadFormula, RefusesReadFormula}
 use Rattle.aig_cnf.specs.declared.query.Query.{Query}
 use Rattle.aig_cnf.specs.declared.query.Goal.{Goal}
 use Rattle.aig_cnf.specs.declared.query.Goal.TheVariants as goals
@@ -19,9 +19,9 @@ use Rattle.aig_command.specs.Command.{IsFileOf}
 -- What the check of a proof about the formula of a query shows of a circuit, where it is one; or there is no formula,
 -- or the proof is refused.
 abbrev pub ChecksProof : Query → (Raw → Type 0) → Raw → Result (Unit {0}) RunFault → Type 0
-ChecksProof query Shows raw (Ok done) = HasFormula raw query × Shows raw
-ChecksProof query Shows raw (Err (run_faults.Cnf fault)) = RefusesFormula raw query fault
-ChecksProof query Shows raw (Err (run_faults.Proof fault)) = HasFormula raw query
+ChecksProof query Shows raw (Ok done) = HasReadFormula raw query × Shows raw
+ChecksProof query Shows raw (Err (run_faults.Cnf fault)) = RefusesReadFormula raw query fault
+ChecksProof query Shows raw (Err (run_faults.Proof fault)) = HasReadFormula raw query
 ChecksProof query Shows raw (Err _) = ⊥
 
 -- that no run reaches bad p within k frames
@@ -34,14 +34,14 @@ ChecksInduction = ChecksProof (induction 1 0) (λ raw. IsUnreachable raw 0)
 
 -- both formulas are there
 abbrev pub HasFormulas : ℕ → ℕ → Raw → Type 0
-HasFormulas k p raw = HasFormula raw (within k p) × HasFormula raw (step k p)
+HasFormulas k p raw = HasReadFormula raw (within k p) × HasReadFormula raw (step k p)
 
 -- What the check of two proofs says: no run of any length reaches bad p; or one of the formulas is not there, or a
 -- proof is refused.
 abbrev pub ChecksStep : ℕ → ℕ → Raw → Result (Unit {0}) RunFault → Type 0
 ChecksStep k p raw (Ok done) = HasFormulas k p raw × IsUnreachable raw p
 ChecksStep k p raw (Err (run_faults.Cnf fault)) =
-    RefusesFormula raw (within k p) fault ⊎ (HasFormula raw (within k p) × RefusesFormula raw (step k p) fault)
+    RefusesReadFormula raw (within k p) fault ⊎ (HasReadFormula raw (within k p) × RefusesReadFormula raw (step k p) fault)
 ChecksStep k p raw (Err (run_faults.Proof fault)) = HasFormulas k p raw
 ChecksStep k p raw (Err (run_faults.StepProof fault)) = HasFormulas k p raw
 ChecksStep k p raw (Err _) = ⊥

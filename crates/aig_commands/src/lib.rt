@@ -16,6 +16,7 @@ pub mod reduce;
 pub mod refute;
 pub mod select;
 pub mod sim;
+mod spread;
 pub mod strengthen;
 pub mod toaig;
 pub mod unroll;

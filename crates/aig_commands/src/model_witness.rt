@@ -1,48 +1,31 @@
 //! `witness --model`: the witness of the run that a solver's model names; with `--step` the run by which an induction
 //! step fails, with `--certificate` the one by which a certificate does.
-ghost use Rattle.std.specs.Prelude.{◌≡◌, ◌<◌, ◌≤◌, IfOk, IfErr, OnOk, length};
+ghost use Rattle.std.specs.Prelude.{◌≡◌, ◌<◌, ◌≤◌, Err, IfOk, IfErr, Some, length};
+ghost use Rattle.aig_base.specs.Part.{latch_marks};
+ghost use Rattle.aig_base.specs.Part as spec;
 ghost use Rattle.aig_bytes.specs.Flow.{flow};
-ghost use Rattle.aig_cnf.specs.Answers.{HasFormula, RefusesFormula};
-ghost use Rattle.aig_cnf.specs.Query.{depth, subject};
+ghost use Rattle.aig_cnf.specs.ReadFormula.{marked};
 ghost use Rattle.aig_command.specs.Command.{CommandEnds};
+ghost use Rattle.aig_parts.specs.Limits.{frame_limit};
+ghost use Rattle.aig_refute.specs.PartialModels.{named_rows, named_start};
+ghost use Rattle.aig_refute.specs.SpreadRun.{spread_rows};
+ghost use Rattle.aig_sim.specs.Reached.{IsFirstReached, ReachesNone};
 ghost use Rattle.aig_unroll.specs.FrameLiteral.{input_count};
-ghost use Rattle.aig_unroll.specs.Unrollable.{FitsLimits};
-ghost use Rattle.aig_commands.specs.ModelWitness.{RefusesModel, WritesModel, WritesNamed, variable_count};
+ghost use Rattle.aig_commands.specs.ModelWitness.{RefusesModel, WritesModel};
 ghost use Rattle.aig_commands.specs.Questions.{NamesFor, NamesQuestion, asked_of, heading_of};
 ghost use Rattle.aig_sat.specs.model.ModelText.{IsModelOf};
 
 use crate::alive_witness;
-use crate::named_run::NamedRun;
+use crate::named_run::named_run;
 use crate::question::{INDUCTION, Question, circuit_of, heading_of};
-use aig_base::{Circuit, Write};
-use aig_cnf::{CnfFault, Formula, Heading, Query};
+use crate::spread::spread_run;
+use crate::witness::{FoundRun, find, start_by_resets};
+use aig_base::{Circuit, Tern, Write};
+use aig_cnf::{Heading, Query, ReadFormula};
 use aig_command::RunFault;
 use aig_sat::{Assignment, ModelFault, read_model};
+use aig_sim::{ReachFault, Reached, Run};
 use std::alloc::Global;
-
-/// How large the formula of a query is.
-#[derive(Clone, Copy)]
-struct Size {
-    /// How many frames the circuit is unrolled for.
-    depth: u32,
-    variables: u32,
-}
-
-/// Finds out how large the formula of a query is. The circuit starts where its goal does from then on.
-fn size_of(alloc: Global, circuit: &mut Circuit, query: Query) -> Result<Size, CnfFault>
-    ensures accepted { OnOk result (HasFormula circuit.old query) }
-    ensures depth { IfOk result (λ size. size.depth ≡ depth query) }
-    ensures variables { IfOk result (λ size.
-        size.variables ≡ variable_count (subject query.goal circuit.old) (depth query)) }
-    ensures refused { IfErr result (RefusesFormula circuit.old query) }
-    ensures circuit { circuit.new ≡ subject query.goal circuit.old }
-{
-    let formula = Formula::of(alloc, circuit, query)?;
-    Ok(Size {
-        depth: formula.depth(),
-        variables: formula.variables(),
-    })
-}
 
 /// Reads a model of a formula.
 pub(crate) fn read_values(
@@ -57,21 +40,58 @@ pub(crate) fn read_values(
     read_model(alloc, model, variables)
 }
 
-/// Writes the witness of the run that the values of the formula's variables name.
-fn find_and_write<W: Write>(
+/// The first frame at which a run reaches the one property of a circuit.
+fn first_frame(alloc: Global, circuit: &Circuit, run: &Run) -> Result<u32, ReachFault>
+    requires start { length run.now.start.items ≡ length circuit.now.latches }
+    requires width { run.now.rows.width ≡ length circuit.now.inputs }
+    requires property { 0 < length circuit.now.bad }
+    ensures some { IfOk result (λ frame.
+        IsFirstReached circuit.now run.now.start.items run.now.rows.rows (Some 0) frame 0) }
+    ensures none { result ≡ Err ReachFault.NoRun →
+        ReachesNone circuit.now run.now.start.items run.now.rows.rows (Some 0) }
+    ensures property { result ≡ Err ReachFault.Property → ⊥ }
+{
+    let reached = find(alloc, circuit, &run.start, &run.rows, Some(0))?;
+    Ok(reached.frame)
+}
+
+/// The run of the circuit that the values of the formula's variables name: that of the part, with these resets at
+/// latches that are not read. It is there if the run of the part reaches the property.
+fn found_run(
     alloc: Global,
     circuit: &Circuit,
-    named: &NamedRun<'_>,
-    out: &mut W,
-) -> Result<(), RunFault>
-    requires property { named.now.property < length circuit.now.bad }
-    requires limits { FitsLimits circuit.now named.now.frames }
-    requires values { input_count circuit.now named.now.frames < length named.now.values.now }
-    ensures { CommandEnds (flow W.written W.failures out.old out.new) RunFault.Output
-        (WritesNamed named.now.frames named.now.property named.now.values.now circuit.now) result }
+    read: &ReadFormula,
+    resets: &[Tern],
+    property: u32,
+    values: &[Tern],
+) -> Result<FoundRun, ReachFault>
+    requires resets { length resets.now ≡ length circuit.now.latches }
+    requires property { 0 < length read.now.small.bad }
+    requires frames { length read.now.cnf.goals ≤ frame_limit }
+    requires values { input_count read.now.small (length read.now.cnf.goals) < length values.now }
+    ensures start { IfOk result (λ run. run.start.items ≡ spec.spread (latch_marks (marked read.now.marks) circuit.now)
+        resets.now (named_start read.now.small (length read.now.cnf.goals) values.now)) }
+    ensures rows { IfOk result (λ run. run.rows.rows ≡ spread_rows (marked read.now.marks) circuit.now
+        (named_rows read.now.small (length read.now.cnf.goals) values.now)) }
+    ensures reached { IfOk result (λ run. IsFirstReached read.now.small
+        (named_start read.now.small (length read.now.cnf.goals) values.now)
+        (named_rows read.now.small (length read.now.cnf.goals) values.now) (Some 0) run.reached.frame 0) }
+    ensures asked { IfOk result (λ run. run.reached.property ≡ property) }
+    ensures none { result ≡ Err ReachFault.NoRun → ReachesNone read.now.small
+        (named_start read.now.small (length read.now.cnf.goals) values.now)
+        (named_rows read.now.small (length read.now.cnf.goals) values.now) (Some 0) }
+    ensures there { result ≡ Err ReachFault.Property → ⊥ }
 {
-    let run = named.find(alloc, circuit)?;
-    run.write(out)
+    let part = read.part();
+    part.facts();
+    let run = named_run(alloc, part, read.formula().depth(), values)?;
+    let frame = first_frame(alloc, part, &run)?;
+    let whole = spread_run(alloc, circuit, read.marks(), resets, &run)?;
+    Ok(FoundRun {
+        start: whole.start,
+        rows: whole.rows,
+        reached: Reached { frame, property },
+    })
 }
 
 /// Writes the witness of the run that a model's text names.
@@ -85,14 +105,20 @@ fn read_model_and_write<W: Write>(
     ensures { CommandEnds (flow W.written W.failures out.old out.new) RunFault.Output
         (WritesModel query model.now circuit.old) result }
 {
-    let size = size_of(alloc, circuit, query)?;
-    let values = read_values(alloc, model, size.variables)?;
-    let named = NamedRun {
-        frames: size.depth,
-        property: query.property,
-        values: values.as_slice(),
-    };
-    find_and_write(alloc, circuit, &named, out)
+    circuit.facts();
+    let resets = start_by_resets(alloc, circuit);
+    let read = ReadFormula::of(alloc, circuit, query)?;
+    let values = read_values(alloc, model, read.formula().variables())?;
+    let resets = resets?;
+    let run = found_run(
+        alloc,
+        circuit,
+        &read,
+        &resets,
+        query.property,
+        values.as_slice(),
+    )?;
+    run.write(out)
 }
 
 /// Writes the witness of the run that a model of a question's formula names.
@@ -117,12 +143,13 @@ fn answer<W: Write>(
 
 /// The command `witness --model`: reads a circuit and a SAT solver's model of the formula that `cnf` writes for a
 /// question. The model names a run: a start, where an uninitialised latch has the value of its variable, for a step or
-/// a certificate each latch; and rows. What no literal names is x. It writes the witness of the first frame at which
+/// a certificate each latch; and rows. What no literal names is x, and what the property does not read: but a latch that it
+/// does not read starts by its reset. It writes the witness of the first frame at which
 /// this run reaches the property. `check` confirms it, but where it does not start as the resets allow: then it is the
 /// run by which an induction fails. For a certificate it is one of the strengthened circuit, which has one property.
 /// Nothing is written if a file or the model is rejected, there is no such formula, or no frame reaches the property.
 /// One does if the model makes a literal of each clause of the formula of `Question::Within` true
-/// (`law_of_partial_models` of `aig_refute`).
+/// (`law_of_read_models` of `aig_refute`).
 ///
 /// For `Question::Alive` it is the witness of property 0 with all frames of the run, if that keeps all constraints:
 /// `check_alive` accepts it. Otherwise nothing is written.

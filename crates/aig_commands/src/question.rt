@@ -7,7 +7,7 @@ ghost use Rattle.aig_command.specs.Command.{IsFileOf};
 
 use crate::certified::{Certified, Purpose};
 use aig_base::Circuit;
-use aig_cnf::{CnfFault, Formula, Goal, Heading, Query};
+use aig_cnf::{CnfFault, Goal, Heading, Query, ReadFormula};
 use aig_command::{RunFault, read_circuit};
 use std::alloc::Global;
 
@@ -138,20 +138,21 @@ pub(crate) fn circuit_of(
     }
 }
 
-/// Makes the formula of a question. The circuit starts where the formula has it start from then on.
+/// Makes the formula of a question, over the part of the circuit that it reads. The circuit starts where the formula has
+/// it start from then on.
 pub(crate) fn formula_of(
     alloc: Global,
     question: Question<&[u8]>,
     circuit: &mut Circuit,
-) -> Result<Formula, CnfFault>
+) -> Result<ReadFormula, CnfFault>
     ensures formula { IfOk result (IsItsFormula (heading_of (asked_of question.entry)) circuit.old) }
     ensures accepted { OnOk result (HasItsFormula (heading_of (asked_of question.entry)) circuit.old) }
     ensures refused { IfErr result (RefusesItsFormula (heading_of (asked_of question.entry)) circuit.old) }
     ensures circuit { circuit.new ≡ subject_of (heading_of (asked_of question.entry)) circuit.old }
 {
     match heading_of(question) {
-        Heading::Runs(query) => Formula::of(alloc, circuit, query),
-        Heading::Alive(frames) => Formula::alive(alloc, circuit, frames),
-        Heading::Certified(_) => Formula::of(alloc, circuit, INDUCTION),
+        Heading::Runs(query) => ReadFormula::of(alloc, circuit, query),
+        Heading::Alive(frames) => ReadFormula::alive(alloc, circuit, frames),
+        Heading::Certified(_) => ReadFormula::of(alloc, circuit, INDUCTION),
     }
 }

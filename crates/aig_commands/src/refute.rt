@@ -12,7 +12,7 @@ ghost use Rattle.aig_commands.specs.state.About.{Answers, ChecksFormula, IsCheck
 
 use crate::question::{Question, circuit_of, formula_of, query_of};
 use aig_base::{Circuit, Io, Read, Write, write_all, write_number};
-use aig_cnf::{Formula, Goal, Query};
+use aig_cnf::{Goal, Query, ReadFormula};
 use aig_command::RunFault;
 use aig_refute::check;
 use aig_sat::ProofFault;
@@ -43,14 +43,14 @@ fn check_formula<R: Read>(
         IfSome (R.left proof.old) (HasAddition n) }
     ensures named_step { (n : ℕ) → result ≢ Err (RunFault.StepProof (ProofFault.Step n)) }
 {
-    let formula = formula_of(alloc, question, circuit)?;
-    check(alloc, &formula, proof)?;
+    let read = formula_of(alloc, question, circuit)?;
+    check(alloc, read.formula(), proof)?;
     Ok(())
 }
 
 /// Checks a proof about the formula of an induction step.
-fn check_later<R: Read>(alloc: Global, later: &Formula, step: &mut R) -> Result<(), RunFault>
-    ensures refuted { OnOk result (IsUnsatisfiable later.now.clauses) }
+fn check_later<R: Read>(alloc: Global, later: &ReadFormula, step: &mut R) -> Result<(), RunFault>
+    ensures refuted { OnOk result (IsUnsatisfiable later.now.cnf.clauses) }
     ensures fault { IfErr result IsOfStepProof }
     ensures reads { proof_reads_failed result ≡ 0 }
     ensures reads_step { R.failures step.new ≡ R.failures step.old + step_reads_failed result }
@@ -58,7 +58,7 @@ fn check_later<R: Read>(alloc: Global, later: &Formula, step: &mut R) -> Result<
     ensures named_step { (n : ℕ) → result ≡ Err (RunFault.StepProof (ProofFault.Step n)) → n + 1 < 2 ^ 64 →
         IfSome (R.left step.old) (HasAddition n) }
 {
-    match check(alloc, later, step) {
+    match check(alloc, later.formula(), step) {
         Ok(()) => Ok(()),
         Err(fault) => Err(RunFault::StepProof(fault)),
     }
@@ -91,10 +91,10 @@ fn check_step<R: Read, S: Read>(
         goal: Goal::Step,
         ..query
     };
-    let base = Formula::of(alloc, circuit, within)?;
-    let later = Formula::of(alloc, circuit, stepped)?;
+    let base = ReadFormula::of(alloc, circuit, within)?;
+    let later = ReadFormula::of(alloc, circuit, stepped)?;
     circuit.facts();
-    check(alloc, &base, &mut proofs.proof)?;
+    check(alloc, base.formula(), &mut proofs.proof)?;
     check_later(alloc, &later, &mut proofs.step)
 }
 

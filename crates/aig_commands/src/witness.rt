@@ -54,7 +54,7 @@ fn check_property(circuit: &Circuit, asked: Option<u32>) -> Result<(), ReachFaul
 }
 
 /// The start by the resets.
-fn start_by_resets(alloc: Global, circuit: &Circuit) -> Result<Vec<Tern>, ReachFault>
+pub(crate) fn start_by_resets(alloc: Global, circuit: &Circuit) -> Result<Vec<Tern>, ReachFault>
     ensures start { IfOk result (λ start. start.items ≡ start_of circuit.now) }
     ensures memory { IfErr result (λ fault. fault ≡ ReachFault.Memory) }
 {

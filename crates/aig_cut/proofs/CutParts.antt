@@ -13,7 +13,7 @@ use Rattle.aig_cut.specs.CutOf.{one_more, cut_latches, cut_gates, cut_constraint
 use Rattle.aig_cut.specs.Lines.{IsOverLimit}
 use Rattle.aig_cut.proofs.CutsAre.{latches_many}
 
-gates_many : (cuts : Cuts) (v : ℕ) (gs : List Gate) → length (cut_gates cuts v gs) ≡ length gs
+pub gates_many : (cuts : Cuts) (v : ℕ) (gs : List Gate) → length (cut_gates cuts v gs) ≡ length gs
 unfolding cut_gates
 gates_many cuts v [] = refl
 gates_many cuts v (g ∷ gs) = ap suc (gates_many cuts (one_more (cuts.free g.lhs) v) gs)

@@ -1,4 +1,5 @@
 pub mod CutParts
+pub mod CutCircuit
 pub mod CutsAre
 pub mod LineLemmas
 pub mod Marking

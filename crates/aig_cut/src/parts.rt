@@ -260,7 +260,7 @@ pub fn cut(alloc: Global, circuit: &Circuit, text: &[u8]) -> Result<Circuit, Cut
     }
     match Circuit::check(alloc, parts) {
         Ok(cut) => Ok(cut),
-        // Cuts do not make a circuit faulty, so memory is missing.
+        // The parts are a circuit (`law_of_what_is_written`), so memory is missing.
         Err(_) => Err(CutFault::Memory),
     }
 }

@@ -1,7 +1,7 @@
 -- The examples of the definitions of `aig_command`, `aig_refute` and `aig_commands`.
 use Rattle.std.proofs.Common.{◌≡◌, inl, inr, ℕ, zero, suc, ◌<◌, List, [], ◌∷◌, ◌++◌, None, Some, slice_get, ◌≢◌}
 use Rattle.std.proofs.Common.{length, subst, Contains, refl, sym, ap, ◌∙◌, arith}
-use Rattle.std.specs.Prelude.{All, true, Ok, Err, codes}
+use Rattle.std.specs.Prelude.{All, true, false, Ok, Err, codes}
 use Rattle.std.specs.Char.{encode_utf8}
 use Rattle.std.specs.Fmt.{digits}
 use Rattle.std.specs.Str.{chars, is_utf8}
@@ -14,6 +14,8 @@ use Rattle.aig_parts.specs.declared.symbols.Kind.TheVariants.{Bad}
 use Rattle.aig_parts.specs.declared.ternary.Tern.{Tern}
 use Rattle.aig_parts.specs.declared.ternary.Tern.TheVariants.{Zero, One, X}
 use Rattle.aig_base.specs.Order.{IsCanonicalOrder}
+use Rattle.aig_base.specs.Part as read
+use Rattle.aig_base.specs.Part.{IsRead, TestsRead, part, picked}
 use Rattle.aig_base.specs.Renumbered.{renumbered_literal, renumbered_variable, IsBinaryReady}
 use Rattle.aig_base.specs.Runs.{Allows, IsAllowed, ReachesProperty}
 use Rattle.aig_base.specs.Value as value
@@ -41,6 +43,7 @@ use Rattle.aig_unroll.specs.Unrolled.{unrolled}
 use Rattle.aig_cnf.specs.Dimacs.{clause_text, formula_text, literal_text, problem_line}
 use Rattle.aig_cnf.specs.Formula.{cone, formula_of}
 use Rattle.aig_cnf.specs.Query.{within}
+use Rattle.aig_cnf.specs.ReadFormula.{marked, of_part}
 use Rattle.aig_cnf.specs.declared.fault.CnfFault.TheVariants as formulas
 use Rattle.aig_command.specs.Faults.{output_of}
 use Rattle.aig_command.specs.Status.{status_of}
@@ -97,25 +100,64 @@ no_gates raw none = rw none (record {
   ordered = λ i j d lt within. absurd (omega (arith, within));
 })
 
+-- it reads variable 1
+reads_input : TestsRead bad_input 2 (marked (false ∷ true ∷ []))
+reads_input v = (there v, back v)
+  where
+    there : (v : ℕ) → marked (false ∷ true ∷ []) v ≡ true → IsRead bad_input 2 v
+    there zero e = cc
+    there (suc zero) e = read.property
+    there (suc (suc v)) e = cc
+
+    back : (v : ℕ) → IsRead bad_input 2 v → marked (false ∷ true ∷ []) v ≡ true
+    back _ read.property = refl
+    back _ (read.constraint c l at) = cc
+    back _ (read.first q g at r) = cc
+    back _ (read.second q g at r) = cc
+    back _ (read.next p x at r) = cc
+
+abbrev read_input : Raw
+read_input = part bad_input 2 (marked (false ∷ true ∷ []))
+
 -- input 2 is bad, one frame: the formula; for property 1 nothing, with `Property`
 written_formula : WritesFormula (within 1 0) bad_input (Ok tt)
     (codes "c aig cnf --frames 1 --property 0 \nc i 2 0 0 \nc b 2 0\np cnf 2 2\n-1 0\n2 0\n")
-unfolding clause_text cone digits formula_text frame_literal literal_text origin_lines problem_line start_origins symbol_name_at
+unfolding clause_text cone digits formula_text frame_literal literal_text origin_lines picked problem_line start_origins symbol_name_at
 written_formula = (
   record {
     frames = omega arith;
     property = omega arith;
     limits = record {
-      frames = omega arith;
-      max_var = omega arith;
-      inputs = omega arith;
-      outputs = omega arith;
-      bad = omega arith;
-      constraints = omega arith;
-      gates = omega arith;
+      bad = 2;
+      bad_is = refl;
+      test = marked (false ∷ true ∷ []);
+      exact = reads_input;
+      fits = record {
+        frames = omega arith;
+        max_var = omega arith;
+        inputs = omega arith;
+        outputs = omega arith;
+        bad = omega arith;
+        constraints = omega arith;
+        gates = omega arith;
+      };
     };
   },
-  (formula_of bad_input [] (within 1 0), ([], no_gates bad_input refl, refl), refl),
+  (
+    record {
+      cnf = formula_of read_input [] (of_part (within 1 0));
+      small = read_input;
+      marks = false ∷ true ∷ [];
+    },
+    record {
+      bad = 2;
+      bad_is = refl;
+      marks = record { size = refl; exact = reads_input };
+      small = refl;
+      cnf = ([], no_gates read_input refl, refl);
+    },
+    refl,
+  ),
 )
 
 formula_of_no_property : WritesFormula (within 1 1) bad_input (Err (runs.Cnf formulas.Property)) []

@@ -1,28 +1,31 @@
 -- The examples of the definitions of `aig_cnf` and `aig_refute`.
 use Rattle.std.proofs.Common.{◌≡◌, ℕ, List, [], ◌∷◌, None, Some, refl}
-use Rattle.std.specs.Prelude.{Bool, codes}
+use Rattle.std.specs.Prelude.{Bool, true, false, codes}
 use Rattle.std.specs.Fmt.{digits}
 use Rattle.aig_parts.specs.declared.latch.Latch.{Latch}
 use Rattle.aig_parts.specs.declared.raw.Raw.{Raw}
 use Rattle.aig_parts.specs.declared.symbols.Kind.TheVariants.{Bad}
 use Rattle.aig_parts.specs.declared.ternary.Tern.TheVariants.{Zero, One, X}
+use Rattle.aig_base.specs.Part.{part, picked, spread}
 use Rattle.aig_base.specs.Renumbered.{renumbered, renumbered_literal, renumbered_variable}
 use Rattle.aig_base.specs.Value as value
 use Rattle.aig_values.specs.Trace.{IsTrace}
 use Rattle.aig_unroll.specs.FrameLiteral.{frame_literal, latch_literal}
 use Rattle.aig_unroll.specs.InputMap.{origin_lines, start_origins, symbol_name_at}
 use Rattle.aig_cnf.specs.Answers.{RefusesFormula}
-use Rattle.aig_cnf.specs.CnfText.{cnf_text}
+use Rattle.aig_cnf.specs.CnfText.{read_text}
 use Rattle.aig_cnf.specs.Dimacs.{clause_text, formula_text, literal_text, problem_line}
 use Rattle.aig_cnf.specs.DimacsRead.{clauses_of, counts_of, found_in, literal_of, number, read_formula, signed}
 use Rattle.aig_cnf.specs.Formula.{all_but_last, cone, formula_of, gate_clauses, goal_clauses, reset_literals}
 use Rattle.aig_cnf.specs.Heading.{heading}
 use Rattle.aig_cnf.specs.Query.{depth, induction, step, subject, uninitialised_latch, within}
+use Rattle.aig_cnf.specs.ReadFormula.{marked, of_part}
 use Rattle.aig_cnf.specs.declared.fault.CnfFault.TheVariants as faults
 use Rattle.aig_cnf.specs.declared.heading.Heading.TheVariants.{Alive, Runs}
 use Rattle.aig_cnf.specs.declared.query.Goal.TheVariants as goals
 use Rattle.aig_refute.specs.Models.{tern_of, values_of}
 use Rattle.aig_refute.specs.PartialModels.{named_rows}
+use Rattle.aig_refute.specs.SpreadRun.{spread_rows}
 use Rattle.aig_refute.specs.UnrolledWitness.{cut}
 use Rattle.aig_examples.proofs.TwoGates.{two_gates, row_11, first_in_11, second_in_11, eight_in_11}
 
@@ -52,13 +55,15 @@ no_frames : RefusesFormula bad_input (within 0 0) faults.NoFrames
 no_frames = (refl, refl)
 
 -- input 2 is bad, within one frame
-text_of_input : cnf_text bad_input (Runs (within 1 0)) (formula_of bad_input [] (within 1 0))
+text_of_input : read_text bad_input (Runs (within 1 0))
+    (record { cnf = formula_of bad_input [] (within 1 0); small = bad_input; marks = false ∷ true ∷ [] })
     ≡ codes "c aig cnf --frames 1 --property 0 \nc i 2 0 0 \nc b 2 0\np cnf 2 2\n-1 0\n2 0\n"
 unfolding clause_text cone digits formula_text frame_literal literal_text origin_lines problem_line start_origins symbol_name_at
 text_of_input = refl
 
 -- the latch `2 3 0` is bad, step of one frame
-text_of_step : cnf_text (subject goals.Step bad_latch) (Runs (step 1 0)) (formula_of bad_latch [] (step 1 0))
+text_of_step : read_text (subject goals.Step bad_latch) (Runs (step 1 0))
+    (record { cnf = formula_of bad_latch [] (step 1 0); small = subject goals.Step bad_latch; marks = false ∷ true ∷ [] })
     ≡ codes "c aig cnf --step --frames 1 --property 0 \nc l 2 0 \nc b 2 0\nc b -2 1\np cnf 2 3\n-1 0\n-2 0\n-2 0\n"
 unfolding clause_text cone digits formula_text frame_literal latch_literal literal_text origin_lines problem_line start_origins symbol_name_at
 text_of_step = refl
@@ -103,6 +108,22 @@ formula_of_input : formula_of bad_input [] (within 1 0)
     ≡ record { variables = 2; goals = 2 ∷ []; clauses = (1 ∷ []) ∷ (2 ∷ []) ∷ [] }
 unfolding cone frame_literal
 formula_of_input = refl
+
+-- of two inputs, a bad literal that reads the second has a formula of two variables for one frame
+abbrev second_bad : Raw
+second_bad = record bad_input { max_var = 2; inputs = 2 ∷ 4 ∷ []; bad = 4 ∷ [] }
+
+abbrev reads_second : ℕ → Bool
+reads_second = marked (false ∷ false ∷ true ∷ [])
+
+formula_of_second : (formula_of (part second_bad 4 reads_second) [] (of_part (within 1 0))).variables ≡ 2
+unfolding picked
+formula_of_second = refl
+
+-- a property reads the second of two inputs: the row `1` of the part is the row `x1` of the circuit
+row_of_second : spread_rows reads_second second_bad ((One ∷ []) ∷ []) ≡ (X ∷ One ∷ []) ∷ []
+unfolding spread
+row_of_second = refl
 
 -- `c aig cnf --step --frames 3 --property 1 full/`, `c aig cnf --alive --frames 20 /`
 headings : (heading (Runs (step 3 1)) (record bad_input { symbols = ((Bad, 1), codes "full") ∷ [] })

@@ -1,8 +1,7 @@
 -- Some assignment satisfies the formula that a run keeps all constraints exactly where one does.
-use Rattle.std.proofs.Common.{◌≡◌, ◌↔◌, ℕ, ◌-◌, ◌<◌, ◌≤◌, List, [], ◌∷◌, length, Contains, Some, slice_get, refl, arith}
+use Rattle.std.proofs.Common.{◌↔◌, ℕ, ◌-◌, ◌<◌, List, refl, arith}
 use Rattle.aig_parts.specs.declared.raw.Raw.{Raw}
 use Rattle.aig_parts.specs.declared.ternary.Tern.{Tern}
-use Rattle.aig_parts.specs.declared.ternary.Tern.TheVariants.{One}
 use Rattle.aig_base.specs.Circuit.{IsCircuit}
 use Rattle.aig_base.specs.Value as value
 use Rattle.aig_base.specs.Value.{Value}
@@ -51,7 +50,7 @@ run_reaches raw k some (start, rows, (fits, allowed, long, keeps)) = (
   ),
 )
 
-reached_run : (raw : Raw) (k : ℕ) → 0 < k → IsReachedAt (always_bad raw) (k - 1) 0 → HasRun raw k
+pub reached_run : (raw : Raw) (k : ℕ) → 0 < k → IsReachedAt (always_bad raw) (k - 1) 0 → HasRun raw k
 reached_run raw k some (start, rows, (fits, allowed, lt, (b, at, (bad, keeps)))) = (
   start,
   rows,

@@ -10,7 +10,7 @@ use Rattle.aig_base.specs.Value.{Value, Fits}
 use Rattle.aig_cnf.specs.Query.{from_any_state, uninitialised_latch}
 use Rattle.aig_cnf.proofs.AnyCircuit.{any_latch}
 
-latch_from : (xs : List Latch) (p : ℕ) (y : Latch) → slice_get (map uninitialised_latch xs) p ≡ Some y
+pub latch_from : (xs : List Latch) (p : ℕ) (y : Latch) → slice_get (map uninitialised_latch xs) p ≡ Some y
     → (x : Latch) × (slice_get xs p ≡ Some x) × (y ≡ uninitialised_latch x)
 latch_from [] p y at = cc
 latch_from (x ∷ xs) zero y at = (x, refl, let e : Some (uninitialised_latch x) ≡ Some y = at in let f : y ≡ uninitialised_latch x = cc in f)

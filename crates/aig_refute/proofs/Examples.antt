@@ -1,10 +1,11 @@
 -- What the definitions say of a circuit with an input 2, an uninitialised latch 4, whose next state is the gate
 -- 6 = 4 AND 2, and the bad literal 4.
-use Rattle.std.proofs.Common.{◌≡◌, ◌≢◌, ℕ, List, [], ◌∷◌, length, Contains, None, refl, arith}
+use Rattle.std.proofs.Common.{◌≡◌, ◌≢◌, ℕ, nat_eq, List, [], ◌∷◌, length, Contains, None, refl, arith}
 use Rattle.std.proofs.lemmas.List.Elements.{All-nil, All-cons}
 use Rattle.aig_parts.specs.declared.ternary.Tern.{Tern}
 use Rattle.aig_parts.specs.declared.raw.Raw.{Raw}
 use Rattle.aig_parts.specs.declared.ternary.Tern.TheVariants.{Zero, One, X}
+use Rattle.aig_base.specs.Part.{spread}
 use Rattle.aig_base.specs.Runs.{ReachesBad}
 use Rattle.aig_base.specs.Value as value
 use Rattle.aig_base.specs.Value.{Fits}
@@ -12,6 +13,7 @@ use Rattle.aig_base.proofs.lists.Positions.{position_of}
 use Rattle.aig_unroll.specs.FrameLiteral.{frame_literal, latch_literal}
 use Rattle.aig_refute.specs.Models.{AreKnown}
 use Rattle.aig_refute.specs.Satisfiable.{BreaksStep}
+use Rattle.aig_refute.specs.SpreadRun.{spread_rows, spread_start}
 use Rattle.aig_refute.specs.UnrolledWitness.{cut, filled, rows_in, start_in, witness_in, MakesBad}
 
 abbrev example : Raw
@@ -81,3 +83,12 @@ breaks_1_0 = record {
   where
     one_known : (w : Tern) → w ≢ X → AreKnown (w ∷ [])
     one_known w known = All-cons (λ (v : Tern). v ≢ X) w [] known (All-nil (λ (v : Tern). v ≢ X))
+
+-- with a further input 8 that alone is read, the row `1` of the part is the row `x1`, and the latch starts at x
+spread_1 : spread_rows (λ v. nat_eq v 4) (record example { inputs = 2 ∷ 8 ∷ [] }) ((One ∷ []) ∷ []) ≡ (X ∷ One ∷ []) ∷ []
+unfolding spread
+spread_1 = refl
+
+spread_from_none : spread_start (λ v. nat_eq v 4) example [] ≡ X ∷ []
+unfolding spread
+spread_from_none = refl

@@ -1,6 +1,6 @@
 -- A circuit and the part of it that a property reads: what is read has the same values in both.
 use Rattle.std.proofs.Common.{◌≡◌, ℕ, ◌-◌, Bool, true, List, length}
-use Rattle.std.proofs.Common.{map, Contains, Some, slice_get, option_map, sym, ◌∙◌, ap, subst, arith}
+use Rattle.std.proofs.Common.{Contains, slice_get, option_map, sym, ◌∙◌, ap, subst, arith}
 use Rattle.std.proofs.lemmas.List.{length-map}
 use Rattle.std.proofs.lemmas.List.Elements.{All-map, All-weaker}
 use Rattle.std.proofs.lemmas.Option.{slice_get-map}
@@ -9,44 +9,19 @@ use Rattle.aig_parts.specs.declared.gate.Gate.{Gate}
 use Rattle.aig_parts.specs.declared.latch.Latch.{Latch}
 use Rattle.aig_parts.specs.declared.raw.Raw.{Raw}
 use Rattle.aig_parts.specs.declared.ternary.Tern.{Tern}
-use Rattle.aig_base.specs.Part as read
+use Rattle.aig_parts.specs.declared.ternary.Tern.TheVariants.{One}
 use Rattle.aig_base.specs.Part.{TestsRead, gate_marks, input_marks, latch_marks, narrowed_rows, narrowed_start}
 use Rattle.aig_base.specs.Part.{part, picked}
 use Rattle.aig_base.specs.Runs.{IsAllowed, ReachesBad}
 use Rattle.aig_base.specs.Value as value
 use Rattle.aig_base.specs.Value.{Value, Fits}
-use Rattle.aig_base.proofs.lists.Positions.{position_of, unmap_option}
-use Rattle.aig_refute.proofs.Picked.{length-picked, picked_at, picked_both}
-
-pub marked : {A : Type 0} (f : A → Bool) (xs : List A) (i : ℕ) (x : A) → slice_get xs i ≡ Some x → f x ≡ true
-    → slice_get (map f xs) i ≡ Some true
-marked f xs i x at e = slice_get-map f xs i ∙ ap (option_map f) at ∙ ap Some e
-
-pub marked_is : {A : Type 0} (f : A → Bool) (xs : List A) (i : ℕ) (x : A) (b : Bool) → slice_get xs i ≡ Some x
-    → slice_get (map f xs) i ≡ Some b → f x ≡ b
-marked_is f xs i x b at m =
-    let e : Some (f x) ≡ Some b = sym (slice_get-map f xs i ∙ ap (option_map f) at) ∙ m in cc
+use Rattle.aig_base.proofs.lists.Positions.{unmap_option}
+use Rattle.aig_cnf.proofs.PartReads.{marked_at, reads_bad, reads_constraint, reads_first, reads_next, reads_second}
+use Rattle.aig_cnf.proofs.Picked.{length-picked, picked_at, picked_both}
 
 module _ (raw : Raw) (bad : ℕ) (test : ℕ → Bool) (exact : TestsRead raw bad test) where
   abbrev small : Raw
   small = part raw bad test
-
-  -- what the gates and latches read that are read is read
-  pub reads_first : (q : ℕ) (g : Gate) → slice_get raw.gates q ≡ Some g → test (variable g.lhs) ≡ true → test (variable g.rhs0) ≡ true
-  reads_first q g at e = (exact (variable g.rhs0)).1 (read.first q g at ((exact (variable g.lhs)).0 e))
-
-  pub reads_second : (q : ℕ) (g : Gate) → slice_get raw.gates q ≡ Some g → test (variable g.lhs) ≡ true → test (variable g.rhs1) ≡ true
-  reads_second q g at e = (exact (variable g.rhs1)).1 (read.second q g at ((exact (variable g.lhs)).0 e))
-
-  pub reads_next : (p : ℕ) (x : Latch) → slice_get raw.latches p ≡ Some x → test (variable x.lit) ≡ true → test (variable x.next) ≡ true
-  reads_next p x at e = (exact (variable x.next)).1 (read.next p x at ((exact (variable x.lit)).0 e))
-
-  pub reads_bad : test (variable bad) ≡ true
-  reads_bad = (exact (variable bad)).1 read.property
-
-  pub reads_constraint : (c : ℕ) → Contains raw.constraints c → test (variable c) ≡ true
-  reads_constraint c has =
-      let (i, at) = position_of raw.constraints c has in (exact (variable c)).1 (read.constraint i c at)
 
   module _ (start : List Tern) (rows : List (List Tern)) where
     abbrev few : List Tern
@@ -82,29 +57,38 @@ module _ (raw : Raw) (bad : ℕ) (test : ℕ → Bool) (exact : TestsRead raw ba
     to_part (value.constant_true t) e = value.constant_true t
     to_part (value.input t i l w row at is cell) e =
         let (p, here, there) = picked_at (input_marks test raw) raw.inputs row i l w
-        (marked (λ (m : ℕ). test (variable m)) raw.inputs i l at e) at cell in
+        (marked_at (λ (m : ℕ). test (variable m)) raw.inputs i l at e) at cell in
         value.input t p l w (picked (input_marks test raw) row) here
         (slice_get-map (λ (r : List Tern). picked (input_marks test raw) r) rows t
         ∙ ap (option_map (λ (r : List Tern). picked (input_marks test raw) r)) is) there
     to_part (value.latch_first i x w at is) e =
         let (p, here, there) = picked_at (latch_marks test raw) raw.latches start i x w
-        (marked (λ (y : Latch). test (variable y.lit)) raw.latches i x at e) at is in
+        (marked_at (λ (y : Latch). test (variable y.lit)) raw.latches i x at e) at is in
         value.latch_first p x w here there
     to_part (value.latch_next t i x w at v) e =
         let (p, here, there) = picked_at (latch_marks test raw) raw.latches raw.latches i x x
-        (marked (λ (y : Latch). test (variable y.lit)) raw.latches i x at e) at at in
-        value.latch_next t p x w here (to_part v (reads_next i x at e))
+        (marked_at (λ (y : Latch). test (variable y.lit)) raw.latches i x at e) at at in
+        value.latch_next t p x w here (to_part v (reads_next raw bad test exact i x at e))
     to_part (value.gate t i g a b at va vb) e =
         let (q, here, there) = picked_at (gate_marks test raw) raw.gates raw.gates i g g
-        (marked (λ (h : Gate). test (variable h.lhs)) raw.gates i g at e) at at in
-        value.gate t q g a b here (to_part va (reads_first i g at e)) (to_part vb (reads_second i g at e))
+        (marked_at (λ (h : Gate). test (variable h.lhs)) raw.gates i g at e) at at in
+        value.gate t q g a b here (to_part va (reads_first raw bad test exact i g at e)) (to_part vb (reads_second raw bad test exact i g at e))
     to_part (value.negated t l w over neg v) e =
         let same : variable l ≡ variable (l - 1) = grind (arith, neg, over) in
         value.negated t l w over neg (to_part v (subst (λ u. test u ≡ true) same e))
 
-    -- so both reach the property at the same frames
+    -- so both keep the constraints, and reach the property, at the same frames
+    pub keeps_in_part : (t c : ℕ) → Contains raw.constraints c → Value raw start rows t c One → Value small few few_rows t c One
+    keeps_in_part t c has v = to_part v (reads_constraint raw bad test exact c has)
+
+    pub keeps_in_whole : (t c : ℕ) → Value small few few_rows t c One → Value raw start rows t c One
+    keeps_in_whole t c v = to_whole v
+
     pub reaches_in_part : (t : ℕ) → ReachesBad raw start rows t bad → ReachesBad small few few_rows t bad
-    reaches_in_part t (v, all) = (to_part v reads_bad, λ s c le has. to_part (all s c le has) (reads_constraint c has))
+    reaches_in_part t (v, all) = (
+      to_part v (reads_bad raw bad test exact),
+      λ s c le has. to_part (all s c le has) (reads_constraint raw bad test exact c has),
+    )
 
     pub reaches_in_whole : (t : ℕ) → ReachesBad small few few_rows t bad → ReachesBad raw start rows t bad
     reaches_in_whole t (v, all) = (to_whole v, λ s c le has. to_whole (all s c le has))

@@ -4,6 +4,7 @@ pub mod Models
 pub mod PartialModels
 pub mod Satisfiable
 pub mod Selection
+pub mod SpreadRun
 pub mod Unreachable
 pub mod UnrolledWitness
 pub mod state

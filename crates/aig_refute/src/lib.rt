@@ -8,6 +8,7 @@ mod formula;
 mod laws;
 mod partial_models;
 mod proof;
+mod read_formula;
 mod read_part;
 mod selection;
 mod unrolled_witnesses;
@@ -21,6 +22,7 @@ pub use laws::{
 };
 pub use partial_models::law_of_partial_models;
 pub use proof::check;
+pub use read_formula::{law_of_read_formula, law_of_read_models, law_of_read_refutation};
 pub use read_part::law_of_read_part;
 pub use selection::law_of_selection;
 pub use unrolled_witnesses::{law_of_reached, law_of_unrolled_rows, law_of_unrolled_witnesses};

@@ -7,6 +7,7 @@ pub mod GuardedValues
 pub mod Guarding
 pub mod InputMapLaw
 pub mod InputMapLines
+pub mod KeptLines
 pub mod NumberLemmas
 pub mod NumberedGates
 pub mod ReadFrames

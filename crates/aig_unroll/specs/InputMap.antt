@@ -2,8 +2,9 @@
 -- choice.
 -- Example: `i 0 0 0 `, `i 1 1 0 `, `l 2 0 `.
 use Rattle.std.specs.Prelude.{◌≡◌, ℕ, ◌+◌, ◌==◌, Bool, true, false, ◌&&◌, if◌then◌else◌, List, [], ◌∷◌, ◌++◌, length}
-use Rattle.std.specs.Prelude.{map, slice_index, codes, decimal}
-use Rattle.std.specs.List.{range_with_len}
+use Rattle.std.specs.Prelude.{map, slice_index, slice_index_or, codes, decimal, Option, None, Some}
+use Rattle.std.specs.List.{filter, range_with_len}
+use Rattle.aig_parts.specs.Literal.{variable}
 use Rattle.aig_parts.specs.declared.latch.Latch.{Latch}
 use Rattle.aig_parts.specs.declared.raw.Raw.{Raw}
 use Rattle.aig_parts.specs.declared.symbols.Kind.{Kind}
@@ -32,6 +33,20 @@ start_origins p (x ∷ xs) =
 -- where the inputs of the circuit unrolled for k frames are from, in order
 abbrev pub origins : Raw → ℕ → List Origin
 origins raw k = frames (frame_origins raw) k ++ start_origins 0 raw.latches
+
+-- the variable of the circuit that it is of passes the test
+abbrev pub is_of : (ℕ → Bool) → Raw → Origin → Bool
+is_of test raw (input t p) = test (variable (slice_index raw.inputs p))
+is_of test raw (start p) = test (variable (slice_index (map (λ x. x.lit) raw.latches) p))
+
+-- the inputs of the unrolled circuit of which the variable does
+abbrev pub read_origins : (ℕ → Bool) → Raw → ℕ → List Origin
+read_origins test raw k = filter (is_of test raw) (origins raw k)
+
+-- a variable has a mark if there are marks, or all have one
+abbrev pub has_mark : Option (List Bool) → ℕ → Bool
+has_mark None v = true
+has_mark (Some marks) v = slice_index_or marks v false
 
 -- the literal that stands for it: that of the input at frame t, or of the latch at frame 0
 abbrev pub origin_literal : Raw → List ℕ → ℕ → Origin → ℕ

@@ -1,15 +1,17 @@
 //! The text that says what the inputs of an unrolled circuit are. Where the standard is silent, it is our own choice.
-ghost use Rattle.std.specs.Prelude.{◌≡◌, ◌+◌, ◌*◌, ◌≤◌, ◌<◌, ◌^◌, ◌++◌, decimal, length, IfOk};
+ghost use Rattle.std.specs.Prelude.{◌≡◌, ◌+◌, ◌*◌, ◌≤◌, ◌<◌, ◌^◌, ◌++◌, decimal, false, slice_index_or};
+ghost use Rattle.std.specs.Prelude.{IfOk, option_copied};
 ghost use Rattle.aig_bytes.specs.Bytes.{Writes};
 ghost use Rattle.aig_parts.specs.Formed.{limit};
+ghost use Rattle.aig_parts.specs.Literal.{variable};
 ghost use Rattle.aig_unroll.specs.InputMap as inputs;
-ghost use Rattle.aig_unroll.specs.InputMap.{map_field, frame_origins, is_input, is_latch, map_text};
-ghost use Rattle.aig_unroll.specs.InputMap.{origin_line, origin_lines, origins, start_origins, symbol_name_at};
+ghost use Rattle.aig_unroll.specs.InputMap.{frame_origins, has_mark, is_input, is_latch, map_field, map_text};
+ghost use Rattle.aig_unroll.specs.InputMap.{origin_line, origin_lines, read_origins, start_origins, symbol_name_at};
 ghost use Rattle.aig_unroll.specs.Unrolled as parts;
-ghost use Rattle.aig_unroll.specs.state.MapLines.{position_after, start_line};
+ghost use Rattle.aig_unroll.specs.state.MapLines.{after_kept, is_kept_start, kept_lines, line_if, number_after};
 
 use crate::unrolling::plan::is_uninitialised;
-use aig_base::{Circuit, Io, Kind, Latch, Write, write_all};
+use aig_base::{Circuit, Io, Kind, Latch, Lit, Write, write_all};
 use itoa::Buffer;
 
 // Writes a number's decimal digits.
@@ -86,32 +88,35 @@ fn write_start<W: Write>(
     write_all(out, b"\n")
 }
 
-// How many inputs there are.
-fn input_count(circuit: &Circuit) -> u32
-    ensures value { result ≡ length circuit.now.inputs }
-    ensures few { result ≤ limit }
+// Whether a variable has a mark.
+fn is_marked(marks: &[bool], variable: u32) -> bool
+    ensures { result ≡ slice_index_or marks.now variable false }
 {
-    circuit.facts();
-    circuit.inputs().len() as u32
+    match marks.get(variable as usize) {
+        Some(mark) => *mark,
+        None => false,
+    }
 }
 
-// How many inputs there are at frames.
-fn in_frames(frames: u32, inputs: u32) -> u64
-    requires { inputs ≤ limit }
-    ensures value { result ≡ frames * inputs }
-    ensures few { result ≤ 2 ^ 32 * limit }
-{
-    frames as u64 * inputs as u64
-}
-
-// What all lines of a map share: the circuit, and the text that each line begins with.
+// What all lines of a map share: the circuit, the text that each line begins with, and which variables have a line.
 #[derive(Clone, Copy, Drop)]
 struct MapWriter<'a> {
     prefix: &'a [u8],
     circuit: &'a Circuit,
+    marks: Option<&'a [bool]>,
 }
 
 impl<'a> MapWriter<'a> {
+    // Whether the variable of a literal has a mark.
+    fn has_mark(&self, literal: Lit) -> bool
+        ensures { result ≡ has_mark (option_copied self.now.marks) (variable literal) }
+    {
+        match self.marks {
+            Some(marks) => is_marked(marks, literal.var()),
+            None => true,
+        }
+    }
+
     // Writes the line of an input at a frame after the prefix.
     fn write_input_line<W: Write>(
         &self,
@@ -136,32 +141,68 @@ impl<'a> MapWriter<'a> {
         write_start(out, self.circuit, position, latch)
     }
 
-    // Writes the lines of the inputs at a frame, the first of which has this number.
-    fn write_frame<W: Write>(&self, out: &mut W, position: u64, frame: u32) -> Result<(), Io>
-        requires { position ≤ 2 ^ 33 * limit }
-        ensures { Writes W.written W.failures out.old out.new (origin_lines self.now.prefix.now self.now.circuit.now
-            position (frame_origins self.now.circuit.now frame)) result }
+    // Writes the line of an input at a frame with this number if its variable has a mark, and returns the number after
+    // it.
+    fn write_input_of<W: Write>(
+        &self,
+        out: &mut W,
+        position: u64,
+        frame: u32,
+        place: u32,
+        literal: Lit,
+    ) -> Result<u64, Io>
+        requires { position < 2 ^ 63 }
+        ensures written { Writes W.written W.failures out.old out.new
+            (line_if (has_mark (option_copied self.now.marks) (variable literal))
+            self.now.prefix.now self.now.circuit.now position (inputs.input frame place)) result }
+        ensures next { IfOk result (λ next.
+            next ≡ number_after (has_mark (option_copied self.now.marks) (variable literal)) position) }
     {
-        for input in 0..input_count(self.circuit) {
-            self.write_input_line(out, position + input as u64, frame, input)?;
+        if self.has_mark(literal) {
+            self.write_input_line(out, position, frame, place)?;
+            Ok(position + 1)
+        } else {
+            Ok(position)
         }
-        Ok(())
     }
 
-    // Writes the lines of the inputs at all frames, the first of which has this number.
-    fn write_frames<W: Write>(&self, out: &mut W, first: u32, frames: u32) -> Result<(), Io>
-        ensures { Writes W.written W.failures out.old out.new (origin_lines self.now.prefix.now self.now.circuit.now
+    // Writes the lines of the inputs at a frame, the first of which has this number, and returns the number after them.
+    fn write_frame<W: Write>(&self, out: &mut W, first: u64, frame: u32) -> Result<u64, Io>
+        requires { first ≤ 2 ^ 33 * limit }
+        ensures written { Writes W.written W.failures out.old out.new
+            (kept_lines (option_copied self.now.marks) self.now.prefix.now self.now.circuit.now
+            first (frame_origins self.now.circuit.now frame)) result }
+        ensures next { IfOk result (λ next. next ≡ after_kept (option_copied self.now.marks) self.now.circuit.now
+            first (frame_origins self.now.circuit.now frame)) }
+        ensures few { IfOk result (λ next. next ≤ first + limit) }
+    {
+        self.circuit.facts();
+        let mut position = first;
+        for (place, literal) in self.circuit.inputs().iter().enumerate() {
+            position = self.write_input_of(out, position, frame, place as u32, *literal)?;
+        }
+        Ok(position)
+    }
+
+    // Writes the lines of the inputs at all frames, the first of which has this number, and returns the number after
+    // them.
+    fn write_frames<W: Write>(&self, out: &mut W, first: u32, frames: u32) -> Result<u64, Io>
+        ensures written { Writes W.written W.failures out.old out.new
+            (kept_lines (option_copied self.now.marks) self.now.prefix.now self.now.circuit.now
             first (parts.frames (frame_origins self.now.circuit.now) frames)) result }
+        ensures next { IfOk result (λ next. next ≡ after_kept (option_copied self.now.marks) self.now.circuit.now
+            first (parts.frames (frame_origins self.now.circuit.now) frames)) }
+        ensures few { IfOk result (λ next. next ≤ 2 ^ 33 * limit) }
     {
-        let inputs = input_count(self.circuit);
+        let mut position = first as u64;
         for frame in 0..frames {
-            let position = first as u64 + in_frames(frame, inputs);
-            self.write_frame(out, position, frame)?;
+            position = self.write_frame(out, position, frame)?;
         }
-        Ok(())
+        Ok(position)
     }
 
-    // Writes the line of a latch that has this number if it is uninitialised, and returns the number after it.
+    // Writes the line of a latch that has this number if it is uninitialised and its variable has a mark, and returns
+    // the number after it.
     fn write_start_of<W: Write>(
         &self,
         out: &mut W,
@@ -171,11 +212,12 @@ impl<'a> MapWriter<'a> {
     ) -> Result<u64, Io>
         requires { position < 2 ^ 63 }
         ensures written { Writes W.written W.failures out.old out.new
-            (start_line self.now.prefix.now self.now.circuit.now position place latch.now) result }
-        ensures next_position { IfOk result (λ next_position. next_position ≡ position_after position latch.now) }
-        ensures few { IfOk result (λ next_position. next_position ≤ position + 1) }
+            (line_if (is_kept_start (option_copied self.now.marks) latch.now)
+            self.now.prefix.now self.now.circuit.now position (inputs.start place)) result }
+        ensures next { IfOk result (λ next.
+            next ≡ number_after (is_kept_start (option_copied self.now.marks) latch.now) position) }
     {
-        if is_uninitialised(latch) {
+        if is_uninitialised(latch) && self.has_mark(latch.lit) {
             self.write_start_line(out, position, place)?;
             Ok(position + 1)
         } else {
@@ -183,15 +225,16 @@ impl<'a> MapWriter<'a> {
         }
     }
 
-    // Writes the lines of those of these latches that are uninitialised, the first of which has this number.
-    fn write_starts<W: Write>(&self, out: &mut W, first: u64, latches: &[Latch]) -> Result<(), Io>
-        requires first { first ≤ 2 ^ 33 * limit }
-        requires latches { length latches.now ≤ limit }
+    // Writes the lines of the latches that are uninitialised and have a mark, the first of which has this number.
+    fn write_starts<W: Write>(&self, out: &mut W, first: u64) -> Result<(), Io>
+        requires { first ≤ 2 ^ 33 * limit }
         ensures { Writes W.written W.failures out.old out.new
-            (origin_lines self.now.prefix.now self.now.circuit.now first (start_origins 0 latches.now)) result }
+            (kept_lines (option_copied self.now.marks) self.now.prefix.now self.now.circuit.now
+            first (start_origins 0 self.now.circuit.now.latches)) result }
     {
+        self.circuit.facts();
         let mut position = first;
-        for (place, latch) in latches.iter().enumerate() {
+        for (place, latch) in self.circuit.latches().iter().enumerate() {
             position = self.write_start_of(out, position, place as u32, latch)?;
         }
         Ok(())
@@ -199,23 +242,27 @@ impl<'a> MapWriter<'a> {
 }
 
 /// Writes what the inputs of the circuit unrolled for this many frames are, one line each, in order, as
-/// `write_input_map` does. Each line begins with the prefix, and POSITION counts from `first`. It takes no memory, and
-/// writes in small pieces: pass a writer that buffers them.
+/// `write_input_map` does. Each line begins with the prefix, and POSITION counts from `first`. With marks, an input or a
+/// latch has a line only if its variable has a mark. It takes no memory, and writes in small pieces: pass a writer that
+/// buffers them.
 pub fn write_input_lines<W: Write>(
     prefix: &[u8],
     circuit: &Circuit,
+    marks: Option<&[bool]>,
     first: u32,
     frames: u32,
     out: &mut W,
 ) -> Result<(), Io>
-    ensures { Writes W.written W.failures out.old out.new
-        (origin_lines prefix.now circuit.now first (origins circuit.now frames)) result }
+    ensures { Writes W.written W.failures out.old out.new (origin_lines prefix.now circuit.now first
+        (read_origins (has_mark (option_copied marks.entry)) circuit.now frames)) result }
 {
-    circuit.facts();
-    let map = MapWriter { prefix, circuit };
-    map.write_frames(out, first, frames)?;
-    let starts = first as u64 + in_frames(frames, input_count(circuit));
-    map.write_starts(out, starts, circuit.latches())
+    let map = MapWriter {
+        prefix,
+        circuit,
+        marks,
+    };
+    let starts = map.write_frames(out, first, frames)?;
+    map.write_starts(out, starts)
 }
 
 /// Writes what the inputs of the circuit unrolled for this many frames are, one line each, in order. An input of the
@@ -225,5 +272,5 @@ pub fn write_input_lines<W: Write>(
 pub fn write_input_map<W: Write>(circuit: &Circuit, frames: u32, out: &mut W) -> Result<(), Io>
     ensures { Writes W.written W.failures out.old out.new (map_text circuit.now frames) result }
 {
-    write_input_lines(b"", circuit, 0, frames, out)
+    write_input_lines(b"", circuit, None, 0, frames, out)
 }

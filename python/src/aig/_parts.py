@@ -2,6 +2,7 @@
 
 from __future__ import annotations
 
+from itertools import islice
 from typing import Iterator, List, NamedTuple, Tuple
 
 
@@ -36,4 +37,5 @@ def parts_of(text: bytes) -> Parts:
     of_latches = [(row[0], row[1], row[2] if len(row) > 2 else 0) for row in numbers(latches)]
     of_properties = literals(outputs), literals(bad), literals(constraints)
     literals(sum(literals(justice)) + fairness)
-    return Parts(of_inputs, of_latches, *of_properties, [(row[0], row[1], row[2]) for row in numbers(gates)])
+    of_gates = [*map(int, b" ".join(islice(lines, gates)).split())]
+    return Parts(of_inputs, of_latches, *of_properties, [*zip(of_gates[0::3], of_gates[1::3], of_gates[2::3])])

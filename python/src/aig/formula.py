@@ -43,7 +43,7 @@ class Formula:
 
     @property
     def inputs(self) -> Dict[Tuple[int, int], int]:
-        """The variable of each input at each frame: `inputs[position, frame]`."""
+        """The variable of each input that the formula reads, at each frame: `inputs[position, frame]`."""
         words = (line.split()[2:5] for line in self.text.split(b"\n") if line.startswith(b"c i "))
         return {(int(position), int(frame)): int(variable) for variable, frame, position in words}
 

@@ -96,6 +96,20 @@ def write_manifest(path, manifest, mends_sums=True):
     (path / "MANIFEST.json").write_text(json.dumps(manifest))
 
 
+def forged(path, forge):
+    """What `recheck` says of a bundle after a change, with all sums mended; None if it takes it."""
+    manifest = manifest_of(path)
+    forge(path, manifest)
+    write_manifest(path, manifest)
+    return why_rejected(path)
+
+
+def of_script(path):
+    """How `recheck.sh` of a bundle ended."""
+    return subprocess.run(["sh", path / "recheck.sh"], env={**os.environ, "AIG": os.environ["AIG_PROGRAM"]},
+                          capture_output=True, text=True, check=False)
+
+
 def row(manifest, name, kind="assert"):
     return next(it for it in manifest["rows"] if it.get("name") == name and it["kind"] in (kind, "cover"))
 

@@ -2,9 +2,11 @@
 
 from __future__ import annotations
 
+import contextlib
 import hashlib
 import json
 import os
+import shutil
 import threading
 import time
 import xml.etree.ElementTree as tree
@@ -26,6 +28,7 @@ from aig.verdicts.tools import Stop, Stopped
 from aig.verdicts.workers import Workers
 from believed import believed
 from bundles.common import FEW, called, judged, kept, manifest_of, rows_of, tool, why_rejected, write_manifest
+from library.runs import EXAMPLES
 
 CIRCUIT = "circuit.aig"
 
@@ -271,12 +274,14 @@ def folder_files(_, tally, __):
     tally.compare("folder: whether it has a file", [folder.has(*it) for it in (
         ("0.wit", b"one"), ("0.wit", b"two"), ("0.wit", b"on"), ("1.wit", b"one"))], [True, False, False, False])
     tally.check("folder: no other run", raises(BusyFolder, Folder, Path("made")))
-    names = ("1.wit", "1.base.drat", "1.base.lrat", "1.cert.aag", ".x.new", "notes.txt", "my.aag")
+    names = ("1.wit", "1.base.drat", "1.base.lrat", "1.cert.aag", ".x.new", "needed/1.0.cuts", "needed/1.0.wit", "needed/notes.txt",
+             "notes.txt", "my.aag")
+    Path("made/needed").mkdir()
     for name in names:
         Path("made", name).write_text("old")
     folder.clean()
     tally.compare("folder: what is removed", [name for name in names if not Path("made", name).exists()],
-                  ["1.wit", "1.base.drat", "1.base.lrat", "1.cert.aag", ".x.new"])
+                  ["1.wit", "1.base.drat", "1.base.lrat", "1.cert.aag", ".x.new", "needed/1.0.cuts", "needed/1.0.wit"])
     tally.check("folder: what stays", Path("made/0.wit").exists())
     folder.write({"rows": [], "sums": {"old": "1"}})
     tally.compare("folder: the manifest", manifest_of("made"), {"rows": [], "sums": sums})
@@ -285,6 +290,19 @@ def folder_files(_, tally, __):
                   ({"sources/a.v": sums["sources/a.v"]}, False))
     folder.close()
     Folder(Path("made")).close()
+    path = Path(shutil.copytree(f"{EXAMPLES}/queue.verdicts", "translated"))
+    manifest = manifest_of(path)
+    manifest["translated"] = ["queue.v"]
+    (path / "translated").mkdir()
+    shutil.copy(path / "sources/queue.v", path / "translated/queue.v")
+    manifest["sums"]["translated/queue.v"] = ""
+    write_manifest(path, manifest)
+    with contextlib.closing(Folder(path)) as folder:
+        folder.set_aside()
+        before = folder.before()
+        tally.compare("folder: set aside with its translation", before and before.summed("translated/queue.v"),
+                      (path / "sources/queue.v").read_bytes())
+    shutil.rmtree(path)
     Path("file").write_text("old")
     try:
         with replaced(Path("file")) as file:

@@ -117,6 +117,7 @@ def total(program, tally, _):
     solver = tool("hangs.sh", f'case $1 in --*) exec {SMALL_SOLVER} "$@";; esac; : > {hangs}; exec sleep 1000')
     with unittest.mock.patch.object(Stop, "after", late_when(hangs.exists)):
         status, out, err = called("run", FEW, "--out", "late", "--abc", "", "-j", "1", "--solver", solver, "--total", "2h")
+    tally.compare("total: without a unit", [called("run", FEW, "--total", it)[0] for it in ("90", "", "s", "1d")], [2] * 4)
     tally.check("total: the table", status == 4 and out.count("undecided") == len(KNOWN), (status, out))
     tally.compare("total: the terminal", err.splitlines()[-2],
                   "aig-verdicts: the time of --total is over; the same command goes on")

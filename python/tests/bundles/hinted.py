@@ -44,7 +44,7 @@ def hints(_, tally, __):
     tally.compare("hints: verdicts", {name: row["verdict"] for name, row in by_symbol("out").items()}, KNOWN)
     tally.compare("hints: proofs", proofs_of("out"), {".lrat"})
     tally.check("hints: each has some", all(map(has_hints, contents_of("out", ".lrat"))))
-    tally.compare("hints: the table", (".lrat" in out, ".drat" in out, err.count("\n")), (True, False, 1))
+    tally.compare("hints: the table", (".lrat" in out, ".drat" in out, err.count("\n")), (True, False, 2))
     tally.compare("hints: no notes", notes_of("out"), [])
     tally.compare("hints: its version", manifest_of("out")["versions"]["drat2lrat"], "drat2lrat 1")
     for bundle in ("out", "out.zip"):
@@ -101,7 +101,7 @@ def later(_, tally, __):
     solver = tool("small_solver", body, "same")
     for words in (("--drat2lrat", program), ()):
         status, _, err = run(*words, solver=solver, out="later")
-        tally.compare(f"later: {words[:1]}", (status, proofs_of("later"), err.count("\n")), (5, {".lrat"}, 1))
+        tally.compare(f"later: {words[:1]}", (status, proofs_of("later"), err.count("\n")), (5, {".lrat"}, 2))
         tally.check(f"later: {words[:1]}: re-checked", judged("later") is not None)
         same = {name: data for name, data in files_of("later").items() if data != files_of("fresh").get(name)}
         tally.compare(f"later: {words[:1]}: the same proofs", sorted(same), [])

@@ -4,10 +4,11 @@ from __future__ import annotations
 
 import xml.etree.ElementTree as tree
 from dataclasses import replace
+from pathlib import Path
 
 from aig.verdicts.checked import Wrong
 from aig.verdicts.decisions import Judge, checked, exit_status, judge, summary
-from aig.verdicts.table import junit, open_notes, plain, text
+from aig.verdicts.table import junit, next_command, open_notes, plain, text
 from believed import believed
 
 # How a row was decided: the verdict, by what, the frames.
@@ -68,6 +69,7 @@ def judging(_, tally, __):
         tally.compare(f"judging: a row that has no answer beside {missing}", (exit_status(table, 2), checked(table, 2)),
                       (wanted, "1 of 2 checked by aig"))
     notes(tally)
+    following(tally)
     together(tally)
     said_of_each(tally)
     texts(tally)
@@ -164,6 +166,18 @@ def notes(tally):
     for k, row in enumerate(made[1:]):
         row.name, row.notes = f"n{k}", ["late"] + ["other"] * (k > 2)
     tally.compare("judging: notes", open_notes(judge(made)), ["n0, n1, n2 and 2 more: late", "n3, n4: other"])
+
+
+def following(tally):
+    """What is typed next is about the first run that fails or is denied, and not of a cover that is reached."""
+    made = [_row(k, kind, found, {"witness": f"{k}.wit"} if found == "run" else ()) for k, (kind, found) in enumerate(
+        [("cover", "run"), ("assert", "proof"), ("assert", "run"), ("assert", "run")])]
+    table = judge(made)
+    opens = "the run of b{0}: aig shell --witness 'a b/circuit.aig' 'a b/{0}.wit'"
+    for name, part, wanted in (("two that fail", table, opens.format(2)), ("the last one", table[3:], opens.format(3)),
+                               ("none", table[:2], ""), ("no row", [], ""),
+                               ("one that is denied", [table[3].denied_by("so")], opens.format(3))):
+        tally.compare(f"judging: what is typed next: {name}", next_command(part, Path("a b")), wanted)
 
 
 def denied(tally):

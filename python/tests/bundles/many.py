@@ -12,7 +12,7 @@ from typing import NamedTuple
 
 import aig
 from aig.verdicts.folder import Folder
-from aig.verdicts.manifest import FORMAT, rows_as_json
+from aig.verdicts.manifest import FORMAT, FORMULAS, rows_as_json
 from aig.verdicts.recheck import recheck
 from aig.verdicts.row import name_of
 from believed import believed
@@ -111,7 +111,7 @@ def made(path, *lies):
             for role, data in files.items():
                 folder.put(name_of(at, role), data)
     folder.write({"format": FORMAT, "name": "many", "notes": [], "bounds": {}, "options": {}, "sources": [],
-                  "versions": {"aig": "aig"}, "rows": rows_as_json(rows)})
+                  "versions": {"aig": "aig", "formulas": FORMULAS}, "rows": rows_as_json(rows)})
     folder.close()
     return Path(path)
 

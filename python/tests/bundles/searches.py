@@ -275,7 +275,7 @@ def options(tally):
     status, out, err = run(*only, "--junit", "j.xml", "--zip", "b.zip", "-v")
     tally.compare("words: --only", (status, sorted(line.split()[2] for line in out.splitlines())),
                   (5, ["back", "never", "two"]))
-    tally.check("words: -v", sorted(line.split()[0] for line in err.splitlines()[:-1]) == ["b2", "b4", "b9"], err)
+    tally.check("words: -v", sorted(line.split()[0] for line in err.splitlines()[:-2]) == ["b2", "b4", "b9"], err)
     left_out(tally)
     suite = tree.parse("j.xml").getroot().find("testsuite")
     tally.compare("words: --junit", [suite.get(it) for it in ("tests", "failures", "errors", "skipped")],

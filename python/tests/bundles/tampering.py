@@ -8,12 +8,10 @@ import random
 import shutil
 from pathlib import Path
 
-from aig._program import program
-from aig.verdicts.manifest import FORMAT, OLDER
-from aig.verdicts.tools import Stop, version
-from bundles.common import SMALL_SOLVER, called, judged, kept, manifest_of, row, why_rejected, write_manifest
+from aig.verdicts.manifest import FORMAT, FORMULAS, OLDER
+from bundles.common import (
+    FEW, SMALL_SOLVER, called, forged, judged, kept, manifest_of, row, why_rejected, write_manifest)
 from bundles.forgers import FORGERS
-from library.runs import EXAMPLES
 
 TRIED = 8
 NOT_READ = ("recheck.sh",)
@@ -49,10 +47,7 @@ def forgers(_, tally, __):
     nothing is read or written outside of the bundle."""
     for change, caught_by in FORGERS.items():
         path = kept("every")
-        manifest = manifest_of(path)
-        change(path, manifest)
-        write_manifest(path, manifest)
-        why = why_rejected(path)
+        why = forged(path, change)
         tally.check(f"forgers: {change.__name__[1:]}", why is not None and caught_by in why, why)
         status, out, err = called("recheck", path)
         tally.check(f"forgers: {change.__name__[1:]}, status", status == 1 and err.startswith("aig-verdicts: "),
@@ -70,18 +65,37 @@ def forgers(_, tally, __):
 
 
 def older(_, tally, __):
-    """A proof that `aig` rejects: if another version made the bundle, the message says so, as its formula may have been
-    another one."""
-    path = Path("queue.verdicts")
-    shutil.copytree(f"{EXAMPLES}/queue.verdicts", path)
-    (path / "1.step.drat").write_bytes(b"")
-    for said, is_named in (("aig 0.1.9 (proved)", True), (version(program(), Stop()), False)):
-        manifest = manifest_of(path)
-        manifest["versions"]["aig"] = said
-        write_manifest(path, manifest)
-        why = why_rejected(path) or ""
-        tally.check(f"older: {said}", why.startswith("b1: aig refute: step proof: no refutation"), why)
-        tally.compare(f"older: {said} is named", "says that aig 0.1.9 made it" in why, is_named)
+    """A bundle of 0.3.0, whose formulas had other numbers: no row is called wrong, `run` makes the proofs again, and
+    `run --since` begins with it. A wrong run is wrong, and so is a proof of a bundle that says it is of now."""
+    path = kept("older")
+    said = (4, "", "aig-verdicts: b1: made by an older aig: check it with that one, or run again\n")
+    tally.compare("older: recheck", called("recheck", path, "-q"), said)
+    tally.compare("older: compare", called("compare", path, path)[0], 4)
+    words = (FEW, "--abc", "", "--solver", SMALL_SOLVER, "--frames", 6)
+    status, _, err = called("run", *words, "--since", path, "--out", "since.verdicts")
+    tally.check("older: run --since", status == 0 and "older aig" not in err and "Traceback" not in err, (status, err))
+    status, _, err = called("run", *words, "--out", path)
+    is_said = "earlier rows have proofs of an older aig, and are searched again" in err
+    tally.check("older: run", status == 5 and is_said and "not what it says" not in err, (status, err))
+    tally.compare("older: recheck of the new proofs", called("recheck", path, "-q")[0], 5)
+    path = kept("older")
+    manifest = manifest_of(path)
+    manifest["versions"]["formulas"] = FORMULAS
+    write_manifest(path, manifest)
+    why = why_rejected(path) or ""
+    tally.check("older: a bundle of now", why.startswith("b1: aig refute: "), why)
+    path = kept("older")
+    manifest = manifest_of(path)
+    (path / "2.wit").write_text("1\nb2\n000000\n0x\n0x\n0x\n.\n")
+    for file in ("0.base.drat", "1.base.drat", "1.step.drat", "2.shorter.drat"):
+        (path / file).write_bytes((Path("since.verdicts") / file).read_bytes())
+    write_manifest(path, manifest)
+    why = why_rejected(path) or ""
+    tally.check("older: a wrong run", why.startswith("b2: ") and "older" not in why, why)
+    (path / "2.wit").write_text("1\nb2\n00000\n0x\n0x\n0x\n.\n")
+    write_manifest(path, manifest)
+    why = why_rejected(path) or ""
+    tally.check("older: a run that is none", why.startswith("b2: ") and "older" not in why, why)
 
 
 def alive(_, tally, __):

@@ -141,6 +141,10 @@ DESIGNS = [
           notes=["box.v:10: the outputs of module pll, which has no body, are free values", "box.v:11: the outputs of module ram, which has no body"]),
     Known(["left_box.v"], "small=1 counts=5 same=holds", by="hand", free=["multiplier"], top="left_box",
           notes=["left_box.v:9: the outputs of module multiplier, which is left out", "left_box.v:7: trace is a memory that nothing reads"]),
+    # one of two counters is any value: what the other one does still holds
+    Known(["free_signal.v"], "same=2 low_a=2 low_b=holds sum=holds even=2 gated=holds gated_too=2", by="hand", top="free_signal",
+          free=["free_signal.u0.count", "free_signal.gate"],
+          notes=["free_signal.v:1: u0.count is free: it has any value", "free_signal.v:8: gate is free: it has any value"]),
     Known(["deep_bug.v"], "far=30 locked=25 bound=holds"),
     Known(["included/left/part.v", "included/right/part.v"], "inner.one=holds inner.words=holds inner.not_33=1 two=holds wide=2 limit=2",
           top="right", defines=["LIMIT=8'h7f"], include=["included/common"]),

@@ -12,6 +12,7 @@ MAPPED = "aag 3 2 0 0 1\n2\n4\n6 4 2\nc\n"
 WANTED_MAPPING = ("wanted: a line `MAPPING N`, then N lines of two literals: one of an input or latch of the certificate, each"
                   " once, and one of CIRCUIT")
 SAME_CERTIFIED = "the formula of aig cnf --certificate for the same P, CERTIFICATE and CIRCUIT"
+OTHER_NUMBERS = "; an older aig wrote one with other numbers"
 WHICH_FAILS = ("or the certificate is wrong: give a solver's model to aig witness --certificate --model to see which claim"
                " fails")
 
@@ -67,9 +68,9 @@ def certificates(rows):
     rows.row("a certificate, and a proof that does not refute", [*refute, write("f", "")], "proof: no refutation",
              [TOO_SHORT, "its number of steps: 0", "the file is empty", WRITE_AGAIN])
     rows.row("a certificate, and an unfinished proof", [*refute, write("f", "-5 3 0\n")], "proof: no refutation",
-             [TOO_SHORT, "its number of steps: 1", f"it has to be about {SAME_CERTIFIED}", WHICH_FAILS])
+             [TOO_SHORT, "its number of steps: 1", f"it has to be about {SAME_CERTIFIED}{OTHER_NUMBERS}", WHICH_FAILS])
     rows.row("a certificate, and a proof of another formula", [*refute, write("f", "14 0\n")], "proof: step 1",
-             [NO_UNIT, "step 1, in line 1, adds the clause `14`", f"it has to be about {SAME_CERTIFIED}", WHICH_FAILS])
+             [NO_UNIT, "step 1, in line 1, adds the clause `14`", f"it has to be about {SAME_CERTIFIED}{OTHER_NUMBERS}", WHICH_FAILS])
     rows.row("a certificate, and no proof", [*refute, write("f", "x\n")], "proof: text at 0",
              [NO_STEP, "line 1, column 1: found `x`", TO_ITS_END])
     witness = ["witness", "--certificate", "claims", "--model", "f", "ring"]

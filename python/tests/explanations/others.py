@@ -4,6 +4,10 @@ from explanations.common import OTHER, WITNESS, WRAPS
 from library.runs import write
 
 
+# A chain of 65 gates, all of which the property reads.
+GATES = "aag 66 1 0 0 65 1\n2\n132\n" + "".join(f"{at} {at - 2} {at - 2}\n" for at in range(4, 134, 2))
+
+
 def others(rows):
     """Rows whose circuits or commands differ."""
     rows.row("a stimulus without inputs", ["sim", "empty", write("f", "0\n")], "stimulus: length of line 1",
@@ -49,6 +53,9 @@ def others(rows):
              ["K is 65537", "wanted: at most 65,536 frames"])
     rows.row("too many frames of a step", ["cnf", "--step", "--frames", "65536", "wraps"], "cnf: limit",
              ["K + 1 is 65537", "wanted: at most 65,536 frames"])
+    rows.row("too many gates of a formula", ["cnf", "--frames", "65536", write("gates", GATES)], "cnf: limit",
+             ["the property and the constraints read too many inputs and gates for so many frames",
+              "wanted: a formula of at most 4,194,304 variables; take fewer frames"])
     rows.row("a property to select that is not there", ["select", "--to", "aag", "--property", "7", "wraps"],
              "select: property", ["the section has no property at a position that --property names",
                                   "positions count from 0: aig info --names CIRCUIT prints them",

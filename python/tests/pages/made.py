@@ -1,9 +1,11 @@
 """Pages that `aig-verdicts run` made, with Yosys and cadical: each picture beside the plain simulator and explainer."""
 
 import contextlib
+import html
 import io
 import json
 import os
+import re
 import shutil
 import signal
 import subprocess
@@ -61,7 +63,30 @@ def made(_, tally, __):
         tally.check(f"{file}: scripts are text", "<script>alert(1)</script>" in text)
         tally.compare(f"{file}: sections", [it for it in wanted if f'id="{it}"' not in page], [])
         pictured(tally, file, folder)
+        opened(tally, file, folder, page)
     tally.check("the register is shown", ">n</text>" in Path("small.v.out/index.html").read_text(encoding="utf-8"))
+
+
+def opened(tally, file, folder, page):
+    """What the page says to type for a dump: one with x, and one with the values of its pale digits."""
+    if not Path("path").exists():
+        os.mkdir("path")
+        os.symlink(os.path.abspath(os.environ["AIG_PROGRAM"]), "path/aig")
+    path = f"{os.path.abspath('path')}:{os.environ['PATH']}"
+    section = page.partition('<section id="b0"')[2].partition("<summary>Open it</summary>")[2].partition("</pre>")[0]
+    typed = [html.unescape(line)[2:] for line in re.findall(r"\$ [^\n]*", section)]
+    tally.compare(f"{file}: what is typed", [re.findall(r"aig [a-z]+", line) for line in typed],
+                  [["aig shell"], ["aig wave"], ["aig wave"]])
+    witness, dumps = Path(folder, "0.wit").read_bytes(), []
+    for command, data in zip(typed[1:], (witness, witness.replace(b"x", b"0"))):
+        supervised.run(["sh", "-c", command], cwd=folder, env={**os.environ, "PATH": path}, check=True)
+        dumps.append(Path(folder, "0.vcd").read_bytes())
+        runs.write("run.wit", data)
+        wanted = supervised.run(["path/aig", "wave", "--witness", f"{folder}/circuit.aig", "run.wit"],
+                                stdout=subprocess.PIPE, check=True).stdout
+        tally.check(f"{file}: {command}", dumps[-1] == wanted, dumps[-1])
+    is_free = [re.search(rb"(?m)^(x|b[01]*x)", it.partition(b"$enddefinitions")[2]) is not None for it in dumps]
+    tally.compare(f"{file}: which dump has x", is_free, [b"x" in witness, False])
 
 
 def pictured(tally, file, folder):

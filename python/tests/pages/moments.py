@@ -96,7 +96,7 @@ def pages(tally):
 
 
 def for_ever(_, tally, __):
-    """A run that keeps the assumptions and comes back to a state has no end. A state with an x is several."""
+    """A run that keeps the assumptions and comes back to a state has no end. An x of the run is 0."""
     toggle, counts = b"aag 1 0 1 0 0 1\n2 3\n0\n", b"aag 3 0 2 0 1 1\n2 3\n4 6\n0\n6 2 5\n"
     fills = b"aag 3 1 2 0 0 1\n2\n4 1\n6 4\n0\n"
     for name, circuit_of, witness, wanted in (
@@ -109,5 +109,5 @@ def for_ever(_, tally, __):
     ):
         tally.compare(f"for ever: {name}", comes_back(circuit_of, witness), wanted)
     shift = b"aag 3 1 2 0 0 1\n2\n4 2\n6 4\n0\n"
-    tally.compare("for ever: x", comes_back(shift, b"1\nb0\n00\nx\nx\nx\nx\n.\n"), False)
-    tally.compare("for ever: equal states", comes_back(shift, b"1\nb0\n00\nx\nx\n1\n1\n1\n.\n"), False)
+    tally.compare("for ever: x", comes_back(shift, b"1\nb0\n00\nx\n0\n0\n.\n"), True)
+    tally.compare("for ever: x once", comes_back(shift, b"1\nb0\n00\n1\nx\nx\n.\n"), False)

@@ -242,8 +242,27 @@ def denied(tally):
     tally.check("sentences: denied: the group", "<h2 id=disagrees>Denied</h2>" in page)
 
 
+def long_runs(tally):
+    """A run that is longer than a screen: a paper has all of its frames, if they are not too many."""
+    for frames, on_paper in ((40, []), (60, list(range(60))), (5000, [])):
+        made = Bundle()
+        witness = b"1\nb0\n" + b"x" * LATCHES + b"\nx" * (frames - 1) + b"\n1\n.\n"
+        row = made.add("assert", "run", frames, witness=witness)
+        made.files["circuit.aig"] = circuit(0, 1)
+        section = sections_of(made.page())[row.position]
+        screen, _, paper = section.partition('<div class="paper">')
+        paper = paper.partition("</div>")[0]
+        found = [int(it) for it in re.findall(r">(\d+)</text>", paper)]
+        tally.compare(f"sentences: {frames} frames: paper", found, on_paper)
+        tally.compare(f"sentences: {frames} frames: a screen alone", screen.count(" screen"), 2 * bool(on_paper))
+        said = re.findall(r"has all frames.*?\.", shown(section))
+        tally.compare(f"sentences: {frames} frames: what has all", said, {
+            40: [], 60: ["has all frames, and so has a print of this page."], 5000: ["has all frames."]}[frames])
+
+
 def others(tally):
     denied(tally)
+    long_runs(tally)
     made = each_kind()
     made.add("assert").is_left_out = True
     for said in ("aig 9 (built by somebody, not proved)", "aig ?", "aig 9"):

@@ -8,7 +8,7 @@ from aig.entries import listed
 from aig.verdicts import explained
 from aig.verdicts.runs import Told, chosen, story
 from aig.verdicts.signals import Names, labels
-from aig.verdicts.svg import parts, waveform
+from aig.verdicts.svg import Scene, parts, sheets, waveform
 from pages.oracle import Expected, Picture, drawn
 
 BASES = ("q", "=1", "at", "a=b=c", "x=1", "always", "0", "q[1]", "<b>", "i0", "l1", "é", "b0", "count")
@@ -71,7 +71,10 @@ def compared(tally, name, told, witness, text=""):
     found = story(told, witness.text, text)
     expected = Expected(told.circuit.to("aag"), witness.text)
     first, name_of_property, rows = witness.text.split(b"\n", 2)
-    filled = Expected(told.circuit.to("aag"), b"\n".join([first, name_of_property, rows.replace(b"x", b"0")]))
+    whole = b"\n".join([first, name_of_property, rows.replace(b"x", b"0")])
+    filled = Expected(told.circuit.to("aag"), whole)
+    if told.circuit.check(witness.text).line == "confirmed":
+        tally.compare(f"{name}: the run of the pale digits", told.circuit.check(whole).line, "confirmed")
     picture = Picture(*parts(found.lanes, found.run.frames, found.run.frames - 1, witness.property))
     tally.compare(f"{name}: the lines", [line.text for line in found.why], witness.why())
     tally.compare(f"{name}: no name twice", [it.name for it in picture.lanes], labels(found.signals))
@@ -172,22 +175,36 @@ def lines(_, tally, __):
 
 
 def frames(_, tally, __):
-    """Runs of 40, 41 and 300 frames: the first frame and the last ones are shown. And vectors of 64 bits."""
+    """Runs of 40, 42 and 300 frames: the first frames and the last ones are shown, and all of them on paper. And
+    vectors of 64 bits."""
     counter = aig.Circuit("aag 1 0 1 0 0 1\n2 3\n2\nl0 q\n")
     for count in (1, 2, 40, 42, 300):
         witness = aig.Witness(counter, b"1\nb0\n0\n" + b"\n" * count + b".\n")
         found = story(Told(counter), witness.text)
         picture = Picture(*parts(found.lanes, count, count - 1))
-        wanted = list(range(count)) if count <= 40 else [0, None, *range(count - 38, count)]
+        wanted = list(range(count)) if count <= 40 else [*range(8), None, *range(count - 31, count)]
         tally.compare(f"{count} frames", picture.frames, wanted)
         values_of = {frame: str(frame % 2) for frame in wanted if frame is not None}
         tally.compare(f"{count} frames: values", picture.lanes[0].values, values_of)
+        on_paper(tally, f"{count} frames on paper", found.lanes, count)
     wide = aig.Circuit("aag 70 70 0 0 0 1\n" + "".join(f"{2 * at + 2}\n" for at in range(70)) + "2\n"
                        + "".join(f"i{at} d[{at}]\n" for at in range(70)))
     witness = wide.witness(["1" + "0" * 62 + "1x" + "10101"])
     tally.compare("a wide vector", compared(tally, "wide", Told(wide), witness), 1)
     text = wide.simulate([witness.rows[0]] * 3).svg()
     tally.check("of a trace", "70&#39;b10101x1" in text and ">2…<" not in text)
+
+
+def on_paper(tally, name, lanes, count):
+    """Each frame is on one sheet, none of which is wider than a paper, and the mark is on that of the last frame."""
+    found = list(sheets(Scene(lanes, count - 1, "", "ends"), count))
+    pictures = [Picture(it, it) for it in found]
+    tally.compare(f"{name}: frames", [frame for it in pictures for frame in it.frames], list(range(count)))
+    values_of = {frame: value for it in pictures for frame, value in it.lanes[0].values.items()}
+    tally.compare(f"{name}: values", values_of, {frame: str(frame % 2) for frame in range(count)})
+    tally.check(f"{name}: width", max(int(re.search(r' width="(\d+)"', it)[1]) for it in found) <= 680)
+    tally.compare(f"{name}: the mark", [at for at, it in enumerate(found) if "ends" in it], [len(found) - 1])
+    tally.compare(f"{name}: the names", [it.lanes[0].name for it in pictures], ["q"] * len(found))
 
 
 def mentioned(_, tally, __):

@@ -20,7 +20,8 @@ FIRST = {**{name: "1'bx" for name in "abcdrw"}, "v": "2'bx", **{name: first for 
 WIDTHS = {**dict.fromkeys("abcdrw", ""), "v": "[1:0]", "q": "", "n": "[2:0]", "k": "", "m": "[1:0]", "s": "signed [2:0]"}
 # The ports of a checker that is bound: all of its signals are nets.
 CHECKER = "input clk, " + ", ".join(f"input {WIDTHS[name]} {name}" for name in WIDTHS)
-_INNER = ["a", "b", "k", "w", "!a", "!q", "!k", "(a && k)", "q || b", "v[1]", "v == 2'd1", "v == 3'd6", "n == 3'd5", "q"]
+_INNER = ["a", "b", "k", "w", "!a", "!q", "!k", "(a && k)", "q || b", "v[1]", "v == 2'd1", "v == 3'd6", "n == 3'd5", "q",
+          "n[1]", "n[2]"]
 _WIDE = ["v", "m", "n", "s"]
 # A hole `{0}` has a call of the past of one bit, `{2}` of a vector, and `{3}` the same vector now.
 _PASTS = [

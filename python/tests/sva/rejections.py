@@ -35,6 +35,8 @@ ROWS = [
     ("$past(f(a)) |-> b", "`f`: its declaration is not read: its value before the first edge is not known"),
     ("$past(u.a) |-> b", "`u`: its declaration is not read: its value before the first edge is not known"),
     ("$past(wide) |-> b", "`wide`: its value in the declaration is not read here"),
+    ("$past(minus) |-> b", "`minus`: its value in the declaration is not read here"),
+    ("$past(up[1]) |-> b", "`up`: its value in the declaration is not read here"),
     ("$past(vec) & vec |-> b", "`&`: with a function of the past, whose first values are not known here"),
     ("{a, $past(b)} == 2 |-> b", "`{`: a function of the past inside of this is not translated"),
     ("($past(a) ? vec : b) |-> b", "`vec`: chosen by a condition that is x at the first edges, and not known to be one bit"),
@@ -77,9 +79,11 @@ WHOLE = [
     ("default clocking cb @(posedge clk); input a; endclocking", "`input`: a clocking block with signals"),
     ("checker k; assert property (@(posedge clk) a); endchecker", "`assert`: an assertion in a checker"),
 ]
-MODULE = """module m(input clk, a, b, input [3:0] vec, input signed [3:0] sig, output reg [P:0] wide = 5); parameter P = 3;
-sequence negative; @(negedge clk) a; endsequence property p3(x, y); x |-> y; endproperty property again; a |-> again; endproperty
-"""
+MODULE = (
+    "module m(input clk, a, b, input [3:0] vec, input signed [3:0] sig, output reg [P:0] wide = 5); parameter P = 3; "
+    "reg [7:0] minus = 4'sd9; reg [0:3] up = 6;\n"
+    "sequence negative; @(negedge clk) a; endsequence property p3(x, y); x |-> y; endproperty "
+    "property again; a |-> again; endproperty\n")
 # Properties that grow without a bound, or too much.
 GROWING = [
     "((a || b) ##[0:$] (##1 1'b0)) until_with (always ($changed(vec)))", "a |-> ##[1:10] (b ##[1:10] a)", "a[*1500] |-> b",

@@ -66,7 +66,7 @@ PASTS = [
     "$past(m, 2) != m", "v == $past(v) + 2'd1", "n == $past(n) + v", "$past(v) < v", "!($past(v) - 1 > v)", "&$past(v)", "!(|$past(v))",
     "$past(v)", "!$past(v, 3)", "$past(v) == 3'd6", "$past(v) != 3'd6", "3'd5 == $past(m, 2)", "$past(q)", "!$past(q)", "$past(n) == 5",
     "$past(n, 2) != n", "$past(a && k)", "!$past(a && q)", "$past(!q)", "$past(q || b)", "!$past(v == 2'd1)", "!$past(v == 3'd6)",
-    "$past(v == 3'd6) || a", "$past(n == 3'd5)", "$past(v[1])", "!$past(a) && !$past(b)", "$past(a, 2) && !$past(b)", "$past(s) == s",
+    "$past(v == 3'd6) || a", "$past(n == 3'd5)", "$past(v[1])", "$past(n[2])", "!$past(n[1])", "!$past(a) && !$past(b)", "$past(a, 2) && !$past(b)", "$past(s) == s",
 ]
 CHANGES = [
     "$rose(a)", "$fell(b)", "$rose(w)", "$rose(q)", "$fell(q)", "$stable(v)", "$changed(v)", "$stable(n)", "$changed(n)",

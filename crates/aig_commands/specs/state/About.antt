@@ -2,10 +2,9 @@
 use Rattle.std.specs.Prelude.{◌≡◌, ◌⊎◌, ℕ, List, Option, None, Some, Result, Ok, Err}
 use Rattle.aig_parts.specs.declared.fault.Fault.{Fault}
 use Rattle.aig_parts.specs.declared.raw.Raw.{Raw}
-use Rattle.aig_cnf.specs.Alive.{HasAliveFormula, IsAliveFormulaOf, RefusesAlive}
-use Rattle.aig_cnf.specs.Answers.{HasFormula, RefusesFormula}
-use Rattle.aig_cnf.specs.Formula.{Cnf, IsFormulaOf}
 use Rattle.aig_cnf.specs.Query.{from_any_state, induction, subject}
+use Rattle.aig_cnf.specs.ReadFormula.{HasReadAliveFormula, IsReadAliveOf, RefusesReadAlive}
+use Rattle.aig_cnf.specs.ReadFormula.{HasReadFormula, IsReadOf, ReadCnf, RefusesReadFormula}
 use Rattle.aig_cnf.specs.declared.fault.CnfFault.{CnfFault}
 use Rattle.aig_cnf.specs.declared.heading.Heading.{Heading}
 use Rattle.aig_cnf.specs.declared.heading.Heading.TheVariants.{Runs, Alive, Certified}
@@ -36,21 +35,21 @@ RefusesFiles (Some (claims, p)) file part = RefusesCertified Formula file p clai
 
 -- there is its formula
 abbrev pub HasItsFormula : Heading → Raw → Type 0
-HasItsFormula (Runs query) raw = HasFormula raw query
-HasItsFormula (Alive k) raw = HasAliveFormula raw k
-HasItsFormula (Certified p) raw = HasFormula raw (induction 1 0)
+HasItsFormula (Runs query) raw = HasReadFormula raw query
+HasItsFormula (Alive k) raw = HasReadAliveFormula raw k
+HasItsFormula (Certified p) raw = HasReadFormula raw (induction 1 0)
 
 -- this is it
-abbrev pub IsItsFormula : Heading → Raw → Cnf → Type 0
-IsItsFormula (Runs query) raw formula = IsFormulaOf raw query formula
-IsItsFormula (Alive k) raw formula = IsAliveFormulaOf raw k formula
-IsItsFormula (Certified p) raw formula = IsFormulaOf raw (induction 1 0) formula
+abbrev pub IsItsFormula : Heading → Raw → ReadCnf → Type 0
+IsItsFormula (Runs query) raw read = IsReadOf raw query read
+IsItsFormula (Alive k) raw read = IsReadAliveOf raw k read
+IsItsFormula (Certified p) raw read = IsReadOf raw (induction 1 0) read
 
 -- there is none, for this reason
 abbrev pub RefusesItsFormula : Heading → Raw → CnfFault → Type 0
-RefusesItsFormula (Runs query) raw fault = RefusesFormula raw query fault
-RefusesItsFormula (Alive k) raw fault = RefusesAlive raw k fault
-RefusesItsFormula (Certified p) raw fault = RefusesFormula raw (induction 1 0) fault
+RefusesItsFormula (Runs query) raw fault = RefusesReadFormula raw query fault
+RefusesItsFormula (Alive k) raw fault = RefusesReadAlive raw k fault
+RefusesItsFormula (Certified p) raw fault = RefusesReadFormula raw (induction 1 0) fault
 
 -- the circuit whose variables the lines before it name
 abbrev pub subject_of : Heading → Raw → Raw
@@ -61,7 +60,7 @@ subject_of (Certified p) raw = from_any_state raw
 -- What the check of a proof about it says: it is refuted; or it is not there, or the proof is refused.
 abbrev pub ChecksFormula : Heading → Raw → Result (Unit {0}) RunFault → Type 0
 ChecksFormula heading raw (Ok done) =
-    HasItsFormula heading raw × ((formula : Cnf) × IsItsFormula heading raw formula × IsUnsatisfiable formula.clauses)
+    HasItsFormula heading raw × ((read : ReadCnf) × IsItsFormula heading raw read × IsUnsatisfiable read.cnf.clauses)
 ChecksFormula heading raw (Err (run_faults.Cnf fault)) = RefusesItsFormula heading raw fault
 ChecksFormula heading raw (Err (run_faults.Proof fault)) = HasItsFormula heading raw
 ChecksFormula heading raw (Err _) = ⊥

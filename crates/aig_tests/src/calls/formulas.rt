@@ -2,7 +2,7 @@
 //! circuit brings about.
 use crate::calls::parts::{of_file, writes};
 use aig_base::Circuit;
-use aig_cnf::{Formula, Goal, Heading, Query};
+use aig_cnf::{Formula, Goal, Heading, Query, ReadFormula};
 use std::alloc::Global;
 
 // A circuit's file, what is asked, and the formula's text.
@@ -41,12 +41,12 @@ const FORMULAS: [Asked; 2] = [
 fn is_written(
     alloc: Global,
     circuit: &mut Circuit,
-    formula: &Formula,
+    read: &ReadFormula,
     asked: Query,
     text: &[u8],
 ) -> bool {
     writes(alloc, 600, text, |out| {
-        formula.write(circuit, Heading::Runs(asked), out).is_ok()
+        read.write(circuit, Heading::Runs(asked), out).is_ok()
     })
 }
 
@@ -66,9 +66,9 @@ fn has_formula(
     asked: Query,
     text: &[u8],
 ) -> bool {
-    match Formula::of(alloc, circuit, query) {
-        Ok(formula) => {
-            is_written(alloc, circuit, &formula, asked, text) && is_open(alloc, &formula)
+    match ReadFormula::of(alloc, circuit, query) {
+        Ok(read) => {
+            is_written(alloc, circuit, &read, asked, text) && is_open(alloc, read.formula())
         }
         Err(_) => false,
     }

@@ -50,7 +50,9 @@ class Look:
         return self.files.bytes_or_none(self.arguments.circuit)
 
     def formula(self, about: str) -> Formula:
-        return Formula(about, self.arguments.number("--frames"), self.circuit())
+        given = self.arguments.options
+        words = [word for option in ("--frames", "--property") if option in given for word in (option, given[option])]
+        return Formula(about, words, self.circuit())
 
     # -- faults
 
@@ -180,7 +182,8 @@ class Look:
             return
         frames = self.arguments.number("--frames")
         is_step = part == "cnf" and "--step" in self.arguments.flags and fault == "limit"
-        unrolled.push_unroll(self.lines, data, frames + is_step, fault, "K + 1" if is_step else "K")
+        name = "K + 1" if is_step else "K" * (part == "cnf")
+        unrolled.push_unroll(self.lines, data, frames + is_step, fault, name)
 
     # -- what needs no look at the bytes, or only at names
 

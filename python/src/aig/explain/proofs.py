@@ -2,7 +2,7 @@
 
 from __future__ import annotations
 
-from typing import NamedTuple, Optional, Union
+from typing import NamedTuple, Optional, Sequence, Union
 
 from .files import Hidden
 from .kinds import kind_at, push
@@ -11,9 +11,9 @@ from .steps import BINARY, HINTED, TEXT, Goal, Walk, number_of
 from .unrolled import variables
 
 FORMULAS = {
-    "runs": "for the same K, P and CIRCUIT; aig 0.2.0 wrote one with more gates",
-    "alive": "--alive for the same K and CIRCUIT; aig 0.2.0 wrote one with more gates",
-    "step": "--step for the same K, P and CIRCUIT; aig 0.2.0 wrote one with more gates",
+    "runs": "for the same K, P and CIRCUIT",
+    "alive": "--alive for the same K and CIRCUIT",
+    "step": "--step for the same K, P and CIRCUIT",
     "certificate": "--certificate for the same P, CERTIFICATE and CIRCUIT",
 }
 # What a solver says that has no model, and which formula its model has to be of.
@@ -30,14 +30,14 @@ KINDS_OF_MODELS = {"answer": None, "frat": "proof", "binary lrat": "proof"}
 
 
 class Formula(NamedTuple):
-    """The formula of a run: what it is about, its number of frames, and the circuit if it is seen again."""
+    """The formula of a run: what it is about, its options of `aig cnf`, and the circuit if it is seen again."""
 
     about: str
-    frames: int
+    options: Sequence[str]
     circuit: Optional[bytes]
 
     def variables(self, is_step: bool) -> Optional[int]:
-        return None if self.circuit is None else variables(self.circuit, self.frames, is_step)
+        return None if self.circuit is None else variables(self.circuit, ["--step"] * is_step + [*self.options])
 
 
 def why_rejected(fault: str, spelling: str) -> str:
@@ -120,7 +120,7 @@ def push_about(lines: Lines, about: str, fault: str, spelling: str) -> None:
     if fault.startswith("text"):
         lines.add("have the solver write DRAT, or LRAT as text, to its end")
         return
-    lines.add(f"it has to be about the formula of aig cnf {FORMULAS[about]}")
+    lines.add(f"it has to be about the formula of aig cnf {FORMULAS[about]}; an older aig wrote one with other numbers")
     if fault.startswith("step") and spelling == HINTED:
         lines.add("its hints number the clauses of the formula from 1, in the order in which aig cnf prints them")
     if about == "certificate":

@@ -2,37 +2,47 @@
 
 from __future__ import annotations
 
-from typing import Optional, Tuple
+import subprocess
+from contextlib import suppress
+from typing import Optional, Sequence, Tuple
 
+from .._where import program
 from .lines import Lines
 from .reader import Header, free_latches_of, header_of
 
 MOST_FRAMES, MOST_COUNT = 65_536, 4_194_303
 
 
-def unrolled(circuit: bytes, frames: int, is_free: bool = False) -> Optional[Tuple[int, int, int, int]]:
-    """M, outputs, bad state properties and constraints of a circuit in so many frames, where all
-    latches may be free."""
+def unrolled(circuit: bytes, frames: int) -> Optional[Tuple[int, int, int, int]]:
+    """M, outputs, bad state properties and constraints of a circuit in so many frames."""
     header, uninitialised = header_of(circuit), free_latches_of(circuit)
     if header is None or uninitialised is None:
         return None
     bad, constraints = header.bad * frames, header.constraints * frames
     guards = bad + constraints if bad and constraints else 0
-    free = header.latches if is_free else uninitialised
-    return ((header.inputs + header.gates) * frames + free + guards, header.outputs * frames, bad,
+    return ((header.inputs + header.gates) * frames + uninitialised + guards, header.outputs * frames, bad,
             0 if guards else constraints)
 
 
-def variables(circuit: bytes, frames: int, is_step: bool) -> Optional[int]:
-    """How many variables the formula of a query has."""
-    counts = unrolled(circuit, frames + is_step, is_step)
-    return counts[0] + 1 if counts else None
+def variables(circuit: bytes, options: Sequence[str]) -> Optional[int]:
+    """How many variables a formula has, as `aig cnf` prints it. That is read no further than its header."""
+    words = [program(), "cnf", *options, "/dev/stdin"]
+    with subprocess.Popen(words, stdin=subprocess.PIPE, stdout=subprocess.PIPE, stderr=subprocess.DEVNULL) as printing:
+        assert printing.stdin is not None and printing.stdout is not None
+        with suppress(BrokenPipeError), printing.stdin as file:
+            file.write(circuit)
+        head = next((line for line in printing.stdout if line.startswith(b"p cnf ")), None)
+    return int(head.split()[2]) if head else None
 
 
-def push_frames(lines: Lines, circuit: bytes, name: str, frames: int) -> None:
-    """What is over its limit in a circuit that is unrolled."""
+def push_frames(lines: Lines, circuit: bytes, name: str, frames: int, is_formula: bool) -> None:
+    """What is over its limit in a circuit that is unrolled, or in a formula."""
     if frames > MOST_FRAMES:
         lines.add(f"{name} is {frames}", "wanted: at most 65,536 frames")
+        return
+    if is_formula:
+        lines.add("the property and the constraints read too many inputs and gates for so many frames",
+                  "wanted: a formula of at most 4,194,304 variables; take fewer frames")
         return
     names = ("M =", "outputs:", "bad state properties:", "constraints:")
     for counted, count in zip(names, unrolled(circuit, frames) or ()):
@@ -41,13 +51,13 @@ def push_frames(lines: Lines, circuit: bytes, name: str, frames: int) -> None:
     lines.add("wanted: M and each count of at most 4,194,303; unroll for fewer frames")
 
 
-def push_unroll(lines: Lines, circuit: bytes, frames: int, fault: str, name: str = "K") -> None:
-    """Why a circuit is not unrolled for K frames, or K + 1 in a formula of a step."""
+def push_unroll(lines: Lines, circuit: bytes, frames: int, fault: str, name: str = "") -> None:
+    """Why a circuit is not unrolled for K frames. A formula of so many has a name for them: K, or K + 1 in a step."""
     header = header_of(circuit)
     if fault == "no frames":
         lines.add(f"K is {frames}", "wanted: at least one frame")
     elif fault == "limit":
-        push_frames(lines, circuit, name, frames)
+        push_frames(lines, circuit, name or "K", frames, bool(name))
     elif header:
         lines.add(f"the circuit has justice properties: {header.justice}, fairness constraints: {header.fairness}",
                   "wanted: none of them: aig select --to aag CIRCUIT > NEW leaves them out")

@@ -7,7 +7,7 @@ from typing import List, Mapping, Optional, Sequence
 
 from .words import Word
 
-_LITERAL = re.compile(r"([\d_]+)?'[sS]?([bodhBODH])([0-9a-fA-F_]+)")
+_LITERAL = re.compile(r"([\d_]+)?'([sS]?)([bodhBODH])([0-9a-fA-F_]+)")
 _BASES = {"b": 2, "o": 8, "d": 10, "h": 16}
 # No constant is larger: a range of so many edges is rejected anyway.
 _MOST = 1 << 64
@@ -15,12 +15,13 @@ _LEVELS = (("<<", ">>"), ("+", "-"), ("*", "/", "%"))
 
 
 def literal(text: str) -> Optional[int]:
-    """The value of a number without x."""
+    """The value of a number without x that is not negative."""
     found = _LITERAL.fullmatch(text)
     try:
         if found:
-            value = int(found[3].replace("_", ""), _BASES[found[2].lower()])
-            return value & ((1 << min(int(found[1] or 32), 64)) - 1)
+            width = min(int(found[1] or 32), 64)
+            value = int(found[4].replace("_", ""), _BASES[found[3].lower()]) & ((1 << width) - 1)
+            return None if found[2] and value >> (width - 1) else value
         return int(text.replace("_", "")) if re.fullmatch(r"\d[\d_]*", text) else None
     except ValueError:
         return None

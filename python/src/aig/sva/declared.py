@@ -6,7 +6,7 @@ and each other signal is x. A name that is declared in two ways, or not found, h
 from __future__ import annotations
 
 from dataclasses import dataclass, field
-from typing import Dict, Iterator, List, Optional, Sequence, Set, Tuple
+from typing import Dict, Iterator, List, NamedTuple, Optional, Sequence, Set, Tuple
 
 from .constants import constant, literal
 from .model import Module
@@ -22,12 +22,20 @@ _FUNCTIONS = frozenset({"function", "task"})
 _BEFORE = frozenset({";", "begin", ")", "else", ":", ",", "do", "fork"})
 
 
+class Bits(NamedTuple):
+    """How many bits a signal has, and the index of its least significant one, if its indices fall to a number. None is
+    what the source does not say in numbers."""
+
+    width: Optional[int] = None
+    least: Optional[int] = None
+
+
 @dataclass
 class Signal:
     """A signal, as it is declared.
 
     is_net       whether it is a net, which has no value of its own
-    width        its bits, if the source has them as numbers
+    bits         those of its declaration
     initial      the words of its value in the declaration
     is_open      whether nothing is known of it: it is declared twice, or in a way that is not understood
     """
@@ -39,9 +47,13 @@ class Signal:
     is_two_state: bool = False
     is_array: bool = False
     is_enum: bool = False
-    width: Optional[int] = None
+    bits: Bits = Bits()
     initial: List[Word] = field(default_factory=list)
     is_open: bool = False
+
+    @property
+    def width(self) -> Optional[int]:
+        return self.bits.width
 
 
 class Signals:
@@ -111,30 +123,23 @@ class Signals:
 
     def _declaration(self, at: int, end: int) -> int:
         words, head = self._words, set()
-        width: Optional[int] = 1
+        ranges: List[Bits] = []
         while at < end and (words[at].text in WORDS_OF_TYPES or words[at].text == "[" or self._is_typed(at)):
             if words[at].text == "[":
                 last = closing(words, at)
-                width = self._width(words[at + 1:last]) if width == 1 else None
+                ranges.append(_range(words[at + 1:last]))
                 at = last
             elif words[at].text in self._types.names:
-                width = None
+                ranges += [Bits(), Bits()]
                 head.add("enum" if words[at].text in self._types.enums else "logic")
                 head |= {"signed"} if words[at].text in self._types.signed else set()
             else:
                 head.add(words[at].text)
             at += 1
-        return self._names(at, end, head, None if head & _WIDE else width)
+        bits = Bits() if len(ranges) > 1 or head & _WIDE else (ranges or [Bits(1)])[0]
+        return self._names(at, end, head, bits)
 
-    def _width(self, words: Sequence[Word]) -> Optional[int]:
-        parts = [it for it in (text_of(words)).split(":")]
-        if len(parts) != 2:
-            return None
-        middle = next(k for k, it in enumerate(words) if it.text == ":")
-        high, low = (constant(it, {}) for it in (words[:middle], words[middle + 1:]))
-        return None if high is None or low is None else abs(high - low) + 1
-
-    def _names(self, at: int, end: int, head: Set[str], width: Optional[int]) -> int:
+    def _names(self, at: int, end: int, head: Set[str], bits: Bits) -> int:
         """The names of a declaration, each with its value."""
         words = self._words
         direction = next((it for it in PORTS if it in head), "")
@@ -142,7 +147,7 @@ class Signals:
         is_net = not is_variable or direction in ("input", "inout")
         while at < end and words[at].is_name and words[at].text not in WORDS_OF_TYPES and not self._is_typed(at):
             signal = Signal(words[at].text, direction, is_net, bool(head & _SIGNED), bool(head & TWO_STATES),
-                            is_enum="enum" in head, width=width)
+                            is_enum="enum" in head, bits=bits)
             at += 1
             while words[at].text == "[":
                 signal.is_array, at = True, closing(words, at) + 1
@@ -227,6 +232,17 @@ class Signals:
         words = self._words
         return sum(words[k].text == "=" and any(it.text == name for it in self._written(k))
                    for k in range(self._module.first, self._module.end))
+
+
+def _range(words: Sequence[Word]) -> Bits:
+    """The bits of a range `7:0`."""
+    middle = [k for k, it in enumerate(words) if it.text == ":"]
+    if len(middle) != 1:
+        return Bits()
+    high, low = (constant(it, {}) for it in (words[:middle[0]], words[middle[0] + 1:]))
+    if high is None or low is None:
+        return Bits()
+    return Bits(abs(high - low) + 1, low if high > low else None)
 
 
 def _after_value(words: Sequence[Word], at: int) -> int:

@@ -76,7 +76,7 @@ class Defaults:
         words, text = node.words, text_of(node.words)
         if node.at.kind is Kind.NUMBER or self.signals.is_constant(node.at.text) and len(words) == 1:
             if node.at.kind is Kind.NUMBER and literal(text) is None:
-                raise Rejected(node.at, "a number with x in a function of the past")
+                raise Rejected(node.at, "a number with x, or a negative one, in a function of the past")
             return Default(f"({text})", f"(({text}) != 0)", f"(({text}) == 0)", inner=text)
         if node.at.text == "{":
             return self._braces(node)
@@ -107,10 +107,21 @@ class Defaults:
             return f"({words[0].text})"
         if is_whole and value is not None and not signal.is_signed and self._fits(value, signal.width):
             return f"(({text} ^ {text}) | {max(value.bit_length(), 1)}'d{value})"
+        bit = self._bit_at(signal, node)
+        if bit is not None and value is not None and self._fits(value, signal.width):
+            return f"1'b{value >> bit & 1}"
         raise Rejected(node.at, "its value in the declaration is not read here")
 
     def _fits(self, value: int, width: Optional[int]) -> bool:
         return value == 1 or width is not None and value < 1 << width
+
+    def _bit_at(self, signal: Signal, node: Node) -> Optional[int]:
+        """Which bit of a vector is taken, where 0 is the least significant one; None if it is none in numbers."""
+        width, least = signal.bits
+        index = literal(node.words[2].text) if [it.text for it in node.words[1::2]] == ["[", "]"] else None
+        if index is None or width is None or least is None or signal.is_array:
+            return None
+        return index - least if least <= index < least + width else None
 
     def _has_variable_index(self, node: Node) -> bool:
         others = [it for it in node.words[1:] if it.text not in ("[", "]", ":")]

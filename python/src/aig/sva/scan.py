@@ -7,6 +7,7 @@ from typing import Dict, List, Optional, Tuple
 from .constants import constant
 from .edits import Edit
 from .model import KINDS, Clock, Item, Module, Named, clock_of
+from .parameters import Given
 from .procedures import procedural
 from .statements import after_action, after_statement, after_word, semicolon
 from .words import CLOSE, OPEN, Rejected, Word, closing, split, text_of
@@ -28,8 +29,8 @@ class Scanned:
     rejected  what is not understood
     """
 
-    def __init__(self, words: List[Word]):
-        self._words = words
+    def __init__(self, words: List[Word], given: Optional[Given] = None):
+        self._words, self._given = words, given
         self.modules: Dict[str, Module] = {}
         self.binds: List[Tuple[str, str, Word]] = []
         self.edits: List[Edit] = []
@@ -133,12 +134,17 @@ class Scanned:
                 last = k + 1
                 while last < end and words[last].text != "," and words[last].text not in CLOSE:
                     last = closing(words, last) + 1 if words[last].text in OPEN else last + 1
-                module.define(words[k - 1].text, constant(words[k + 1:last], module.numbers))
+                module.define(words[k - 1].text, self._value(module, words[k - 1].text, words[k + 1:last]))
                 k = last
             elif words[k].text in OPEN:
                 k = closing(words, k) + 1
             else:
                 k += 1
+
+    def _value(self, module: Module, name: str, own: List[Word]) -> Optional[int]:
+        """The value of a constant: that of its declaration, if none is given."""
+        is_given = self._given is not None and self._given.module == module.name and name in self._given.values
+        return self._given.number(name) if self._given and is_given else constant(own, module.numbers)
 
     # -- bind
 

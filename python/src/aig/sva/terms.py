@@ -93,6 +93,19 @@ class Terms:
             self._known[key] = Term(form, parts, name, sign, *times, len(self._known))
         return self._known[key]
 
+    def _several(self, form: Form, parts: Iterable[Term], without: Term, all_of_it: Optional[Term] = None) -> Term:
+        """The parts in a term of a form, each once and in order; those of parts of the same form too. The term `without`
+        changes nothing, and one may be all of it."""
+        flat = {it for part in parts for it in (part.parts if part.form is form else (part,))} - {without}
+        for _ in flat:
+            self.step()
+        found = tuple(sorted(flat, key=lambda it: it.number))
+        if all_of_it is not None and all_of_it in found:
+            return all_of_it
+        if len(found) < 2:
+            return found[0] if found else without
+        return self._made(form, found)
+
     # -- sequences
 
     def atom(self, name: str, sign: bool = True) -> Term:
@@ -110,10 +123,7 @@ class Terms:
         return self._made(Form.THEN, (left, right))
 
     def either(self, *parts: Term) -> Term:
-        found = self._flat(Form.EITHER, parts, self.none)
-        if not found:
-            return self.none
-        return found[0] if len(found) == 1 else self._made(Form.EITHER, found)
+        return self._several(Form.EITHER, parts, self.none)
 
     def both(self, left: Term, right: Term) -> Term:
         if self.none in (left, right):
@@ -179,31 +189,14 @@ class Terms:
 
     # -- properties
 
-    def _flat(self, form: Form, parts: Iterable[Term], without: Term) -> Tuple[Term, ...]:
-        """The parts, those of parts of the same form too, each once and in order."""
-        found = {it for part in parts for it in (part.parts if part.form is form else (part,))} - {without}
-        for _ in found:
-            self.step()
-        return tuple(sorted(found, key=lambda it: it.number))
-
     def sequence(self, part: Term) -> Term:
         return self._made(Form.SEQUENCE, (part,))
 
     def conjunction(self, *parts: Term) -> Term:
-        found = self._flat(Form.AND, parts, self.true)
-        if self.false in found:
-            return self.false
-        if not found:
-            return self.true
-        return found[0] if len(found) == 1 else self._made(Form.AND, found)
+        return self._several(Form.AND, parts, self.true, self.false)
 
     def disjunction(self, *parts: Term) -> Term:
-        found = self._flat(Form.OR, parts, self.false)
-        if self.true in found:
-            return self.true
-        if not found:
-            return self.false
-        return found[0] if len(found) == 1 else self._made(Form.OR, found)
+        return self._several(Form.OR, parts, self.false, self.true)
 
     def negation(self, part: Term) -> Term:
         if part in (self.true, self.false):

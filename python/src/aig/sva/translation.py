@@ -5,7 +5,7 @@ from __future__ import annotations
 import re
 import sys
 from dataclasses import dataclass, field
-from typing import Dict, List, Mapping, Sequence, Set
+from typing import Dict, List, Mapping, Optional, Sequence, Set
 
 from .declared import Signals
 from .defaults import Defaults
@@ -15,6 +15,7 @@ from .immediate import Immediate, Names, Place, said_too_many
 from .known import Known
 from .model import Item, Module
 from .named_types import Types, types_of
+from .parameters import Given
 from .preprocessed import Preprocessed
 from .properties import spec_of
 from .scan import Scanned
@@ -51,12 +52,13 @@ def has_concurrent(texts: Mapping[str, str]) -> bool:
 
 
 def translated(texts: Mapping[str, str], read: Sequence[str], defines: Sequence[str],
-               is_one_clock: bool = True) -> Translation:
+               is_one_clock: bool = True, given: Optional[Given] = None) -> Translation:
     """The copies of sources in which each concurrent assertion is an immediate one.
 
     texts         the files, by the names that `include` has
     read          the names of those that are read by themselves, in order
     is_one_clock  whether the design has one clock
+    given         the values of parameters that are not those of their declarations
     """
     if not has_concurrent(texts):
         return Translation()
@@ -64,7 +66,7 @@ def translated(texts: Mapping[str, str], read: Sequence[str], defines: Sequence[
     sys.setrecursionlimit(max(limit, _DEPTH))
     try:
         words = Preprocessed(texts, read, defines).words
-        return _Work(words, is_one_clock).result(texts)
+        return _Work(Scanned(words, given), words, is_one_clock).result(texts)
     except Rejected as error:
         raise Untranslated([error]) from None
     finally:
@@ -74,9 +76,8 @@ def translated(texts: Mapping[str, str], read: Sequence[str], defines: Sequence[
 class _Work:
     """The translation of all words."""
 
-    def __init__(self, words: List[Word], is_one_clock: bool):
-        self._words, self._is_one_clock = words, is_one_clock
-        self._scanned = Scanned(words)
+    def __init__(self, scanned: Scanned, words: List[Word], is_one_clock: bool):
+        self._scanned, self._words, self._is_one_clock = scanned, words, is_one_clock
         self._edits = list(self._scanned.edits)
         self._rejected = list(self._scanned.rejected)
         self._names = Names({it.text for it in words})

@@ -42,7 +42,7 @@ CORES = """\
 Find what the proofs of a folder of results need: registers, their resets, and assumptions.
 
 All else of the circuit is cut at once, by `aig cut`, and the row is proved again. These proofs take the place of the old
-ones, and `recheck` checks them. Rows whose needs are known stay as they are, unless --minimal is given.
+ones, and `recheck` checks them. Rows whose needs are known stay as they are, unless --minimal or --needed is given.
 """
 REPLAY = """\
 Play the failing runs of a bundle in Icarus Verilog, after aig has checked the bundle.
@@ -123,6 +123,8 @@ def _replay(replay: argparse.ArgumentParser) -> None:
 def _cores(cores: argparse.ArgumentParser) -> None:
     cores.add_argument("bundle", type=Path, metavar="FOLDER", help="a folder of results")
     cores.add_argument("--minimal", action="store_true", help="try each part that is left, too: it may take long")
+    cores.add_argument("--needed", action="store_true",
+                       help="look for runs that show what every proof needs: it may take long")
     cores.add_argument("-j", "--jobs", type=_whole(0, 4096), default=0, metavar="N",
                        help="questions at once (one per processor)")
     _programs(cores)
@@ -170,10 +172,12 @@ def _run(run: argparse.ArgumentParser) -> None:
     of_design.add_argument("--top", metavar="MODULE", help="the top module (default: Yosys finds it)")
     of_design.add_argument("-D", "--define", action="append", default=[], metavar="NAME[=VALUE]",
                            help="define a macro")
+    of_design.add_argument("-P", "--parameter", action="append", default=[], metavar="NAME=VALUE",
+                           help="give a parameter of the top module this value, a number or a text in quotes")
     of_design.add_argument("-I", "--include", action="append", default=[], type=Path, metavar="FOLDER",
                            help="a folder of files that the sources include")
-    of_design.add_argument("--free", action="append", default=[], metavar="MODULE",
-                           help="leave out the body of this module: its outputs are free values")
+    of_design.add_argument("--free", action="append", default=[], metavar="NAME",
+                           help="leave out the body of this module: its outputs are free values; or give a signal any value, as top.u0.count")
     of_design.add_argument("--assert", action="append", default=[], type=Path, metavar="FILE", dest="asserts",
                            help="put the assertions of this file before the end of the module of --module")
     of_design.add_argument("--module", metavar="MODULE", default="", help="the module of --assert")
@@ -184,6 +188,8 @@ def _run(run: argparse.ArgumentParser) -> None:
                                 "for that alone; it is believed, so it has to come from a trusted place")
     of_design.add_argument("--keep-open", action="store_true",
                            help="with --since: do not search rows further whose old bound still holds")
+    of_design.add_argument("--fresh", action="store_true",
+                           help="have Yosys make the circuit, even if an earlier run made it of the same sources")
     of_design.add_argument("--no-conditions", action="store_true",
                            help="do not ask whether the `if` around an assertion is ever true")
     of_design.add_argument("--no-wires", action="store_true", help="do not keep named wires for the page")
@@ -208,6 +214,8 @@ def _run(run: argparse.ArgumentParser) -> None:
                         help="find what each proof needs, too: registers, their resets and assumptions")
     search.add_argument("--minimal", action="store_true",
                         help="with --cores: try each part that is left, too; it may take long")
+    search.add_argument("--needed", action="store_true",
+                        help="with --cores: look for runs that show what every proof needs; it may take long")
     search.add_argument("--simulator", default="iverilog", metavar="PROGRAM",
                         help="Icarus Verilog, which plays each run and compares the circuit on random runs (iverilog)")
     search.add_argument("--no-simulator", action="store_true", help="play nothing in a simulator")
@@ -265,8 +273,9 @@ _UNITS = {"s": 1, "m": 60, "h": 3600}
 
 def _time(text: str) -> int:
     """Seconds of a time as 90s, 10m or 2h."""
-    number = _whole(1, 10**7)(text[:-1])
-    return number * _UNITS[text[-1]]
+    if text[-1:] not in _UNITS:
+        raise ValueError
+    return _whole(1, 10**7)(text[:-1]) * _UNITS[text[-1]]
 
 
 _time.__name__ = "time (90s, 10m or 2h)"

@@ -7,6 +7,7 @@ from dataclasses import replace
 from typing import Any, Dict, List, NamedTuple
 
 from .bundle import Bundle, Wrong
+from .left_out import modules_and_signals
 from .row import Row
 from .simulated import Simulated
 
@@ -33,7 +34,7 @@ class Audited(NamedTuple):
 
 def audited(bundle: Bundle, aig: str, said: Simulated, is_own: bool) -> Audited:
     """What is shown of a bundle that `aig`, in this version, has checked."""
-    has_choice = any(bundle.manifest["options"].get(it) for it in ("defines", "free", "asserts"))
+    has_choice = any(bundle.manifest["options"].get(it) for it in ("defines", "free", "parameters", "asserts"))
     manifest = {**bundle.manifest, "versions": {"aig": aig}, "notes": [options_of(bundle)] if has_choice else [],
                 "simulated": said.facts()}
     return Audited(bundle, manifest, [replace(row, notes=[], origin="") for row in bundle.rows], is_own)
@@ -42,8 +43,11 @@ def audited(bundle: Bundle, aig: str, said: Simulated, is_own: bool) -> Audited:
 def options_of(bundle: Bundle) -> str:
     """How the sources are read: the sender says it."""
     options = bundle.manifest["options"]
-    macros, free = (", ".join(options.get(it, [])) for it in ("defines", "free"))
+    macros, parameters = (", ".join(options.get(it, [])) for it in ("defines", "parameters"))
+    free, signals = map(", ".join, modules_and_signals(options.get("free", [])))
     said = [f"as module {bundle.manifest['name']}", f"with the macros {macros}" if macros else "",
+            f"with the parameters {parameters}" if parameters else "",
             f"without the bodies of the modules {free}" if free else "",
+            f"with any value of {signals}" if signals else "",
             f"with {', '.join(options['asserts'])} in module {options['module']}" if options.get("asserts") else ""]
     return f"the sources are read {', '.join(filter(None, said))}"

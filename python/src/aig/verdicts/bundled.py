@@ -9,7 +9,7 @@ from .bundle import Bundle
 from .checked import Wrong
 from .decide import Bounds, Programs
 from .design import Assertion, Design
-from .manifest import SCRIPT_OF_YOSYS
+from .manifest import FORMULAS, SCRIPT_OF_YOSYS
 from .row import Row
 from .session import Session
 from .simulated import of_facts
@@ -27,7 +27,7 @@ def session_of(path: Path, programs: Programs, stop: Optional[Stop] = None) -> S
     left = {row.position for row in bundle.rows if row.is_left_out}
     only = {row.position for row in bundle.rows} - left if left else None
     session = Session(design_of(bundle), path, bounds, programs, only, stop)
-    session.versions = {**session.versions, **bundle.manifest["versions"]}
+    session.versions = {**session.versions, **bundle.manifest["versions"], "formulas": FORMULAS}
     session.simulated = of_facts(bundle.manifest["simulated"])
     return session
 

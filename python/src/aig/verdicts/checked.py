@@ -18,6 +18,8 @@ CUT = "cut.aag"
 CONSTRAINTS = -1
 # Lines that `aig` prints.
 CONFIRMED, UNREACHABLE, ALIVE = "confirmed", "unreachable", "alive"
+# What a run of a circuit without one piece is found by. It is no verdict on the whole circuit, and no key of WAYS.
+NEEDED = "needed"
 
 
 class Wrong(Exception):
@@ -91,7 +93,7 @@ def parts_of(words: List[str]) -> Parts:
 class Claim:
     """What somebody says: that files show a verdict on a property. Nothing of it is believed.
 
-    by      a key of WAYS
+    by      a key of WAYS, or NEEDED: a run of the circuit without what a file cuts
     frames  of the run, the induction or the bound
     named   the names of the files, by their roles
     """
@@ -116,6 +118,8 @@ class Claim:
     @property
     def line(self) -> str:
         """What `aig` prints if the claim is right: the verdict."""
+        if self.by == NEEDED:
+            return ALIVE if self.position == CONSTRAINTS else CONFIRMED
         return {"run": CONFIRMED, "induction": UNREACHABLE, "certificate": UNREACHABLE, "kept": ALIVE,
                 "bound": f"unreachable within {self.frames}", "alive": f"no run of {self.frames} frames"}[self.by]
 
@@ -132,6 +136,9 @@ class Claim:
     def commands(self) -> List[Command]:
         """The commands that check the claim. The first one prints its line."""
         files = self.files
+        if self.by == NEEDED:
+            asked = ["--alive", f"--frames={self.frames}"] if self.position == CONSTRAINTS else [self._property]
+            return [Command(self.line, ["check", *asked, CUT, files["witness"]])]
         if self.by == "run":
             shown = [Command(self.line, ["check", self._property, CIRCUIT, files["witness"]])]
             if "shorter" in files:
@@ -220,7 +227,7 @@ def check(claim: Claim, circuit: bytes, read: Callable[[str], bytes], stop: Stop
 
     commands = claim.commands()
     expect(commands != [] and commands[0].prints == claim.line, f"nothing shows the verdict of {claim.label}")
-    if claim.by == "run":
+    if claim.by == "run" or claim.by == NEEDED and claim.position != CONSTRAINTS:
         _look_at_witness(claim, text(claim.files["witness"]))
     left = _left(claim, circuit, text, stop)
     for command in commands:

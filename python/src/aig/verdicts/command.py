@@ -9,6 +9,7 @@ import io
 import secrets
 import signal
 import sys
+from dataclasses import replace
 from pathlib import Path
 from typing import Any, Callable, Collection, Dict, List, Optional, Sequence, Set
 
@@ -20,15 +21,14 @@ from .bundle import Bundle
 from .bundled import session_of
 from .checked import CIRCUIT, Wrong
 from .compare import against, compare, last_line, write
-from .decide import Bounds, Programs
-from .decisions import (
-    INTERRUPTED, OPEN, REJECTED, UNREADABLE, Judged, asked, compared, exit_status, line_of_recheck, line_of_run,
-)
+from .decide import Bounds, Hint, Narrow, Programs
+from .decisions import INTERRUPTED, OPEN, REJECTED, UNREADABLE, Judged, asked, compared, exit_status
+from .decisions import line_of_recheck, line_of_run
 from .demo import written
 from .design import Design, read_aiger
 from .file_lists import listed
 from .folder import PAGE, pack, write_whole
-from .made import made
+from .made import made, reading_of
 from .manifest import as_json, rows_as_json
 from .matching import Version
 from .page import Page
@@ -46,7 +46,8 @@ from .session import STOPPED, Session, Work
 from .sides import side_of, table_of
 from .since import Since, opened, since_of
 from .simulated import Simulated, of_facts
-from .table import junit, open_notes, plain, text
+from .store import Store, folder_of_user
+from .table import junit, next_command, open_notes, plain, text
 from .tools import Clock, Stop, Stopped, ToolFailed, missing, version
 from .workers import Dask
 
@@ -70,10 +71,11 @@ def _design(words: argparse.Namespace, stop: Stop) -> Design:
             raise ToolFailed("one circuit at a time, and no Verilog beside it")
         return read_aiger(words.files[0])
     options = {"top": words.top, "defines": words.define, "conditions": not words.no_conditions,
-               "wires": not words.no_wires, "free": words.free, "module": words.module}
+               "wires": not words.no_wires, "free": words.free, "parameters": words.parameter, "module": words.module}
     if bool(words.asserts) != bool(words.module):
         raise ToolFailed("--assert FILE needs --module M, and --module M needs --assert FILE")
-    return made(words.files, stop, options, words.include, words.asserts)
+    store = None if words.fresh else Store(folder_of_user())
+    return made(words.files, replace(reading_of(options, words.include, words.asserts), store=store), stop)
 
 
 def chosen(design: Design, names: Sequence[str]) -> Optional[Set[int]]:
@@ -103,8 +105,7 @@ def _say_of_assumptions(alive: Row, circuit: bytes, read: Callable[[str], bytes]
 def _say_of_needs(table: Sequence[Judged], circuit: bytes) -> None:
     """Says which assumptions no proof needs."""
     proofs = Proofs.of(table)
-    said = no_proof_needs(proofs.unneeded(circuit), len(proofs.known), proofs.others) if proofs.known else ""
-    if said:
+    if said := no_proof_needs(proofs.unneeded(circuit), len(proofs.known), proofs.others) if proofs.known else "":
         _said(said)
 
 
@@ -133,6 +134,8 @@ def _run(words: argparse.Namespace, stop: Stop) -> int:
     hinting = tracing(words, _said) if words.cores else None
     with waiting("yosys makes the circuit", words.verbose, words.quiet):
         design = _design(words, stop)
+    if design.was_made_before and not words.quiet:
+        _said("an earlier run made the circuit, of the same sources, options and programs; --fresh makes it again")
     only = chosen(design, words.only)
     path = words.out or Path(f"{design.name}.verdicts")
     bounds = Bounds(words.frames, words.conflicts, words.seconds, words.megabytes, words.proof_megabytes)
@@ -145,6 +148,8 @@ def _run(words: argparse.Namespace, stop: Stop) -> int:
         if not words.quiet:
             for wrong in session.rejected:
                 _said(f"an earlier row is not what it says, and is searched again: {wrong}")
+            if session.older:
+                _said(f"{session.older} earlier rows have proofs of an older aig, and are searched again")
             for note in design.notes:
                 _said(note)
         is_complete = _search(words, session, hinting)
@@ -190,7 +195,12 @@ def _search(words: argparse.Namespace, session: Session, hinting: Optional[str])
 def _work(words: argparse.Namespace, session: Session, hinting: Optional[str], work: Work) -> bool:
     """Finds the verdicts, and what their proofs need if that is asked for. Whether all was done."""
     is_complete = session.search(work.executor, work.workers, work.progress, work.share)
-    return is_complete and (not words.cores or session.narrow(hinting, words.minimal, work))
+    return is_complete and (not words.cores or session.narrow(_narrow(words, hinting), work))
+
+
+def _narrow(words: argparse.Namespace, hinting: Optional[str]) -> Narrow:
+    """What is asked of the proofs of each row."""
+    return Narrow(Hint("", 0), hinting, words.minimal, words.needed)
 
 
 def cores(words: argparse.Namespace, stop: Stop) -> int:
@@ -203,10 +213,12 @@ def cores(words: argparse.Namespace, stop: Stop) -> int:
         session.open(words.jobs)
         for wrong in session.rejected:
             _said(f"a row is not what it says: {wrong}")
+        if session.older:
+            _said(f"{session.older} rows have proofs of an older aig: run again")
         renew = _renewing(session)
         progress = Progress(session.rows, set(), False, words.quiet, lambda: renew(True))
         progress.begin([])
-        is_stopped = not session.narrow(hinting, words.minimal, Work(None, words.jobs, progress))
+        is_stopped = not session.narrow(_narrow(words, hinting), Work(None, words.jobs, progress))
         progress.end()
         renew(is_stopped)
         return _results(words, session, not is_stopped, (), None)
@@ -258,6 +270,9 @@ def _results(words: argparse.Namespace, session: Session, is_complete: bool, sai
         sys.stdout.write(text(table) + (f"\n{changed.text()}" if changed and is_asked else ""))
     sys.stdout.flush()
     if not words.quiet:
+        following = next_command(table, session.folder.path)
+        if following:
+            _said(following)
         _say_notes(table, said)
         _say_of_assumptions(session.rows[0], session.design.circuit, session.folder.read)
         _say_of_needs(table, session.design.circuit)

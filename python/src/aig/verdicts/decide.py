@@ -15,6 +15,7 @@ from typing import Dict, Iterator, List, Optional, Union
 from ..errors import AigError, Crashed
 from .checked import Checked, Claim, Wrong
 from .hints import claim_of
+from .needed import Run
 from .row import UNDECIDED
 from .tools import Clock, Stop, Stopped, ToolFailed
 
@@ -108,11 +109,13 @@ class Narrow:
     known       its proof
     drat2lrat   the program that adds hints to a proof that has none
     is_minimal  whether each part that is left is tried, too
+    is_needed   whether runs are looked for that show what every proof needs
     """
 
     known: Hint
     drat2lrat: Optional[str] = None
     is_minimal: bool = False
+    is_needed: bool = False
 
 
 @dataclass(frozen=True)
@@ -144,6 +147,7 @@ class Found:
     notes    what went wrong on the way: a crash, a bound that ended a question
     stopped  whether the user ended the search
     origin   what of an earlier version it came from: one of ORIGINS, or nothing
+    needed   runs without one piece each, which every proof needs
     """
 
     position: int
@@ -156,6 +160,7 @@ class Found:
     stopped: bool = False
     checked: Optional[Checked] = None
     origin: str = ""
+    needed: List[Run] = field(default_factory=list)
 
     def __getstate__(self) -> Dict[str, object]:
         return {**vars(self), "checked": None}

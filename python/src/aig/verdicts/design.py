@@ -5,14 +5,14 @@ from __future__ import annotations
 import re
 import tempfile
 from collections import Counter
-from dataclasses import dataclass, field
+from dataclasses import asdict, dataclass, field
 from pathlib import Path
 from typing import Any, Collection, Dict, Iterable, List, Optional, Sequence, Set, Tuple
 
 from .._program import run as aig
 from ..entries import listed, readable
 
-from . import findings, names, netlist, script, yosys
+from . import findings, left_out, names, netlist, script, wiring, yosys
 from .assertions import copies
 from .labels import AS_BLOCKS
 from .lax import ranges_of_words
@@ -20,7 +20,8 @@ from .ranges import Ranges
 from .registers import registers
 from .sources import Sources, look_at_words, places
 from .clocks import timing
-from .timing import Timing
+from .store import Store, packed, parts_of, unpacked
+from .timing import Timing, of_facts
 from .tools import Stop, ToolFailed, version
 from .versions import untried
 
@@ -78,7 +79,8 @@ def _of_symbol(symbol: str) -> Tuple[str, str]:
 
 @dataclass
 class Design:
-    """A circuit and what its properties are. `translated` has the copies of sources that Yosys read in place of them."""
+    """A circuit and what its properties are. `translated` has the copies of sources that Yosys read in place of them. If
+    the circuit was made before, it is that of an earlier run."""
 
     name: str
     circuit: bytes
@@ -89,6 +91,20 @@ class Design:
     script: str = ""
     options: Dict[str, object] = field(default_factory=dict)
     timing: Optional[Timing] = None
+    was_made_before: bool = False
+
+    def kept(self) -> Dict[str, Any]:
+        """What Yosys made, to be kept for a later run."""
+        return {"name": self.name, "circuit": packed(self.circuit), "assertions": [asdict(it) for it in self.assertions],
+                "notes": self.notes, "translated": {name: packed(text) for name, text in self.translated.items()},
+                "script": self.script, "timing": self.timing.facts() if self.timing else {}}
+
+    @staticmethod
+    def of_kept(kept: Dict[str, Any], sources: Dict[str, bytes], options: Dict[str, object]) -> Design:
+        """What an earlier run kept, of the same sources and options."""
+        translated = {name: unpacked(text) for name, text in kept["translated"].items()}
+        return Design(kept["name"], unpacked(kept["circuit"]), [Assertion(**it) for it in kept["assertions"]], kept["notes"],
+                      sources, translated, kept["script"], options, of_facts(kept["timing"]), True)
 
 
 def read_aiger(path: Path) -> Design:
@@ -110,9 +126,11 @@ class Reading:
     conditions  whether the `if` around an assertion has a row
     wires       whether named wires are kept for the page
     include     the folders of files that sources include
-    free        the modules whose outputs are free values
+    free        the modules whose outputs are free values, and signals that are, as `top.u0.count`
+    parameters  values of parameters of the top module, as NAME=VALUE
     asserts     the files that are put before the end of `module`
     yosys       the program, which may take so many seconds for each of its runs
+    store       where circuits are kept
     """
 
     top: str = ""
@@ -121,22 +139,41 @@ class Reading:
     wires: bool = True
     include: Sequence[Path] = ()
     free: Sequence[str] = ()
+    parameters: Sequence[str] = ()
     asserts: Sequence[Path] = ()
     module: str = ""
     yosys: str = "yosys"
     seconds: float = 600.0
+    store: Optional[Store] = None
 
 
 def read_verilog(sources: Sequence[Path], how: Reading, stop: Stop) -> Design:
-    """The circuit of a Verilog design."""
+    """The circuit of a Verilog design. With a store it is made once."""
     look_at_words(how.top or None, how.defines)
     read = Sources([*sources, *how.asserts], how.include)
+    options = _options(read, how)
+    if how.store is None:
+        return _design(read, options, how, stop)
+    parts = parts_of(read.texts, read.read, options, how.yosys, stop)
+    kept = how.store.find(parts)
+    if kept is not None:
+        return Design.of_kept(kept, read.texts, options)
+    design = _design(read, options, how, stop)
+    how.store.keep(parts, design.kept())
+    return design
+
+
+def _options(read: Sources, how: Reading) -> Dict[str, object]:
+    """The options as MANIFEST.json has them. Files of assertions are not read by themselves from now on."""
     options: Dict[str, object] = {"top": how.top, "defines": list(how.defines), "conditions": how.conditions, "wires": how.wires}
-    if how.free:
-        options["free"] = sorted(how.free)
+    options.update({name: sorted(given) for name, given in (("free", how.free), ("parameters", how.parameters)) if given})
     if how.asserts:
         options.update(asserts=read.apart(how.asserts), module=how.module)
+    return options
 
+
+def _design(read: Sources, options: Dict[str, object], how: Reading, stop: Stop) -> Design:
+    """What Yosys makes of the sources."""
     def made_of(translated: Dict[str, bytes]) -> _Made:
         with tempfile.TemporaryDirectory(prefix="aig-verdicts-") as name:
             folder = Path(name)
@@ -150,6 +187,8 @@ def read_verilog(sources: Sequence[Path], how: Reading, stop: Stop) -> Design:
         if found.depend_on_clocks and not made.timing.is_cycle:
             found = copies(read.texts, read.read, options, False)
             made = made_of(found.texts)
+        if found.top and found.top != made.top:
+            raise ToolFailed(f"a parameter of {found.top} gets a value, and the top module is {made.top}: name it with --top")
     except ToolFailed as error:
         raise ToolFailed(read.as_written(str(error))) from None
     count = int(dict(line.split(" ", 1) for line in aig("info", files=[made.circuit]).decode().splitlines())["bad"])
@@ -232,7 +271,10 @@ class _Made:
         first, has_blocks = runs.read_any([f"sources/{name}" for name in read.read], how.top, how.defines)
         blocks = [AS_BLOCKS] * has_blocks
         findings.look_at_sources(runs)
-        said = runs.prepare(how.free)
+        if how.parameters:
+            findings.look_at_instances(runs)
+        modules_to_free, signals = left_out.modules_and_signals(how.free)
+        said = runs.prepare(modules_to_free)
         resets = script.resetting()
         runs.run(resets)
         said += runs.settle()
@@ -246,8 +288,10 @@ class _Made:
         self.top = netlist.top_of(modules)
         one_clock = netlist.one_clock(flat)
         self.timing = timing(flat, one_clock)
-        directed = runs.direct(flat)
-        second = script.making(one_clock, how.conditions, how.wires)
+        directed = runs.direct(flat) + [script.UNDRIVEN] * bool(signals)
+        said += runs.free(flat, [left_out.inside(self.top, it) for it in signals]) if signals else []
+        may_loop = not one_clock or wiring.may_loop(runs.warnings, flat[self.top])
+        second = script.making(one_clock, how.conditions, how.wires, may_loop)
         runs.make(second, flat[netlist.top_of(modules)])
         self.notes = said + findings.notes(runs, modules, flat, one_clock)
         self.script = "\n".join([*blocks, *first, script.PREPARED, *resets, script.SETTLED, *flatten, *directed, *second,

@@ -6,6 +6,7 @@ import re
 from typing import Any, Dict, Iterator, List, NamedTuple, Sequence
 
 from . import kept, rtlil
+from .left_out import source_name
 from .lax import (
     constant_outputs, drivers_of_a_bit, far_shifts, has_race, place, powers, signed_addresses, signs_of_addresses,
     unknown_items,
@@ -16,14 +17,13 @@ from .netlist import cells, inputs_of
 from .sources import places
 from .tools import ToolFailed
 from .warnings import shown
-from .wiring import undriven
+from .wiring import WAITS, undriven
 from .yosys import Yosys
 
 SEVERAL_CLOCKS = ("registers have several clocks or edges, or a clock that is computed or read as data: a frame is the time "
                   "between changes of clocks")
 MOST_NOTES = 20
 _INSIDE = re.compile(r"(?:sources/)?(.*?:\d+): Identifier `\\?(\S*\.\S*)' is implicitly declared")
-_WAITS = re.compile(r"\$(adff|aldff|dffsr|dlatch|adlatch|sr)")
 
 
 class Finding(NamedTuple):
@@ -37,6 +37,15 @@ def look_at_sources(runs: Yosys) -> None:
     """Rejects what Yosys reads in another way, before anything is made of it."""
     for found, said in _tree(runs).misread():
         _reject(Finding(found, f": {said}"))
+
+
+def look_at_instances(runs: Yosys) -> None:
+    """Rejects a top module that is an instance below itself: values for its parameters would be those of the instance, too."""
+    design = rtlil.read(runs.text("read.il"))
+    tops = {source_name(module) for module in design.modules if rtlil.has_mark(module.attributes, "top")}
+    same = {module.name for module in design.modules if source_name(module) in tops}
+    found = [cell.place for module in design.modules for cell in module.of("cell") if cell.words[1] in same]
+    _reject(Finding(found, ": an instance of the top module, and a value of its parameter would count here, too"))
 
 
 def look(runs: Yosys, modules: Dict[str, Any], flat: Dict[str, Any]) -> None:
@@ -120,7 +129,7 @@ def _lines(modules: Dict[str, Any], flat: Dict[str, Any], has_one_clock: bool) -
     yield Finding(unknown, "compares with x or z. No value of a circuit is x, so `===` is 0 there and `!==` is 1, also for a register "
                              "without initial value")
     yield Finding(live_places(modules), "no row, for it asks for liveness")
-    waits = [place(cell) for _, cell in cells(flat) if _WAITS.match(cell["type"])]
+    waits = [place(cell) for _, cell in cells(flat) if WAITS.match(cell["type"])]
     yield Finding(waits if has_one_clock else [], "asynchronous resets and latches follow their inputs once a frame")
     yield Finding([place(cell) for _, cell in cells(flat) if cell["type"] == "$mem_v2" and has_race(cell)],
                     "several blocks write a memory. Where two of them write one word at once, Verilog does not say which value it gets, "

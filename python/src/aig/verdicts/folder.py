@@ -18,8 +18,9 @@ except ImportError:  # no Unix
     fcntl = None  # type: ignore[assignment]
 
 from .bundle import LOCK, MOST_BYTES, PLAIN_FILE, Bundle, PlainFolder, Wrong, sum_of
-from .checked import CUT
+from .checked import CONSTRAINTS, CUT, NEEDED, Claim
 from .manifest import MANIFEST, as_json
+from .needed import FOLDER as RUNS
 from .row import Row
 
 PAGE, SCRIPT, TIMES = "index.html", "recheck.sh", "times.json"
@@ -98,6 +99,11 @@ class Folder:
         write_whole(path, data)
         self.sums[name] = sum_of(data)
 
+    def take(self, files: Dict[str, bytes]) -> None:
+        """Writes these files."""
+        for name, data in files.items():
+            self.put(name, data)
+
     def remove(self, name: str) -> None:
         self.sums.pop(name, None)
         try:
@@ -115,8 +121,8 @@ class Folder:
         shutil.rmtree(new, ignore_errors=True)
         try:
             old = Bundle(self.path, self._most)
-            (new / "sources").mkdir(parents=True)
             for name in [MANIFEST, *old.sums]:
+                (new / name).parent.mkdir(parents=True, exist_ok=True)
                 (new / name).write_bytes(old.read(name) if name == MANIFEST else old.summed(name))
         except Wrong:
             shutil.rmtree(new, ignore_errors=True)
@@ -135,8 +141,12 @@ class Folder:
 
     def clean(self) -> None:
         """Removes the files of results that have no row any more."""
-        for path in self.path.iterdir():
-            if path.name.endswith((".wit", ".drat", ".lrat", ".cert.aag", ".cuts", ".new")) and path.name not in self.sums:
+        runs = self.path / RUNS
+        if runs.is_symlink():
+            runs.unlink()
+        for path in [*self.path.iterdir(), *(runs.iterdir() if runs.is_dir() else ())]:
+            is_of_row = path.name.endswith((".wit", ".drat", ".lrat", ".cert.aag", ".cuts", ".new"))
+            if is_of_row and str(path.relative_to(self.path)) not in self.sums:
                 path.unlink()
 
     def write(self, manifest: Dict[str, Any]) -> None:
@@ -193,13 +203,19 @@ def script(rows: Iterable[Row]) -> bytes:
     lines: List[str] = []
     for row in rows:
         claim = row.checked.claim if row.checked is not None else row.claim
-        if claim is not None and claim.by == "run":
-            lines.append(f"of {claim.files['witness']} {claim.label} {claim.frames + 4}")
-        if claim is not None:
-            call = f"cut {claim.files['cuts']}" if claim.cut else "check"
-            lines += [f"{call} {_of_shell([line, *(STREAM if it == CUT else it for it in words)])}"
-                      for line, words in claim.commands()]
+        for it in [claim, *([run.claim for run in row.runs] or row.needed)]:
+            lines += _lines_of(it) if it is not None else []
     return (_SCRIPT + "\n".join([*lines, "exit $wrong"]) + "\n").encode()
+
+
+def _lines_of(claim: Claim) -> List[str]:
+    """The lines of the script that check a claim."""
+    lines = []
+    if claim.by == "run" or claim.by == NEEDED and claim.position != CONSTRAINTS:
+        lines.append(f"of {claim.files['witness']} {claim.label} {claim.frames + 4}")
+    call = f"cut {claim.files['cuts']}" if claim.cut else "check"
+    return lines + [f"{call} {_of_shell([line, *(STREAM if it == CUT else it for it in words)])}"
+                    for line, words in claim.commands()]
 
 
 def _of_shell(words: Iterable[str]) -> str:

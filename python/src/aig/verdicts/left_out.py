@@ -1,12 +1,12 @@
-"""What the circuit leaves out, before `proc` makes registers: modules without a body, memories and loop variables that
-nothing reads."""
+"""What the circuit leaves out: before `proc` makes registers, modules without a body, memories and loop variables that
+nothing reads; in the flat module, what drives signals that are free."""
 
 from __future__ import annotations
 
 import re
-from typing import Collection, Dict, List, Set
+from typing import Any, Collection, Dict, Iterator, List, Mapping, Sequence, Set, Tuple
 
-from .rtlil import Item, Module, Text, bits, has_mark
+from .rtlil import Item, Module, Text, bits, has_mark, signals
 from .sources import places as shown
 from .tools import ToolFailed
 
@@ -20,8 +20,8 @@ _PORTS = ("input", "output", "inout")
 
 def open_boxes(design: Text, free: Collection[str]) -> List[str]:
     """Makes free values of the outputs of each module that has no body, or that `free` names. Returns notes."""
-    boxes = {module.name: module for module in design.modules if _is_box(module) or _source_name(module) in free}
-    missing = set(free) - {_source_name(module) for module in boxes.values()}
+    boxes = {module.name: module for module in design.modules if _is_box(module) or source_name(module) in free}
+    missing = set(free) - {source_name(module) for module in boxes.values()}
     if missing:
         raise ToolFailed(f"the design has no module {min(missing)}")
     design.modules = [module for module in design.modules if module.name not in boxes]
@@ -33,7 +33,7 @@ def open_boxes(design: Text, free: Collection[str]) -> List[str]:
         widths = module.widths() if cells else {}
         for cell in cells:
             box = boxes[cell.words[1]]
-            places.setdefault(_source_name(box), []).append(cell.place)
+            places.setdefault(source_name(box), []).append(cell.place)
             _free(module, cell, box, widths)
     return [f"{shown(at)}: the outputs of module {name}, which {_why(name, free)}, are free values" for name, at in places.items()]
 
@@ -46,7 +46,7 @@ def _is_box(module: Module) -> bool:
     return has_mark(module.attributes, "blackbox")
 
 
-def _source_name(module: Module) -> str:
+def source_name(module: Module) -> str:
     """The name of a module in the sources: Yosys names one with parameters `$paramod\\NAME\\W=..` or `$paramod$SUM\\NAME`."""
     named = re.search(r'attribute \\hdlname "\\?\\?(.*)"', "\n".join(module.attributes))
     if named:
@@ -61,12 +61,79 @@ def _free(module: Module, cell: Item, box: Module, widths: Dict[str, int]) -> No
     module.items.remove(cell)
     for port, signal in cell.parts("connect").items():
         if port not in ports:
-            raise ToolFailed(f"{cell.place}: module {_source_name(box)} has no port {port}")
+            raise ToolFailed(f"{cell.place}: module {source_name(box)} has no port {port}")
         width = len(bits(signal, widths))
         if {"output", "inout"} & set(ports[port]) and width:
             name = f"{cell.name}.{port}"
             module.items.append(Item(cell.attributes, [
                 f"  cell $anyseq {name}", f"    parameter \\WIDTH {width}", f"    connect \\Y {signal}", "  end"]))
+
+
+# -- signals that are free
+
+_INITIAL = r"attribute \init "
+
+
+def modules_and_signals(free: Sequence[str]) -> Tuple[List[str], List[str]]:
+    """Of what is free the modules, and the signals, which begin with the name of the top module."""
+    return [it for it in free if "." not in it], [it for it in free if "." in it]
+
+
+def inside(top: str, signal: str) -> str:
+    """A signal by its name in the top module."""
+    first, _, rest = signal.partition(".")
+    if first != top:
+        raise ToolFailed(f"{signal} does not begin with the top module, {top}: write {top}.{signal}")
+    return rest
+
+
+def free_signals(module: Module, names: Sequence[str], facts: Mapping[str, Any]) -> List[str]:
+    """Gives signals of a flat module any value. What drives one drives a wire that nothing reads. Returns notes."""
+    widths = module.widths()
+    wires = {wire.name: wire for wire in module.of("wire")}
+    freed = {}
+    for name in names:
+        wire = wires.get(f"\\{name}")
+        if wire is None:
+            raise ToolFailed(f"the circuit has no signal {name} that could be free")
+        if "input" in wire.words:
+            raise ToolFailed(f"{wire.place}: {name} is an input, and has any value already")
+        freed[wire.name] = f"$driven{wire.name}"
+        module.declare(freed[wire.name], widths[wire.name], [it for it in wire.attributes if _INITIAL in it])
+        wire.attributes = [it for it in wire.attributes if _INITIAL not in it]
+    for item in module.items:
+        _look_at_value(item, freed)
+        item.lines = [*_driving(item, freed, facts)]
+    module.items += [Item(wires[it].attributes, [f"  cell $anyseq $free{it}", f"    parameter \\WIDTH {widths[it]}",
+                                                 f"    connect \\Y {it}", "  end"]) for it in freed]
+    return [f"{wires[it].place}: {it[1:]} is free: it has any value" for it in freed]
+
+
+def _look_at_value(item: Item, freed: Mapping[str, str]) -> None:
+    """Rejects a signal that is another one under another name, or a constant: a reader may have that one in place of it."""
+    to, value = signals(item.lines[0].split(" connect ", 1)[1]) if item.kind == "connect" else ("", "")
+    for name in freed.keys() & {*to.split(" ")}:
+        other = [word[1:] for word in value.split(" ") if word.startswith("\\")]
+        if other or "'" in value or value.isdigit():
+            raise ToolFailed(f"{name[1:]} is {f'connected to {other[0]}: free that one' if other else 'a constant'}")
+
+
+def _driving(item: Item, freed: Mapping[str, str], facts: Mapping[str, Any]) -> Iterator[str]:
+    """The lines of an item. In place of a signal that is free it drives another wire."""
+    directions = facts["cells"].get(item.name.removeprefix("\\"), {}).get("port_directions", {}) if item.kind == "cell" else {}
+    for line in item.lines:
+        head, port = line.split()[:2] if line.lstrip().startswith("connect ") else ("", "")
+        if item.kind == "connect":
+            to, value = signals(line.split(" connect ", 1)[1])
+            yield f"  connect {_renamed(to, freed)} {value}"
+        elif head and directions.get(port.removeprefix("\\")) == "output":
+            yield f"    connect {port} {_renamed(line.split(f' {port} ', 1)[1], freed)}"
+        else:
+            yield line
+
+
+def _renamed(signal: str, names: Mapping[str, str]) -> str:
+    return " ".join(names.get(word, word) for word in signal.split(" "))
 
 
 # -- memories and variables that nothing reads

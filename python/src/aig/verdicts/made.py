@@ -3,20 +3,23 @@
 from __future__ import annotations
 
 from pathlib import Path
-from typing import Any, Dict, Sequence
+from typing import Any, Mapping, Sequence
 
 from .design import Design, Reading, read_verilog
 from .tools import Stop, ToolFailed
 
 
-def made(files: Sequence[Path], stop: Stop, options: Dict[str, Any], include: Sequence[Path] = (),
-         asserts: Sequence[Path] = ()) -> Design:
-    """The circuit of these sources. The options are those of MANIFEST.json: top, defines, conditions, wires, free, module.
-    The files `asserts` are put into the module."""
-    for file in [*files, *asserts]:
+def reading_of(options: Mapping[str, Any], include: Sequence[Path] = (), asserts: Sequence[Path] = ()) -> Reading:
+    """How sources are read, by the options of MANIFEST.json: top, defines, conditions, wires, free, parameters, module. The
+    files `asserts` are put into the module."""
+    return Reading(options["top"] or "", options["defines"], options["conditions"], options["wires"], include,
+                   options.get("free", ()), options.get("parameters", ()), asserts, options.get("module", ""))
+
+
+def made(files: Sequence[Path], how: Reading, stop: Stop) -> Design:
+    """The circuit of these sources."""
+    for file in [*files, *how.asserts]:
         file.open("rb").close()  # a source that is missing is an error of its own
-    how = Reading(options["top"] or "", options["defines"], options["conditions"], options["wires"], include,
-                  options.get("free", ()), asserts, options.get("module", ""))
     try:
         return read_verilog(files, how, stop)
     except FileNotFoundError as error:

@@ -7,7 +7,7 @@ import re
 from dataclasses import dataclass, field
 from typing import Any, Callable, Dict, List, Optional, Tuple
 
-from . import simulated, timing
+from . import needed, simulated, timing
 from .checked import ALIVE, CIRCUIT, CONSTRAINTS, CUT, WAYS, Claim, Command, Wrong, expect
 from .decisions import judge
 from .row import KINDS, LEFT_OUT, MOST_FRAMES, ORIGINS, UNDECIDED, Row, name_of
@@ -22,6 +22,9 @@ WITH_CUTS = "aig-verdicts 3"
 # That of bundles in which nothing shows that some run keeps the constraints.
 OLDER = "aig-verdicts 1"
 FORMATS = (FORMAT, WITH_CUTS, OLDER)
+# What the versions of a bundle say of its formulas. The number goes up where `aig cnf` makes others, which old proofs do
+# not fit. Bundles of formulas of the whole circuit do not say it.
+FORMULAS = "aig cnf: formulas 2"
 # A plain name, or one in a folder.
 PLAIN = re.compile(r"[A-Za-z0-9_+-][A-Za-z0-9._+-]*(/[A-Za-z0-9_+-][A-Za-z0-9._+-]*)?")
 MOST_LINES = 1 << 31
@@ -46,6 +49,8 @@ def rows_as_json(rows: List[Row]) -> List[Dict[str, Any]]:
         kept["commands"] += [{"prints": line, "words": ["aig", *command]} for line, command in row.commands()]
         if row.needs is not None:
             kept["needs"] = row.needs.facts()
+        if row.runs:
+            kept["needed"] = needed.as_json(row.runs)
         if row.position in words:
             kept["result"] = words[row.position]
         made.append(kept)
@@ -60,6 +65,11 @@ def format_of(rows: List[Row]) -> str:
 def results(rows: List[Row]) -> Dict[int, str]:
     """The words of each assertion and cover, by position."""
     return {it.row.position: it.words for it in judge(rows)}
+
+
+def is_of_older_formulas(manifest: Dict[str, Any]) -> bool:
+    """Whether proofs of a bundle may be about formulas that `aig` does not make any more."""
+    return bool(manifest["versions"].get("formulas") != FORMULAS)
 
 
 def _parts_of(row: Row) -> Dict[str, Any]:
@@ -172,6 +182,7 @@ class Said:
     files: Dict[str, str] = field(default_factory=dict)
     notes: List[str] = field(default_factory=list)
     origin: str = ""
+    needed: List[Claim] = field(default_factory=list)
 
     @property
     def label(self) -> str:
@@ -187,13 +198,13 @@ class Said:
         """The row, which has no verdict before its claim is checked."""
         claim = self.claim() if self.by or self.verdict == ALIVE else None
         return Row(self.position, self.kind, self.name, self.file, self.first, self.last, self.of,
-                   self.verdict == LEFT_OUT, claim, self.notes, self.origin)
+                   self.verdict == LEFT_OUT, claim, self.notes, self.origin, needed=self.needed)
 
 
 def row_of(value: Any) -> Row:
     """The row, if each part of it has its type and each file its one possible name."""
     expect(type(value) is dict, "a row is no object")
-    expect(set(value) <= set(_TYPES) | {"commands", "result", "needs"}, "a row has an unknown part")
+    expect(set(value) <= set(_TYPES) | {"commands", "result", "needs", "needed"}, "a row has an unknown part")
     row = Said()
     for key, kind in _TYPES.items():
         if key in value:
@@ -206,6 +217,8 @@ def row_of(value: Any) -> Row:
     _numbers(row)
     _files(row)
     _verdict(row)
+    row.needed = needed.read(row.position, value.get("needed", []))
+    expect("cuts" in row.files or not row.needed, f"needed of {row.label}")
     return row.row()
 
 
@@ -248,7 +261,8 @@ def check_results(manifest: Dict[str, Any], rows: List[Row]) -> None:
 
 def files_of(manifest: Dict[str, Any], rows: List[Row]) -> List[str]:
     """The files that a bundle has to have, in a fixed order."""
-    named = [name for row in rows if row.claim is not None for name in row.claim.files.values()]
+    claims = [claim for row in rows for claim in [row.claim, *row.needed] if claim is not None]
+    named = [name for claim in claims for name in claim.files.values()]
     sources = [f"sources/{name}" for name in manifest["sources"]]
     sources += [f"translated/{name}" for name in manifest["translated"]]
     return [CIRCUIT, *named, *sources, *[SCRIPT_OF_YOSYS] * bool(sources)]

@@ -32,7 +32,7 @@ class Version:
 
     @cached_property
     def texts(self) -> Texts:
-        return Texts(self.sources, self.options.get("defines", []))
+        return Texts(self.sources, self.options.get("defines", []), self.options.get("parameters", []))
 
     @property
     def asserted(self) -> List[Row]:

@@ -7,6 +7,7 @@ from collections import Counter
 from typing import Any, Dict, Iterator, List, Mapping, Sequence, Set, Tuple
 
 from .._program import run as aig
+from .hashed import Gate, Hashed
 from .ranges import Ranges
 from .registers import plain
 
@@ -190,6 +191,20 @@ class _Parts:
             self.symbols[chr(place[0]), int(place[1:])] = symbol
             at += 1
 
+    def hash(self) -> None:
+        """Leaves out gates that are twice there or constant, and gates and latches that no output, property or assumption
+        needs."""
+        hashed = Hashed([_gate(line) for line in self.sections["a"]])
+        for letter in "olbc":
+            self.sections[letter] = [_with_literals(line, hashed, letter == "l") for line in self.sections[letter]]
+        latches = {int(line.split(b" ")[0]): int(line.split(b" ")[1]) for line in self.sections["l"]}
+        needed = hashed.read_by((int(line) for letter in "obc" for line in self.sections[letter]), latches)
+        self.sections["a"] = [b"%d %d %d" % gate for gate in hashed.gates(needed)]
+        left = [k for k, literal in enumerate(latches) if literal in needed]
+        self.sections["l"] = [self.sections["l"][k] for k in left]
+        names = {("l", at): self.symbols[("l", k)] for at, k in enumerate(left) if ("l", k) in self.symbols}
+        self.symbols = {**{entry: name for entry, name in self.symbols.items() if entry[0] != "l"}, **names}
+
     def words(self) -> Iterator[Tuple[Entry, str]]:
         """Each name of each entry."""
         return ((entry, word) for entry, symbol in self.symbols.items() for word in _words(symbol))
@@ -208,6 +223,18 @@ class _Parts:
         return aig("toaig", "--to", "aig", files=[b"\n".join([*lines, b""])])
 
 
+def _gate(line: bytes) -> Gate:
+    literal, one, other = map(int, line.split(b" "))
+    return literal, one, other
+
+
+def _with_literals(line: bytes, hashed: Hashed, is_latch: bool) -> bytes:
+    """An output, a property or an assumption of gates that are there, or a latch with such a next state."""
+    words = line.split(b" ")
+    words[is_latch] = b"%d" % hashed.literal(int(words[is_latch]))
+    return b" ".join(words)
+
+
 def _symbol_order(item: Tuple[Entry, bytes]) -> Tuple[int, int]:
     return "ilobc".index(item[0][0]), item[0][1]
 
@@ -223,6 +250,7 @@ def named(circuit: bytes, hidden: Dict[int, str], ports: Sequence[str], properti
     the design, and then the named wires that are no inputs, latches or other wires. Bits are in the order of their weight,
     so those of a vector [2:9] have falling indices, and are no vector for `aig`: it would show their value turned around."""
     parts = _Parts(circuit)
+    parts.hash()
     rank = {port: k for k, port in enumerate(ports)}
     known: Dict[str, bytes] = {}
     read, widths = parts.read(), Counter(_wire(word)[0] for (letter, _), word in parts.words() if letter == "o")

@@ -9,12 +9,17 @@ from typing import Dict, FrozenSet, List, Mapping, NamedTuple, Optional, Set, Tu
 
 from .._parts import parts_of
 from .._program import run as aig
+from ..errors import AigError
+from . import needed
 from .checked import Wrong
 from .decide import Bounds, Found, Hint, Narrow, Task, decide
 from .hints import claim_of, has_hints
+from .needed import Run
+from .part import part_of
 from .pieces import ASSUMED, NEXT, RESET, Cut, Piece, pieces_of, read_cuts
 from .questions import NO_TIME, Questions
 from .tools import Stop, Stopped, soon
+from .tried_runs import reached_by
 from .unrolled import Layout, Left, layout_of
 from .used import Question, used
 
@@ -70,6 +75,8 @@ class Narrowing:
         self.ask = Questions(circuit, task.bounds, task.programs, folder, stop, found.notes)
         self.pieces = pieces_of(circuit)
         self.core: Optional[Core] = None  # the smallest one so far
+        self.runs: Dict[Piece, Tuple[int, bytes]] = {}  # frames and witnesses where a piece is cut alone
+        self._has_tried_assumptions = False
         self._last: Optional[Tuple[FrozenSet[Piece], Questions]] = None
 
     def search(self) -> None:
@@ -80,10 +87,12 @@ class Narrowing:
             first = Core(self.pieces.kept(cuts), Proof(known.by, known.frames, files))
             self.core = first if cuts else None
             self.narrowed(first)
-            self.without_assumptions()
         if self.core is None:
             self.ask.note(NO_CORE)
-        elif self.narrow.is_minimal:
+            return
+        if self.narrow.is_needed:
+            self.look_for_runs(self.core)
+        if self.narrow.is_minimal:
             self.minimise(self.core)
 
     def keep(self) -> None:
@@ -99,9 +108,25 @@ class Narrowing:
             except Stopped:
                 self.ask.note(f"core: {NO_TIME}")
                 return
-        found, checked = self.found, confirmed.checked
-        found.verdict, found.by, found.frames = checked.line, checked.by, checked.frames
-        found.files, found.checked = confirmed.files, checked
+            found, checked = self.found, confirmed.checked
+            found.verdict, found.by, found.frames = checked.line, checked.by, checked.frames
+            found.files, found.checked = confirmed.files, checked
+            self._keep_runs()
+
+    def _keep_runs(self) -> None:
+        """Has `aig` check the runs without a piece."""
+        for piece, (frames, witness) in sorted(self.runs.items()):
+            files = {"cuts": self.pieces.alone(piece), "witness": witness}
+            run = Run(needed.claim_of(self.task.position, len(self.found.needed), frames), files)
+            try:
+                run.checked = self.ask.plain(run.claim, files).checked
+            except (AigError, Wrong) as error:
+                self.ask.note(f"run without a piece: {error}")
+            except Stopped:
+                self.ask.note(f"run without a piece: {NO_TIME}")
+                return
+            else:
+                self.found.needed.append(run)
 
     # -- proofs of cut circuits
 
@@ -152,12 +177,13 @@ class Narrowing:
             ask, words = self.about(core.kept), ["strengthen", "--to", "aag", f"--property={self.task.position}"]
             text = ask.aig(*words, files=[ask.circuit], named={"--certificate": proof.files["certificate"]})
             strong = Layout(parts_of(text))
-            return Question(role, Left(strong, (), strong.parts.bad), 0, 2)
+            return Question(role, part_of(Left(strong, None, strong.parts.bad), 0), 0, 2)
         layout = layout_of(self.plain)
-        cuts = frozenset(cut for piece in self.pieces.all - core.kept for cut in self.pieces.cuts[piece])
+        kept = frozenset(cut for piece in core.kept for cut in self.pieces.cuts[piece])
         if role == "alive":
-            return Question(role, Left(layout, cuts, [1]), 0, proof.frames)
-        return Question(role, Left(layout, cuts, layout.parts.bad), self.task.position, proof.frames + (role == "step"))
+            return Question(role, part_of(Left(layout, kept, [1]), 0), 0, proof.frames)
+        part = part_of(Left(layout, kept, layout.parts.bad), self.task.position)
+        return Question(role, part, 0, proof.frames + (role == "step"))
 
     @property
     def plain(self) -> bytes:
@@ -170,7 +196,7 @@ class Narrowing:
         """Whether there is a core without registers: nothing at all, or assumptions alone. Then one frame shows it."""
         assumptions = frozenset(piece for piece in self.pieces.all if piece.letter == ASSUMED)
         for kept in dict.fromkeys([assumptions, frozenset()]):
-            proof = self.again(Proof("induction", 1, {}), kept) if self.narrow.known.by != "alive" else None
+            proof = self.again(Proof("induction", 1, {}), kept) if not self.is_reached("anywhere") else None
             if proof is None:
                 break
             self.core = Core(kept, proof)
@@ -178,15 +204,21 @@ class Narrowing:
             self.narrowed(self.core)
         return self.core is not None
 
-    def without_assumptions(self) -> None:
-        """Tries the core without its assumptions: often a proof uses some, and another one does without them."""
-        core = self.core
-        if core is not None and core.proof.by != "alive" and any(piece.letter == ASSUMED for piece in core.kept):
-            less = frozenset(piece for piece in core.kept if piece.letter != ASSUMED)
-            proof = self.again(core.proof, less)
-            if proof is not None:
-                self.core = Core(less, proof)
-                self.narrowed(self.core)
+    def is_reached(self, where: str) -> bool:
+        """Whether a run that was drawn at random reaches the property there, or the row is about the assumptions."""
+        if self.narrow.known.by == "alive":
+            return True
+        found = reached_by(self.plain)
+        return self.task.position in (found.anywhere if where == "anywhere" else found.unassuming)
+
+    def tried_first(self, kept: FrozenSet[Piece]) -> List[FrozenSet[Piece]]:
+        """What is tried to prove it of: these pieces, and once without their assumptions before. Often a proof uses some,
+        and another one does without them."""
+        less = frozenset(piece for piece in kept if piece.letter != ASSUMED)
+        if less == kept or self._has_tried_assumptions or self.is_reached("unassuming"):
+            return [kept]
+        self._has_tried_assumptions = True
+        return [less, kept]
 
     def narrowed(self, core: Core) -> None:
         """Proves it again of what its proof used, until that is all, and keeps the smallest core."""
@@ -199,17 +231,23 @@ class Narrowing:
             except (Wrong, ValueError, IndexError, KeyError) as error:
                 self.ask.note(f"core: {error}")
                 return
-            if kept == core.kept:
-                self.core = core
+            for smaller in self.tried_first(kept):
+                if smaller == core.kept:
+                    self.core = core
+                    return
+                proof = self.again(core.proof, smaller)
+                if proof is not None:
+                    core = self.core = Core(smaller, proof)
+                    break
+            else:
                 return
-            proof = self.again(core.proof, kept)
-            if proof is None:
-                return
-            core = self.core = Core(kept, proof)
 
     def halved(self, core: Core) -> None:
         """Where no hints say what a proof used: tries it without a half of its pieces, without a quarter, and so on."""
-        self.core, size, tries = core, (len(core.kept) + 1) // 2, 0
+        first = self.tried_first(core.kept)[0]
+        without = self.again(core.proof, first) if first != core.kept else None
+        core = self.core = Core(first, without) if without is not None else core
+        size, tries = (len(core.kept) + 1) // 2, 0
         while size:
             order = self.ordered(core.kept)
             for group in (order[at : at + size] for at in range(0, len(order), size)):
@@ -225,12 +263,35 @@ class Narrowing:
         order = [ASSUMED, RESET, NEXT]
         return sorted(kept, key=lambda it: (order.index(it.letter), len(self.pieces.cuts[it]), it))
 
+    # -- what every proof needs
+
+    def look_for_runs(self, core: Core) -> None:
+        """Looks for a run where one piece of the core is cut alone: then every proof needs it."""
+        for piece in sorted(core.kept):
+            run = self.run_without(piece)
+            if run is not None:
+                self.runs[piece] = run
+
+    def run_without(self, piece: Piece) -> Optional[Tuple[int, bytes]]:
+        """The frames and the witness of a run to the property where a piece is cut alone, if one is found."""
+        ask, most = self.ask.about(self.ask.cut(self.pieces.alone(piece))), self.task.bounds.frames
+        of_alive = self.narrow.known.by == "alive"
+        about = ["--alive"] if of_alive else [f"--property={self.task.position}"]
+        for frames in [self.narrow.known.frames] if of_alive else sorted({*SHORT_RUNS, most}):
+            asked = [f"--frames={frames}", *about]
+            said = ask.solve("run without a piece", *asked, most_seconds=TRY_SECONDS)
+            if said.model is not None:
+                return frames, ask.aig("witness", *asked, files=[ask.circuit], named={"--model": said.model})
+            if said.proof is None:
+                return None
+        return None
+
     # -- smaller ones
 
     def minimise(self, core: Core) -> None:
         """Tries each piece: without it there is another proof, or a run, or neither is found."""
         for piece in self.ordered(core.kept):
-            if piece in core.kept:
+            if piece in core.kept and piece not in self.runs:
                 less = core.kept - {piece}
                 proof = self.again(core.proof, less) or self.another(less)
                 if proof is not None:

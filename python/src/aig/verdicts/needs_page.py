@@ -7,13 +7,14 @@ from typing import Callable, Collection, Dict, Iterable, List, Mapping, NamedTup
 
 from .decisions import Judged
 from .pieces import Needs, folded, is_own, pieces_of, unneeded
-from .sentences import LINES, OTHER_PROOFS, UNNEEDED, counted, of_core
+from .sentences import EVERY, LINES, OTHER_PROOFS, UNNEEDED, counted, of_core
 from .svg import escape, marked
 
 STYLE = """\
 .chip{display:inline-block;border:1px solid var(--line);border-radius:6px;padding:0 6px;margin:1px 4px 1px 0;
 background:var(--soft);font:13px ui-monospace,"DejaVu Sans Mono",Menlo,Consolas,monospace;overflow-wrap:anywhere}
 .chip.own{color:var(--pale);border-style:dashed}
+.chip.every{border:2px solid var(--good);font-weight:600}
 pre.core span{border-left:5px solid transparent}pre.core b{display:inline-block;width:3.4em;text-align:right;padding-right:1em}
 pre.core .need{border-left-color:var(--good)}pre.core .need b{color:var(--good)}
 pre.core .idle{border-left:5px double var(--warn);background:var(--warnbg)}pre.core .idle b{color:var(--warn)}
@@ -27,10 +28,13 @@ _STATED = re.compile(r"\b(?:assert|assume|cover|restrict)\b")
 _LABEL = re.compile(r"([A-Za-z_]\w*)\s*:\s*assume\b")
 
 
-def chips(names: Iterable[str], is_register: bool = True) -> str:
-    """Names as chips. Registers that Yosys made for an assertion are pale."""
-    shown = folded(names) if is_register else list(names)
-    found = [f'<span class="chip{" own" * (is_register and is_own(name))}">{escape(name)}</span>'
+def chips(names: Iterable[str], is_register: bool = True, every: Collection[str] = ()) -> str:
+    """Names as chips. Registers that Yosys made for an assertion are pale. What every proof needs has a thick border, also a
+    memory of which every proof needs each word."""
+    listed = list(names)
+    shown = folded(listed) if is_register else listed
+    thick = {*every, *(folded(name for name in listed if name in every) if is_register else ())}
+    found = [f'<span class="chip{" own" * (is_register and is_own(name))}{" every" * (name in thick)}">{escape(name)}</span>'
              for name in shown[:MOST_CHIPS]]
     return "".join(found) + (f" and {len(shown) - MOST_CHIPS} more" if len(shown) > MOST_CHIPS else "")
 
@@ -38,13 +42,14 @@ def chips(names: Iterable[str], is_register: bool = True) -> str:
 def of_row(needs: Needs) -> str:
     """What the proofs of a row need."""
     found = f"<p>{marked(of_core(needs))}</p>"
+    every = needs.of_every
     if needs.registers:
-        found += f"<p><b>Needs</b> {chips(needs.registers)}</p>"
+        found += f"<p><b>Needs</b> {chips(needs.registers, True, every.registers)}</p>"
         resets = [name for name in needs.registers if name not in needs.resets]
         found += f"<p class=sub>Whatever the resets of these are: {chips(resets)}</p>" if resets else ""
     if needs.assumptions:
-        found += f"<p><b>Assumes</b> {chips(needs.assumptions, False)}</p>"
-    return found
+        found += f"<p><b>Assumes</b> {chips(needs.assumptions, False, every.assumptions)}</p>"
+    return found + (f"<p class=sub>{marked(EVERY)}</p>" if needs.every else "")
 
 
 class Proofs(NamedTuple):

@@ -5,11 +5,11 @@ from __future__ import annotations
 
 import re
 from functools import lru_cache
-from typing import Collection, Dict, FrozenSet, Iterable, List, NamedTuple, Optional, Sequence, Set, Tuple
+from typing import Any, Collection, Dict, FrozenSet, Iterable, List, NamedTuple, Optional, Sequence, Set, Tuple
 
 from .._program import run
 from ..entries import Entry, listed, readable
-from .checked import expect
+from .checked import Wrong, expect
 
 # The first letters of the lines of a file of cuts: a next state that is free, a reset that is, an assumption that is
 # dropped.
@@ -74,6 +74,17 @@ class Pieces:
         left = {cut for piece in kept for cut in self.cuts[piece]}
         return "".join([line for cut, line in self._lines if cut not in left]).encode()
 
+    def alone(self, piece: Piece) -> bytes:
+        """The file that cuts one piece."""
+        return "".join([line for cut, line in self._lines if cut in self.cuts[piece]]).encode()
+
+    def only(self, cuts: FrozenSet[Cut]) -> Piece:
+        """The piece that these lines cut, and nothing else. A Wrong says that they cut something else."""
+        for piece in [self.of[cut] for cut in cuts if cut in self.of][:1]:
+            if self.cuts[piece] >= cuts:
+                return piece
+        raise Wrong("a file of cuts is not about one piece")
+
     def kept(self, cuts: FrozenSet[Cut]) -> FrozenSet[Piece]:
         """The pieces of which some line is not there: these are needed."""
         return frozenset(piece for piece, lines in self.cuts.items() if not lines <= cuts)
@@ -103,28 +114,40 @@ class Needs(NamedTuple):
     resets       those of them whose resets are needed
     assumptions  those that are demanded
     of_any       whether the circuit has assumptions
+    every        the pieces that every proof needs, as far as a run without each alone is known
     """
 
     registers: Tuple[str, ...]
     resets: Tuple[str, ...]
     assumptions: Tuple[str, ...]
     of_any: bool
+    every: FrozenSet[Piece] = frozenset()
 
     @staticmethod
     def of(pieces: Pieces, kept: Collection[Piece]) -> Needs:
+        return Needs.named(kept, pieces.has_assumptions)
+
+    @staticmethod
+    def named(kept: Collection[Piece], of_any: bool) -> Needs:
         names = {letter: tuple(sorted(piece.name for piece in kept if piece.letter == letter)) for letter in LETTERS}
         registers = tuple(sorted({*names[NEXT], *names[RESET]}))
-        return Needs(registers, names[RESET], names[ASSUMED], pieces.has_assumptions)
+        return Needs(registers, names[RESET], names[ASSUMED], of_any)
 
     @property
     def is_trivial(self) -> bool:
         """Whether the row holds whatever registers and inputs do."""
         return not self.registers and not self.assumptions
 
-    def facts(self) -> Dict[str, List[str]]:
+    @property
+    def of_every(self) -> Needs:
+        """What every proof needs, as far as that is known."""
+        return Needs.named(self.every, self.of_any)
+
+    def facts(self) -> Dict[str, Any]:
         """What MANIFEST.json has of it, for readers."""
-        found = {"registers": self.registers, "resets": self.resets, "assumptions": self.assumptions}
-        return {name: list(names) for name, names in found.items()}
+        named = {"registers": self.registers, "resets": self.resets, "assumptions": self.assumptions}
+        found: Dict[str, Any] = {name: list(names) for name, names in named.items()}
+        return {**found, "every_proof": self.of_every.facts()} if self.every else found
 
 
 def needs_of(circuit: bytes, cuts: Optional[bytes]) -> Optional[Needs]:

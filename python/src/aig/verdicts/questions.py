@@ -4,6 +4,7 @@ an earlier one is taken for an answer."""
 from __future__ import annotations
 
 import copy
+import math
 import tempfile
 from pathlib import Path
 from typing import Dict, List, Mapping, NamedTuple, Optional, Sequence, Tuple
@@ -127,9 +128,9 @@ class Questions:
         self.note(f"no hints: {said}")
         return proof
 
-    def solve(self, what: str, *options: str, named: Mapping[str, bytes] = {}) -> Answer:
+    def solve(self, what: str, *options: str, named: Mapping[str, bytes] = {}, most_seconds: float = math.inf) -> Answer:
         """A question of the search."""
-        return self._solve(what, options, named, self.seconds_left())
+        return self._solve(what, options, named, min(most_seconds, self.seconds_left()))
 
     def checking(self, what: str, *options: str, named: Mapping[str, bytes] = {}) -> Answer:
         """A question that checks an answer of another program. It has a time of its own."""

@@ -7,17 +7,18 @@ import os
 import tempfile
 from concurrent.futures import ThreadPoolExecutor
 from pathlib import Path
-from typing import Callable, List, Optional, Sequence
+from typing import Callable, List, Optional, Sequence, Tuple
 
 from .._program import program
 from ..entries import listed, readable
 from ..errors import AigError, Crashed
 from .bundle import MOST_BYTES, Bundle
-from .checked import CIRCUIT, CONSTRAINTS, Checked, Claim, Wrong, check, expect, sum_of
+from .checked import CIRCUIT, CONSTRAINTS, Checked, Claim, Rejected, Wrong, check, expect, sum_of
 from .design import Design, properties, symbol
 from .equal import do_the_same
-from .made import made
-from .manifest import OLDER, SCRIPT_OF_YOSYS, check_results
+from .made import made, reading_of
+from .manifest import OLDER, SCRIPT_OF_YOSYS, check_results, is_of_older_formulas
+from .needed import pieces_that
 from .pieces import needs_of
 from .row import Row, has_constraints
 from .sentences import EQUAL_CIRCUIT, SAME_CIRCUIT
@@ -39,6 +40,11 @@ def check_row(row: Row, circuit: bytes, read: Read, stop: Stop) -> Optional[Chec
     if row.claim is None or row.claim.by == "":
         return None
     return check_claim(row.claim, circuit, read, stop)
+
+
+def check_all_of(row: Row, circuit: bytes, read: Read, stop: Stop) -> Tuple[Optional[Checked], List[Checked]]:
+    """The check of what a row claims, and those of its runs without a piece."""
+    return check_row(row, circuit, read, stop), [check_claim(it, circuit, read, stop) for it in row.needed]
 
 
 def check_claim(claim: Claim, circuit: bytes, read: Read, stop: Stop) -> Checked:
@@ -80,13 +86,11 @@ def is_kept(row: Row, circuit: bytes, stop: Stop) -> bool:
     return is_shown or not has_constraints(ask(stop, "info", files=[circuit]))
 
 
-def _of_another_version(row: Row, bundle: Bundle, stop: Stop) -> str:
-    """Why a row may be wrong now that was right once: a proof is one about a formula, and each version of `aig` may make
-    another formula."""
-    old, new = (said.split(" (")[0] for said in (bundle.manifest["versions"].get("aig", "aig"), version(program(), stop)))
-    if row.claim is None or set(row.claim.files) <= {"witness"} or old == new:
-        return ""
-    return f"; the bundle says that {old} made it, and the formulas of {new} may be others: `aig-verdicts run` it again"
+def meant(error: Rejected, label: str, is_older: bool) -> Wrong:
+    """What it means that `aig` rejects a file of a row. A proof about a formula that an older `aig` made may be right."""
+    if is_older and error.error.part.endswith("proof"):
+        return Unanswered(f"{label}: made by an older aig: check it with that one, or run again")
+    return error
 
 
 def recheck(path: Path, sums: bool = True, say: Callable[[Row], None] = lambda _: None, jobs: int = 0,
@@ -102,15 +106,13 @@ def recheck(path: Path, sums: bool = True, say: Callable[[Row], None] = lambda _
         if name.startswith(("sources/", "translated/")) or name == SCRIPT_OF_YOSYS:
             read(name)
     with ThreadPoolExecutor(jobs or os.cpu_count() or 1) as pool:
-        checks = [pool.submit(check_row, row, circuit, read, stop) for row in bundle.rows]
+        checks = [pool.submit(check_all_of, row, circuit, read, stop) for row in bundle.rows]
         try:
             for row, check in zip(bundle.rows, checks):
                 try:
-                    _take(row, check.result(), circuit)
-                except Unanswered:
-                    raise
-                except Wrong as error:
-                    raise Wrong(f"{error}{_of_another_version(row, bundle, stop)}") from None
+                    _take(row, *check.result(), circuit)
+                except Rejected as error:
+                    raise meant(error, row.label, is_of_older_formulas(bundle.manifest)) from None
                 if row.by:
                     say(row)
         finally:
@@ -120,13 +122,15 @@ def recheck(path: Path, sums: bool = True, say: Callable[[Row], None] = lambda _
     return bundle
 
 
-def _take(row: Row, checked: Optional[Checked], circuit: bytes) -> None:
-    """Gives a row the verdict that it claims, if it claims one."""
+def _take(row: Row, checked: Optional[Checked], runs: Sequence[Checked], circuit: bytes) -> None:
+    """Gives a row the verdict that it claims, if it claims one, and the pieces that every proof of it needs."""
     claims = row.claim is not None and row.claim.by != ""
     expect(claims == (checked is not None), f"{row.label} was not checked")
     if checked is not None:
         expect(checked.claim == row.claim, f"{row.label} has another claim")
         row.take(checked, sum_of(circuit), needs_of(circuit, checked.cuts))
+        expect([it.claim for it in runs] == row.needed, f"{row.label} has other runs")
+        row.take_needed(runs, pieces_that(circuit, runs))
 
 
 def same_sources(bundle: Bundle, files: Sequence[Path], include: Sequence[Path]) -> None:
@@ -164,9 +168,9 @@ def same_design(bundle: Bundle, stop: Stop = Stop()) -> str:
 def _made_again(bundle: Bundle, stop: Stop) -> Design:
     """What Yosys makes of the sources. The script in the bundle is not run: it could do anything."""
     options = bundle.manifest["options"]
-    expect(set(options) - {"free", "asserts", "module"} == {"top", "defines", "conditions", "wires"}
+    expect(set(options) - {"free", "parameters", "asserts", "module"} == {"top", "defines", "conditions", "wires"}
            and type(options["top"]) is str and type(options["defines"]) is list
-           and type(options.get("free", [])) is list and type(options.get("asserts", [])) is list
+           and all(type(options.get(it, [])) is list for it in ("free", "parameters", "asserts"))
            and type(options.get("module", "")) is str and ("asserts" in options) == ("module" in options)
            and all(type(options[it]) is bool for it in ("conditions", "wires")),
            "the bundle has no sources" if not options else "options of MANIFEST.json")
@@ -178,7 +182,7 @@ def _made_again(bundle: Bundle, stop: Stop) -> Design:
         asserts = [path for path in paths if path.name in options.get("asserts", [])]
         expect(len(asserts) < len(paths), "the bundle has no sources")
         try:
-            return made([path for path in paths if path not in asserts], stop, options, asserts=asserts)
+            return made([path for path in paths if path not in asserts], reading_of(options, asserts=asserts), stop)
         except ToolFailed as error:
             raise ToolFailed(str(error).replace(f"{folder}/", "sources/")) from None
 

@@ -3,10 +3,10 @@
 from __future__ import annotations
 
 from dataclasses import dataclass, field
-from typing import Dict, Final, List, Optional
+from typing import Dict, Final, List, Optional, Sequence, Set
 
-from .checked import CONFIRMED, CONSTRAINTS, UNREACHABLE, Checked, Claim, Command, expect
-from .pieces import Needs
+from .checked import CONFIRMED, CONSTRAINTS, NEEDED, UNREACHABLE, Checked, Claim, Command, expect
+from .pieces import Needs, Piece
 
 KINDS = ("assert", "cover", "condition", "constraints")
 # In place of a verdict.
@@ -46,6 +46,7 @@ class Row:
     claim  what a bundle says, and nobody believes. Of the constraints: that there are none, which needs no files
     origin what of an earlier version the verdict came from: one of ORIGINS, or nothing
     needs  what its proofs need, if they are about less than the whole circuit
+    needed what a bundle says of runs without a piece, and nobody believes
     """
 
     position: int
@@ -60,7 +61,9 @@ class Row:
     notes: List[str] = field(default_factory=list)
     origin: str = ""
     needs: Optional[Needs] = None
+    needed: List[Claim] = field(default_factory=list)
     _checked: Optional[Checked] = None
+    _runs: List[Checked] = field(default_factory=list)
 
     @property
     def checked(self) -> Optional[Checked]:
@@ -70,12 +73,22 @@ class Row:
         """Takes the verdict of a check that is about this row and the circuit of this sum, and what its proofs need."""
         expect(checked.claim.position == self.position, f"{self.label} is about another property")
         expect(checked.circuit == circuit, f"{self.label} is about another circuit")
-        self._checked, self.is_left_out, self.needs = checked, False, needs
+        expect(checked.by != NEEDED, f"{self.label} has a run of another circuit")
+        self._checked, self.is_left_out, self.needs, self._runs = checked, False, needs, []
+
+    def take_needed(self, runs: Sequence[Checked], every: Sequence[Piece]) -> None:
+        """Takes the checks of runs without one piece each, and these pieces: every proof of the row needs them."""
+        for it in runs:
+            expect(it.by == NEEDED and it.claim.position == self.position and self._checked is not None
+                   and it.circuit == self._checked.circuit, f"{self.label} has a run of something else")
+            expect(self.by != "alive" or it.frames == self.frames, f"a run of {self.label} has another number of frames")
+        if self.needs is not None:
+            self._runs, self.needs = [*runs], self.needs._replace(every=frozenset(every))
 
     def forget(self) -> None:
         """Lets go of the verdict, and of all that was about it."""
         self._checked, self.claim, self.is_left_out, self.notes, self.origin = None, None, False, [], ""
-        self.needs = None
+        self.needs, self.needed, self._runs = None, [], []
 
     @property
     def verdict(self) -> str:
@@ -98,6 +111,16 @@ class Row:
     def files(self) -> Dict[str, str]:
         """The names of the files that show it, by their roles."""
         return self._checked.claim.files if self._checked is not None else {}
+
+    @property
+    def names(self) -> Set[str]:
+        """The names of all of its files."""
+        return {name for it in [self._checked, *self._runs] if it is not None for name in it.claim.files.values()}
+
+    @property
+    def runs(self) -> List[Checked]:
+        """The checks of runs without one piece each, which every proof needs."""
+        return self._runs
 
     @property
     def cuts(self) -> Optional[bytes]:

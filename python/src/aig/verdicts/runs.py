@@ -18,15 +18,21 @@ from .svg import Lane
 MOST_TRACE, MOST_WHY = 1 << 28, 1 << 26
 
 
+def filled(witness: bytes) -> bytes:
+    """A witness with 0 for each x."""
+    first, name, *rows = witness.split(b"\n")
+    return b"\n".join([first, name, *(row.replace(b"x", b"0") for row in rows)])
+
+
 @lru_cache(maxsize=1)
 def comes_back(circuit: bytes, witness: bytes) -> bool:
-    """Whether a run that keeps the assumptions comes back to a state. Then the inputs in between can go on for ever. A
-    state with an x is several. Where `aig` has no answer, nothing is known."""
+    """Whether a run that keeps the assumptions comes back to a state. Then the inputs in between can go on for ever. An x
+    may be anything, so it is 0 here. Where `aig` has no answer, nothing is known."""
     try:
-        said = call("check", "--trace", files=[circuit, witness], good=(0, 1), most=MOST_TRACE)
+        said = call("check", "--trace", files=[circuit, filled(witness)], good=(0, 1), most=MOST_TRACE)
     except (OutOfMemory, Crashed):
         return False
-    states = [state for state in (line.split(b" ")[0] for line in said.split(b"\n")[:-2]) if b"x" not in state]
+    states = [line.split(b" ")[0] for line in said.split(b"\n")[:-2]]
     return len(set(states)) < len(states)
 
 
@@ -50,8 +56,7 @@ class Run:
 
     def filled(self) -> Run:
         """The run of the witness with 0 for each x."""
-        first, name, *rows = self._witness.split(b"\n")
-        return Run(self._told, b"\n".join([first, name, *(row.replace(b"x", b"0") for row in rows)]))
+        return Run(self._told, filled(self._witness))
 
     def __getitem__(self, signal: Signal) -> List[str]:
         column = "lio".index(signal.letter)

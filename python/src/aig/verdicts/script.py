@@ -76,6 +76,11 @@ endmodule"""
 _STEPS = 16
 
 
+# What `opt -fine` does in each of its rounds. It goes round until nothing changes, for a circuit that each search cuts smaller.
+_ROUND = ["opt_muxtree", "opt_reduce -fine", "opt_merge", "opt_dff -keepdc", "opt_clean", "opt_expr -fine -keepdc"]
+_ROUNDS = 3
+
+
 def _map(name: str, text: str) -> List[str]:
     return ["read_verilog -icells -nooverwrite <<END_OF_MAP", *text.strip().split("\n"), "END_OF_MAP", f"design -stash {name}"]
 
@@ -95,9 +100,10 @@ PREPARED = ("# here aig-verdicts works on read.il: it makes each cell $check an 
             "# writes some processes anew (processes.py: prepared), gives comparisons one bit (comparisons.py), gives assertions the names\n"
             "# of blocks that were made of labels (labels.py), and writes lines in names with seven digits (registers.py)")
 NAMED = ("# here aig-verdicts makes circuit.aig of made.aig: the names and the order of inputs, latches, outputs and properties are\n"
-         "# others, and inputs that nothing reads are gone (names.py)")
+         "# others, inputs that nothing reads are gone (names.py), and gates that are twice there or constant (hashed.py)")
 DIRECTED = "# here aig-verdicts works on flat.il: it makes each inout port that the design drives an output (wiring.py)"
 FREED = "# here aig-verdicts works on flat.il: it makes each z an x, which has any value (wiring.py)"
+UNDRIVEN = "# here aig-verdicts works on flat.il: it gives the signals of --free any value (left_out.py)"
 SETTLED = "# here aig-verdicts works on reset.il: it keeps the order of asynchronous values, and clocks assertions (processes.py: settled)"
 
 
@@ -123,8 +129,14 @@ def flattening() -> List[str]:
     ]
 
 
-def making(one_clock: bool, conditions: bool, wires: bool) -> List[str]:
-    """The commands from the flat module to an AIGER file. Where there is one clock, each frame is a cycle of it."""
+# What is done with gates. They are many, and these passes slow: hashed.py does the rest at once.
+_OF_GATES = ["opt_expr", "opt_dff", "aigmap", "formalff -anyinit2ff -fine", "opt_clean", "check"]
+_AS_THEY_ARE = ["aigmap", "formalff -anyinit2ff -fine"]
+
+
+def making(one_clock: bool, conditions: bool, wires: bool, may_loop: bool) -> List[str]:
+    """The commands from the flat module to an AIGER file. Where there is one clock, each frame is a cycle of it. If there
+    may be a loop of gates, `check` looks for it."""
     return [
         *_map("twins", _TWINS), "read_rtlil flat.il",
         *(["techmap -max_iter 1 -map %twins t:$assert"] if conditions else []),
@@ -138,9 +150,9 @@ def making(one_clock: bool, conditions: bool, wires: bool) -> List[str]:
         "async2sync" if one_clock else "clk2fflogic",
         "memory_map -formal", "dffunmap", "json -o clocked.json",
         "formalff -clk2ff -ff2anyinit",
-        "setundef -undriven -anyseq", "wreduce -keepdc", "opt -fine -keepdc",
-        "techmap", "setundef -undriven -anyseq", "opt -fast",
-        "aigmap", "opt_merge", "opt_clean", "formalff -anyinit2ff -fine", "opt_clean", "check",
+        "setundef -undriven -anyseq", "wreduce -keepdc",
+        "opt_expr -fine -keepdc", "opt_merge -nomux", *_ROUND * _ROUNDS,
+        "techmap", "setundef -undriven -anyseq", *(_OF_GATES if may_loop else _AS_THEY_ARE),
         "tee -q -o order select -list t:$assert", "tee -q -o assumed select -list t:$assume", "write_aiger -symbols made.aig",
         # `-vmap` of Yosys 0.52 crashes where two outputs are one wire; without outputs the numbers are the same
         "delete -output w:*", "logger -nowarn \"Treating .*undriven\"", "write_aiger -vmap names numbers.aig",

@@ -14,11 +14,13 @@ from .explained import Line
 from .row import Row
 from .runs import Story, Told, story
 from .sentences import Remark, counted, fact, how, mark
-from .svg import escape, marked, parts, shortened
+from .svg import MOST_COLUMNS, Scene, escape, marked, parts, sheets, shortened
 
 # Pictures have so many bytes of a page, and none is made of a run with more letters. The lines of `why` below those that
 # are seen at once are so many, and have so many causes.
 MOST_PICTURES, MOST_LETTERS = 1_500_000, 50_000_000
+# Of a long run a paper has all frames if these and its lanes make so many values.
+MOST_PRINTED = 4000
 MOST_LINES, SEEN_LINES, MOST_CAUSES = 200, 8, 100
 # Bits of a value that a line does not give, too many to show.
 _LONG = re.compile(r"\?{9,}")
@@ -166,15 +168,14 @@ class Sections:
         told = self._story(row)
         if told is None:
             return None
-        title = f"run of {counted(row.frames, 'frame')} to {row.name}"
         frame = told.run.frames - 1 if it.moment is None else it.moment.number
-        names, waves = parts(told.lanes, told.run.frames, frame, title, mark(row))
+        scene = Scene(told.lanes, frame, f"run of {counted(row.frames, 'frame')} to {row.name}", mark(row))
         why = because(it, told.why)
         more = ""
         if told.left:
             more = (f"<p class=sub>{counted(told.left, 'more signal')}: "
                     f"<code>aig why --witness circuit.aig {file}</code></p>")
-        found = (f'<div class="two"><div><div class="wave">{names}<div class="scroll">{waves}</div></div>{more}</div>'
+        found = (f'<div class="two"><div>{_waves(scene, told.run.frames, file)}{more}</div>'
                  f"<div><p><b>Why</b>, from the last frame back:</p>{_why(why)}</div></div>")
         return Drawn(found, len(found) + letters // 1000 + sum(map(len, why)) // 100)
 
@@ -196,6 +197,19 @@ class Sections:
         facts = aig.Circuit(certificate).info()
         return (f"{counted(facts['bad'], 'claim')} over {counted(facts['inputs'], 'latch')} "
                 f"({counted(facts['gates'], 'gate')})")
+
+
+def _waves(scene: Scene, frames: int, file: str) -> str:
+    """The picture of a run. Of a long one a screen has the first frames and the last ones, and a paper all."""
+    names, waves = parts(scene.lanes, frames, *scene[1:])
+    wave = f'{names}<div class="scroll">{waves}</div>'
+    if frames <= MOST_COLUMNS:
+        return f'<div class="wave">{wave}</div>'
+    dump = f"<code>aig wave --witness circuit.aig {file}</code> has all frames"
+    if frames * len(scene.lanes) > MOST_PRINTED:
+        return f'<div class="wave">{wave}</div><p class=sub>{dump}.</p>'
+    return (f'<div class="wave screen">{wave}</div><p class="sub screen">{dump}, and so has a print of this page.</p>'
+            f'<div class="paper">{"".join(sheets(scene, frames))}</div>')
 
 
 def because(it: Judged, lines: Sequence[Line]) -> List[str]:
@@ -228,13 +242,16 @@ def _lines(lines: Sequence[str]) -> str:
 def _openers(row: Row) -> str:
     """The commands that show a run: as a dump for a waveform viewer, and at a prompt."""
     file = row.files["witness"]
-    words = f"--witness circuit.aig {file}"
-    lines = (f"$ aig wave {words} > {row.position}.vcd", f"$ aig shell {words}")
+    words, dump = f"--witness circuit.aig {file}", f"{row.position}.vcd"
+    zeros = f"$ tr x 0 < {file} | aig wave --witness circuit.aig /dev/stdin > {dump}  # with 0 for each x"
+    lines = (f"$ aig shell {words}", f"$ aig wave {words} > {dump}", zeros)
     return f"<pre>{chr(10).join(map(escape, lines))}</pre>"
 
 
 def _commands(row: Row) -> str:
-    """The commands that check a row, each with the line that it prints."""
-    lines = [f"$ aig {' '.join(row.cut)} > {CUT}"] * bool(row.cut)
-    lines += [text for line, words in row.commands() for text in (f"$ aig {' '.join(words)}", line)]
+    """The commands that check a row and its runs without a piece, each with the line that it prints."""
+    lines: List[str] = []
+    for claim in [it.claim for it in [row.checked, *row.runs] if it is not None]:
+        lines += [f"$ aig {' '.join(claim.cut)} > {CUT}"] * bool(claim.cut)
+        lines += [text for line, words in claim.commands() for text in (f"$ aig {' '.join(words)}", line)]
     return f"<pre>{chr(10).join(map(escape, lines))}</pre>" if lines else ""

@@ -163,7 +163,17 @@ def of_needs(needs: Needs) -> str:
         return "nothing: trivial"
     is_own = needs.registers and all(map(is_own_register, needs.registers))
     registers = "its own registers alone" if is_own else _counted(len(folded(needs.registers)), "register")
-    return f"{registers}, {_counted(len(needs.assumptions), 'assumption')}" if needs.of_any else registers
+    said = f"{registers}, {_counted(len(needs.assumptions), 'assumption')}" if needs.of_any else registers
+    return f"{said}; {_of_every(needs)}" if needs.every else said
+
+
+def _of_every(needs: Needs) -> str:
+    """How much of that every proof needs."""
+    shown, every = folded(needs.registers), needs.of_every
+    found = len({*shown} & {*folded(every.registers)}) + len(every.assumptions)
+    if found == len(shown) + len(needs.assumptions):
+        return "each of these is needed"
+    return f"{found} of these {'is' if found == 1 else 'are'} needed"
 
 
 def _counted(count: int, name: str) -> str:
@@ -182,6 +192,9 @@ def of_core(needs: Needs) -> str:
             "made: **all of these together** are not needed.")
 
 
+# What the page says of the pieces that every proof needs.
+EVERY = ("**Every proof needs** what has a thick border: a run reaches the property where that alone is cut, and `aig check` "
+         "confirmed it.")
 # What the page says of all proofs together. It is filled with the number of proofs.
 UNNEEDED = ("**All of these together** may be anything: `aig refute` checked the proofs of {} on circuits in which they "
             "are. Rows that fail may depend on them.")

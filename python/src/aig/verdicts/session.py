@@ -15,15 +15,16 @@ from typing import Any, Callable, Collection, Dict, List, NamedTuple, Optional, 
 
 from .._program import program
 from .bundle import MOST_BYTES, Bundle
-from .checked import ALIVE, CIRCUIT, CONSTRAINTS, WAYS, Checked, Claim, Wrong, sum_of
+from .checked import ALIVE, CIRCUIT, CONSTRAINTS, WAYS, Checked, Claim, Rejected, Wrong, sum_of
 from .decide import Bounds, Found, Hint, Narrow, Programs, Sent, Task
 from .design import Design
 from .folder import TIMES, Folder
 from .hints import by_name
-from .manifest import SCRIPT_OF_YOSYS, format_of, rows_as_json
+from . import needed
+from .manifest import FORMULAS, SCRIPT_OF_YOSYS, format_of, is_of_older_formulas, rows_as_json
 from .pieces import needs_of
 from .questions import NO_ANSWER, NO_TIME, Questions
-from .recheck import check_claim
+from .recheck import check_claim, meant
 from .simulated import Simulated
 from .row import ENDINGS, Row
 from .search import LAST_SECONDS, NUMBER
@@ -77,11 +78,13 @@ class Session:
         self.seconds: Dict[int, float] = {}
         self.hints: Dict[int, Hint] = {}  # what is known of an earlier version, by position
         self.rejected: List[str] = []
+        self.older = 0  # earlier rows whose proofs are about formulas of an older `aig`
         self.versions = self._versions()
         self.folder = Folder(path, max(MOST_BYTES, bounds.proof_megabytes << 20 or sys.maxsize))
         self.simulated = Simulated()
         self._sum = sum_of(design.circuit)
         self._goes_further = True  # than an earlier run
+        self._is_after_older = False  # an earlier run with formulas of an older `aig`
         self._was_stopped = False  # some search
         self._written = Clock()
         self._cost = 0.0
@@ -104,7 +107,7 @@ class Session:
         if self.design.script:
             named["yosys"] = "yosys"
         versions = {key: version(name, self.stop) for key, name in named.items()}
-        return {**versions, "search": f"aig-verdicts: search {NUMBER}"}
+        return {**versions, "search": f"aig-verdicts: search {NUMBER}", "formulas": FORMULAS}
 
     # -- the folder
 
@@ -133,6 +136,7 @@ class Session:
         if old.sums[CIRCUIT] != self._sum:
             return {}
         self._goes_further = not self._searched_so_far(old.manifest)
+        self._is_after_older = is_of_older_formulas(old.manifest)
         self.seconds = self._earlier_seconds()
         return {row.position: row for row in old.rows}
 
@@ -164,25 +168,36 @@ class Session:
         kept = [(row, earlier[row.position]) for row in self.rows if row.position in earlier]
         kept = [(row, old) for row, old in kept if (old.kind, old.name) == (row.kind, row.name)]
         claims = [(row, old.claim, old.notes) for row, old in kept if old.claim is not None and old.claim.by]
-        origins = {old.position: old.origin for _, old in kept}
+        before = {old.position: old for _, old in kept}
         with ThreadPoolExecutor(jobs or os.cpu_count() or 1) as pool:
             for (row, _, notes), said in zip(claims, pool.map(self._again, claims)):
                 if isinstance(said, str):
-                    self.rejected.append(said)
+                    self.rejected += [said] * bool(said)
+                    self.older += not said
                     continue
+                old = before[row.position]
                 self._give(row, said)
-                row.notes, row.origin = notes, origins[row.position]
+                row.notes, row.origin = notes, old.origin
+                runs = [needed.earlier(claim, self.folder.read) for claim in old.needed]
+                check_all(runs, self.design.circuit, self.stop, "an earlier run")
+                try:
+                    self.folder.take(needed.give(row, runs, self.design.circuit))
+                except Wrong as error:
+                    self.rejected.append(str(error))
         self.stop.look()
 
     def _again(self, earlier: Tuple[Row, Claim, List[str]]) -> Union[Checked, str]:
-        """The check of what an earlier run claims, or what is wrong with it. The files of a claim that is right get
-        their sums, and its proofs get hints where they are asked for."""
+        """The check of what an earlier run claims, or what is wrong with it: an empty text, if a proof is about a formula
+        of an older `aig`. The files of a claim that is right get their sums, and its proofs get hints where they are asked
+        for."""
         _, claim, notes = earlier
         try:
             files = {role: self.folder.read(claim.files[role]) for role in ENDINGS if role in claim.files}
             claim = replace(claim, named=tuple((role, claim.files[role]) for role in files))
             checked = check_claim(claim, self.design.circuit, by_name(claim, files), self.stop)
             checked = self._with_hints(checked, files, notes)
+        except Rejected as error:
+            return "" if meant(error, claim.label, self._is_after_older) is not error else str(error)
         except (Wrong, OSError, MemoryError) as error:
             return str(error)
         except Stopped:
@@ -257,19 +272,21 @@ class Session:
         if checked is None:
             row.notes = notes
             return
-        origin, before = row.origin, set(row.files.values())
+        origin, before = row.origin, row.names
+        runs = found.needed or [needed.earlier(it.claim, self.folder.read, it) for it in row.runs]
         self._forget(row)
         for role, name in checked.claim.named:
             self.folder.put(name, found.files[role])
         self._give(row, checked)
         row.notes, row.origin = notes, origin
+        self.folder.take(needed.give(row, runs, self.design.circuit))
         self.write()
-        for name in before - set(row.files.values()):
+        for name in before - row.names:
             self.folder.remove(name)
 
     def _forget(self, row: Row) -> None:
         """Lets go of what an earlier search found, before its files change."""
-        names = list(row.files.values())
+        names = row.names
         row.forget()
         if names:
             for name in names:
@@ -298,20 +315,20 @@ class Session:
                  for row in self.waiting()]
         return self._work(tasks, self.take, Work(executor, count, progress, share))
 
-    def narrow(self, drat2lrat: Optional[str], is_minimal: bool, work: Work) -> bool:
+    def narrow(self, how: Narrow, work: Work) -> bool:
         """Finds what the proofs of each row without a run need. Whether all of that was done."""
-        rows = [row for row in self.rows if self._is_narrowed(row, is_minimal)]
+        rows = [row for row in self.rows if self._is_narrowed(row, how.is_minimal or how.is_needed)]
         for at in range(0, len(rows), MOST_PROOFS):
-            tasks = [(row, Task(None, row.position, self.bounds, self.programs, None,
-                                Narrow(self._known(row), drat2lrat, is_minimal))) for row in rows[at : at + MOST_PROOFS]]
+            tasks = [(row, Task(None, row.position, self.bounds, self.programs, None, replace(how, known=self._known(row))))
+                     for row in rows[at : at + MOST_PROOFS]]
             if not self._work(tasks, self.take_core, work):
                 return False
         return True
 
-    def _is_narrowed(self, row: Row, is_minimal: bool) -> bool:
-        """Whether a row has proofs that may need less."""
+    def _is_narrowed(self, row: Row, goes_on: bool) -> bool:
+        """Whether a row has proofs that may need less, or of which more is asked."""
         is_asked = self.only is None or row.position in self.only or row.position == CONSTRAINTS
-        return is_asked and "cuts" in WAYS[row.by].possible and (row.needs is None or is_minimal)
+        return is_asked and "cuts" in WAYS[row.by].possible and (row.needs is None or goes_on)
 
     def _known(self, row: Row) -> Hint:
         return Hint(row.by, row.frames, {role: self.folder.read(name) for role, name in row.files.items()})
@@ -349,7 +366,7 @@ class Session:
                 ready = wait(left, timeout=LOOK, return_when=FIRST_COMPLETED).done
             found = [_result(future, left[future]) for future in ready]
             with soon(LAST_SECONDS) if self.stop.stopped else nullcontext(self.stop) as stop:
-                check_all(found, self.design.circuit, stop)
+                check_all([*found, *(run for it in found for run in it.needed)], self.design.circuit, stop)
             for future, it in zip(ready, found):
                 row = left.pop(future)
                 take(it)

@@ -3,15 +3,17 @@ rows of a run, or a baseline, which is taken at its word."""
 
 from __future__ import annotations
 
-from typing import Callable, List, NamedTuple, Sequence
+from dataclasses import replace
+from typing import Callable, List, NamedTuple, Optional, Sequence
 
 from .bundle import Bundle
 from .changes import Known
-from .checked import CIRCUIT, CONFIRMED, Wrong, expect, sum_of
+from .checked import CIRCUIT, CONFIRMED, Checked, Rejected, Wrong, expect, sum_of
 from .cycles import cycles_of
 from .decisions import BAD, MEANINGS, Judge, Judged, judge
+from .manifest import is_of_older_formulas
 from .matching import Version
-from .recheck import check_row
+from .recheck import check_row, meant
 from .row import Row
 from .sentences import in_words
 from .simulated import Simulated, of_facts
@@ -54,12 +56,24 @@ def baseline_of(bundle: Bundle, stop: Stop) -> Side:
     for row, value in zip(bundle.rows, bundle.manifest["rows"]):
         if row.kind in ("assert", "cover"):
             if MEANINGS[_result(row, value.get("result"))].status == BAD:
-                checked = check_row(row, circuit, bundle.summed, stop)
+                checked = _check_of(row, circuit, bundle, stop)
                 expect(checked is not None, f"nothing shows the verdict of {row.label}")
                 if checked is not None:
                     row.take(checked, sum_of(circuit))
             known.append(_believed(bundle, row, value.get("result")))
     return Side(Version.of(bundle), known, bundle.summed)
+
+
+def _check_of(row: Row, circuit: bytes, bundle: Bundle, stop: Stop) -> Optional[Checked]:
+    """The check of a row that failed. That no run is shorter need not be right: of a formula that an older `aig` made, the
+    proof may be another one."""
+    is_older = is_of_older_formulas(bundle.manifest)
+    if row.claim is not None and is_older:
+        row.claim = replace(row.claim, named=tuple(it for it in row.claim.named if it[0] != "shorter"))
+    try:
+        return check_row(row, circuit, bundle.summed, stop)
+    except Rejected as error:
+        raise meant(error, row.label, is_older) from None
 
 
 def _result(row: Row, words: object) -> str:

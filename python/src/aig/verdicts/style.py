@@ -43,6 +43,7 @@ pre.src .hit{background:var(--warnbg);font-weight:600;outline:1px solid var(--wa
 pre.src s{text-decoration:none;color:var(--pale);user-select:none}
 .wave{display:flex;margin:10px 0}.wave>svg{flex:none}
 .scroll{overflow-x:auto;direction:rtl;min-width:0}.scroll svg{direction:ltr;display:block}
+.paper{display:none}
 pre.why{white-space:pre-wrap}
 pre.why span{display:block;padding-left:1.6em;text-indent:-1.6em}
 pre.why i{font-style:normal;display:inline-block;text-indent:0;max-width:100%;overflow-wrap:anywhere}
@@ -55,7 +56,7 @@ tr{border-bottom:1px solid var(--line);padding:8px 0;display:flex;flex-wrap:wrap
 td.what{flex:1 0 100%;order:-1}td:empty{display:none}section{padding:10px}}
 @media print{body{max-width:none;font-size:11pt;padding:0}a{color:inherit}section{border-color:#888}
 h2,h2+p,section>header{break-after:avoid}.wave,pre,tr{break-inside:avoid}summary{list-style:none;color:inherit}
-details.rest{display:none}
+details.rest,.screen{display:none}.paper{display:block}.paper svg{display:block;max-width:100%;break-inside:avoid}
 details::details-content{content-visibility:visible;display:block;block-size:auto}
 .two{grid-template-columns:minmax(0,1fr)}.scroll{overflow:visible}.scroll svg{max-width:100%;height:auto}
 pre,pre.src span{white-space:pre-wrap;width:auto}}

@@ -66,7 +66,7 @@ def _options(old: Version, new: Version) -> Iterator[Beside]:
         return
     if old.options.get("conditions") and not new.options.get("conditions"):
         yield Beside("whether the conditions of assertions are ever true is not asked any more", OPEN)
-    for name, said in (("defines", "macros"), ("free", "free modules")):
+    for name, said in (("defines", "macros"), ("parameters", "parameters"), ("free", "free modules and signals")):
         was, now = (_list(it.options.get(name, [])) for it in (old, new))
         if was != now:
             yield Beside(f"the {said} are {now}, and were {was}", GOOD)

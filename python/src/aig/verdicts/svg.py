@@ -4,6 +4,7 @@ All names are text of others: each goes through `escape`."""
 
 from __future__ import annotations
 
+import enum
 import hashlib
 import re
 from dataclasses import dataclass, field
@@ -12,6 +13,8 @@ from typing import FrozenSet, Iterator, List, NamedTuple, Optional, Sequence, Tu
 
 # The least width of a frame, the height of a lane and the gap below it, the width of a letter, what is above and below.
 CELL, LANE, GAP, LETTER, TOP, BOTTOM = 30, 22, 8, 7.3, 26, 20
+# The columns of a picture on a screen, how many of them are the first frames of a longer run, and the width of a paper.
+MOST_COLUMNS, FIRST_COLUMNS, PAPER = 40, 8, 660
 # How many bits of a value its title shows.
 MOST_BITS = 1024
 STYLE = """\
@@ -46,6 +49,30 @@ class Lane:
     keys: FrozenSet[int] = field(default_factory=frozenset)
     strong: bool = False
     filled: Sequence[str] = ()
+
+
+class Scene(NamedTuple):
+    """What pictures are of: lanes, the frame that is marked, a title, and what happens in that frame."""
+
+    lanes: Sequence[Lane]
+    failing: Optional[int]
+    title: str
+    mark: str
+
+
+class Columns(NamedTuple):
+    """The frames of a picture, None for those that are left out, and the width of each."""
+
+    frames: Sequence[Optional[int]]
+    cell: int
+
+
+class Kind(enum.Enum):
+    """What a picture holds beside its waves: its names and its style, nothing, or its names."""
+
+    ALONE = "alone"
+    WAVES = "waves"
+    SHEET = "sheet"
 
 
 def escape(text: str) -> str:
@@ -111,22 +138,44 @@ def shortened(name: str, most: int = 26) -> str:
     return name if len(name) <= most else f"{name[: most // 2 - 1]}…{name[-(most - most // 2):]}"
 
 
-def columns(frames: int, most: int = 40) -> List[Optional[int]]:
-    """The frames to show, None for those that are left out: the first one, and the last ones."""
-    return list(range(frames)) if frames <= most else [0, None, *range(frames - most + 2, frames)]
+def columns(frames: int, most: int = MOST_COLUMNS) -> List[Optional[int]]:
+    """The frames to show, None for those that are left out: the first ones, and the last ones."""
+    if frames <= most:
+        return list(range(frames))
+    return [*range(FIRST_COLUMNS), None, *range(frames - most + FIRST_COLUMNS + 1, frames)]
 
 
 def waveform(lanes: Sequence[Lane], frames: int, failing: Optional[int] = None, title: str = "",
              mark: str = "fails") -> str:
     """The picture of a run. The frames are the ticks of the clock; a hatched box is x, any value."""
-    return _Picture(lanes, frames, failing, title, mark, True).svg()
+    return _Picture(Scene(lanes, failing, title, mark), _shown(lanes, columns(frames)), Kind.ALONE).svg()
 
 
 def parts(lanes: Sequence[Lane], frames: int, failing: Optional[int] = None, title: str = "",
           mark: str = "fails") -> Tuple[str, str]:
     """The names and the waves as two pictures, for a page where the names stay while the waves scroll."""
-    picture = _Picture(lanes, frames, failing, title, mark, False)
+    picture = _Picture(Scene(lanes, failing, title, mark), _shown(lanes, columns(frames)), Kind.WAVES)
     return picture.names_alone(), picture.svg()
+
+
+def sheets(scene: Scene, frames: int) -> Iterator[str]:
+    """Pictures of all frames of a run for a paper, each with so many frames as it is wide."""
+    cell = _shown(scene.lanes, range(frames)).cell
+    count = max(1, (PAPER - _room(scene.lanes)) // cell)
+    for first in range(0, frames, count):
+        yield _Picture(scene, Columns(range(first, min(first + count, frames)), cell), Kind.SHEET).svg()
+
+
+def _room(lanes: Sequence[Lane]) -> int:
+    """The width of the names."""
+    return int(max([len(shortened(visible(lane.name))) for lane in lanes] + [5]) * LETTER) + 14
+
+
+def _shown(lanes: Sequence[Lane], frames: Sequence[Optional[int]]) -> Columns:
+    """These frames, as wide as their values need."""
+    wide = max((len(hexadecimal(value)) for lane in lanes for frame in frames if frame is not None
+                for value in (lane.values[frame], *lane.filled[frame : frame + 1]) if len(value) > 1), default=0)
+    return Columns(frames, max(CELL, min(84, int(wide * LETTER + 14))))
 
 
 def _opened(width: int, height: int, more: str) -> str:
@@ -135,22 +184,19 @@ def _opened(width: int, height: int, more: str) -> str:
 
 
 class _Picture:
-    """A picture of lanes. It holds its names and its style if it stands `alone`."""
+    """A picture of lanes."""
 
-    def __init__(self, lanes: Sequence[Lane], frames: int, failing: Optional[int], title: str, mark: str, alone: bool):
-        self.lanes, self.title, self.mark, self.alone = lanes, title, mark, alone
-        self.shown = columns(frames)
-        column_of = {frame: column for column, frame in enumerate(self.shown) if frame is not None}
-        self.failing = None if failing is None else column_of.get(failing)
-        self.room = int(max([len(shortened(visible(lane.name))) for lane in lanes] + [5]) * LETTER) + 14
-        self.left = self.room if alone else 0
-        wide = max((len(hexadecimal(value)) for lane in lanes for frame in column_of
-                    for value in (lane.values[frame], *lane.filled[frame : frame + 1]) if len(value) > 1), default=0)
-        self.cell = max(CELL, min(84, int(wide * LETTER + 14)))
+    def __init__(self, scene: Scene, shown: Columns, kind: Kind):
+        self.scene, self.lanes, self.kind = scene, scene.lanes, kind
+        self.shown, self.cell = shown
+        is_seen = scene.failing is not None and scene.failing in self.shown
+        self.failing = list(self.shown).index(scene.failing) if is_seen else None
+        self.room = _room(self.lanes)
+        self.left = 0 if kind is Kind.WAVES else self.room
         self.width = max(self.left + self.cell * len(self.shown) + 6, self.left + 74)
-        self.height = TOP + len(lanes) * (LANE + GAP) + BOTTOM
+        self.height = TOP + len(self.lanes) * (LANE + GAP) + BOTTOM
         # Each picture of a page has a pattern of its own: the pattern of a hidden picture is not drawn.
-        said = repr((list(lanes), frames, failing, title, mark, alone)).encode("utf-8", "replace")
+        said = repr((tuple(scene), list(self.shown), kind)).encode("utf-8", "replace")
         self.ident = "x" + hashlib.sha256(said).hexdigest()[:12]
 
     def x(self, column: int) -> int:
@@ -161,14 +207,14 @@ class _Picture:
 
     def _elements(self) -> Iterator[str]:
         yield _opened(self.width, self.height, 'role="img"')
-        yield f"<title>{escape(self.title)}</title>"
-        if self.alone:
+        yield f"<title>{escape(self.scene.title)}</title>"
+        if self.kind is Kind.ALONE:
             yield f'<style>{STYLE}</style><rect class="p" width="{self.width}" height="{self.height}"/>'
         yield (f'<defs><pattern id="{self.ident}" width="6" height="6" patternUnits="userSpaceOnUse" '
                'patternTransform="rotate(45)"><line class="h" x1="0" y1="0" x2="0" y2="6"/></pattern></defs>')
         yield self._frame("band")
         yield from self._grid()
-        if self.alone:
+        if self.kind is not Kind.WAVES:
             yield from self._names()
         for number, lane in enumerate(self.lanes):
             yield from self._lane(lane, TOP + number * (LANE + GAP))
@@ -206,7 +252,7 @@ class _Picture:
         if self.failing is not None:
             anchor, x = ("end", self.x(self.failing + 1)) if self.failing > 1 else ("start", self.x(self.failing))
             yield (f'<text class="mark" x="{x}" y="{self.height - 3}" text-anchor="{anchor}">'
-                   f"▲ {escape(self.mark)}</text>")
+                   f"▲ {escape(self.scene.mark)}</text>")
 
     def _lane(self, lane: Lane, y: int) -> Iterator[str]:
         before: Optional[Tuple[int, str]] = None

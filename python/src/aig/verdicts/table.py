@@ -3,8 +3,11 @@
 from __future__ import annotations
 
 import re
+import shlex
+from pathlib import Path
 from typing import Dict, List, NamedTuple, Sequence, Tuple
 
+from .checked import CIRCUIT
 from .decisions import Judged
 from .row import Row
 from .sentences import DISAGREES, of_needs
@@ -56,6 +59,15 @@ def open_notes(table: Sequence[Judged]) -> List[str]:
             names.setdefault(note, []).append(it.row.name)
     return [f"{', '.join(of[:MOST_NAMED])}{f' and {len(of) - MOST_NAMED} more' * (len(of) > MOST_NAMED)}: {note}"
             for note, of in names.items()]
+
+
+def next_command(table: Sequence[Judged], folder: Path) -> str:
+    """What shows the first run that fails, at a prompt; nothing if none fails."""
+    row = next((it.row for it in table if it.row.by == "run" and it.result in ("fails", DISAGREES)), None)
+    if row is None:
+        return ""
+    words = ("aig", "shell", "--witness", str(folder / CIRCUIT), str(folder / row.files["witness"]))
+    return f"the run of {row.label}: {' '.join(map(shlex.quote, words))}"
 
 
 class Case(NamedTuple):

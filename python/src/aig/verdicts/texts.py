@@ -144,14 +144,14 @@ def _constants(words: Sequence[str], at: int) -> Iterator[Words]:
 
 
 class Texts:
-    """The texts of a design: its sources by name, and its macros from outside, as `NAME=VALUE`."""
+    """The texts of a design: its sources by name, and its macros and parameters from outside, as `NAME=VALUE`."""
 
-    def __init__(self, sources: Mapping[str, bytes], defines: Sequence[str] = ()):
+    def __init__(self, sources: Mapping[str, bytes], defines: Sequence[str] = (), parameters: Sequence[str] = ()):
         self._statements: Dict[str, List[Statement]] = {}
         self._definitions: Dict[str, List[Words]] = {}
-        for define in defines:
-            name, _, value = define.partition("=")
-            self._definitions.setdefault(f"`{name}", []).append((value,))
+        for given in [*(f"`{it}" for it in defines), *parameters]:
+            name, _, value = given.partition("=")
+            self._definitions.setdefault(name, []).append((value,))
         for name, text in sources.items():
             source = read(text.decode("latin-1"))
             self._statements[name] = statements(source.tokens)

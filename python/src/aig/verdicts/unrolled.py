@@ -4,7 +4,7 @@ mistake makes a core that `aig refute` rejects."""
 from __future__ import annotations
 
 from functools import lru_cache
-from typing import Collection, Dict, List, NamedTuple, Set, Tuple
+from typing import Collection, Dict, List, NamedTuple, Optional, Set, Tuple
 
 from .._parts import Parts, parts_of
 from .pieces import ASSUMED, NEXT, RESET, Cut
@@ -20,9 +20,10 @@ class Layout:
     def __init__(self, parts: Parts):
         self.parts = parts
         self.order = _by_level(parts)
-        self.rank = {parts.gates[at][0] >> 1: k for k, at in enumerate(self.order, 1)}
+        self.rank = dict(zip([parts.gates[at][0] >> 1 for at in self.order], range(1, len(self.order) + 1)))
         self.inputs = {literal >> 1: k for k, literal in enumerate(parts.inputs, 1)}
         self.latches = {latch[0] >> 1: latch for latch in parts.latches}
+        self.all_latches = [latch[0] for latch in parts.latches]
 
 
 @lru_cache(maxsize=4)
@@ -32,10 +33,22 @@ def layout_of(text: bytes) -> Layout:
 
 
 def _by_level(circuit: Parts) -> List[int]:
-    sides = {gate[0] >> 1: (gate[1] >> 1, gate[2] >> 1) for gate in circuit.gates}
     levels: Dict[int, int] = {0: 0}
     levels.update((literal >> 1, 0) for literal in circuit.inputs)
     levels.update((literal >> 1, 0) for literal, _, _ in circuit.latches)
+    try:
+        for gate, left, right in circuit.gates:  # each comes after its sides in most files
+            one, two = levels[left >> 1], levels[right >> 1]
+            levels[gate >> 1] = (one if one > two else two) + 1
+    except KeyError:
+        _in_any_order(circuit, levels)
+    by_variable = sorted(range(len(circuit.gates)), key=[gate for gate, _, _ in circuit.gates].__getitem__)
+    return sorted(by_variable, key=[levels[gate >> 1] for gate, _, _ in circuit.gates].__getitem__)
+
+
+def _in_any_order(circuit: Parts, levels: Dict[int, int]) -> None:
+    """Finds the levels of the gates that have none yet."""
+    sides = {gate[0] >> 1: (gate[1] >> 1, gate[2] >> 1) for gate in circuit.gates}
     for root in sides:
         left = [root]
         while left:
@@ -46,7 +59,6 @@ def _by_level(circuit: Parts) -> List[int]:
                 left.pop()
                 if variable not in levels:
                     levels[variable] = 1 + max(levels[it] for it in sides[variable])
-    return sorted(range(len(circuit.gates)), key=lambda at: (levels[circuit.gates[at][0] >> 1], circuit.gates[at][0]))
 
 
 class Side(NamedTuple):
@@ -59,11 +71,15 @@ class Side(NamedTuple):
 
 
 class Left(NamedTuple):
-    """A circuit without some of its pieces, and the properties that its formulas are about."""
+    """A circuit of which only some pieces are kept, or all of it, and the properties that its formulas are about."""
 
     layout: Layout
-    cuts: Collection[Cut]
+    kept: Optional[Collection[Cut]]
     bad: List[int]
+
+    def has(self, cut: Cut) -> bool:
+        """Whether what a line would cut is kept."""
+        return self.kept is None or cut in self.kept
 
 
 class Unrolled:
@@ -72,17 +88,17 @@ class Unrolled:
     def __init__(self, circuit: Left, frames: int, from_any: bool):
         self.layout, self.bad = circuit.layout, circuit.bad
         self._from_any, parts = from_any, circuit.layout.parts
-        self.constraints = [1 if (ASSUMED, at) in circuit.cuts else it for at, it in enumerate(parts.constraints)]
-        free = [latch[0] for latch in parts.latches if (NEXT, latch[0]) in circuit.cuts]
-        self._fresh = {literal: len(parts.inputs) + k for k, literal in enumerate(free, 1)}
+        self.constraints = [it if circuit.has((ASSUMED, at)) else 1 for at, it in enumerate(parts.constraints)]
+        free = [] if circuit.kept is None else [it for it in circuit.layout.all_latches if (NEXT, it) not in circuit.kept]
+        self._fresh = dict(zip(free, range(len(parts.inputs) + 1, len(parts.inputs) + len(free) + 1)))
         self._inputs = len(parts.inputs) + len(free)
-        self._first: Dict[int, int] = {}
+        fixed = {} if from_any else {latch: reset for latch, _, reset in parts.latches
+                                     if reset in (0, 1) and circuit.has((RESET, latch))}
+        first = [latch for latch in circuit.layout.all_latches if latch not in fixed] if fixed else circuit.layout.all_latches
         count = self._inputs * frames
-        for literal, _, reset in parts.latches:
-            is_free = from_any or reset == literal or (RESET, literal) in circuit.cuts
-            count += is_free
-            self._first[literal] = 2 * count if is_free else reset
-        self._base = count
+        self._first: Dict[int, int] = dict(zip(first, range(2 * count + 2, 2 * (count + len(first)) + 2, 2)))
+        self._first.update(fixed)
+        self._base = count + len(first)
         self._count = len(parts.gates) + (len(parts.constraints) + len(self.bad)) * bool(parts.constraints)
 
     def _literal(self, frame: int, literal: int) -> int:

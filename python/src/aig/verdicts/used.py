@@ -37,9 +37,8 @@ class Question(NamedTuple):
         """The latches whose resets have a clause before the gates."""
         if self.role != "proof":
             return []
-        cut = self.circuit.cuts
         latches = self.circuit.layout.parts.latches
-        return [literal for literal, _, reset in latches if reset in (0, 1) and (RESET, literal) not in cut]
+        return [literal for literal, _, reset in latches if reset in (0, 1) and self.circuit.has((RESET, literal))]
 
     @property
     def before(self) -> int:
@@ -49,18 +48,17 @@ class Question(NamedTuple):
 
 def used(question: Question, formula: bytes, proof: bytes) -> Set[Cut]:
     """The cuts that would change a clause that the proof used."""
-    clauses = [line for line in formula.split(b"\n") if line[:1] not in (b"c", b"p", b"")]
+    clauses = formula[formula.rfind(b"\np ") + 1 :].split(b"\n")[1:-1]
     numbers = _used_clauses(proof, len(clauses))
-    unrolled = Unrolled(question.circuit, question.frames, question.from_any)
+    unrolled, before = Unrolled(question.circuit, question.frames, question.from_any), question.before
     found: Set[Cut] = {(RESET, literal) for at, literal in enumerate(question.resets) if at + 3 in numbers}
     if not unrolled.constraints:  # the clauses before those of gates are about the property itself
         for frame in range(question.frames):
             found |= unrolled.reads(frame, unrolled.bad[question.at])
-    expect((len(clauses) - question.before) % OF_A_GATE == 0, "a formula has another form")
-    for at in range(question.before, len(clauses), OF_A_GATE):
-        hit = [at + k + 1 in numbers for k in range(OF_A_GATE)]
-        if any(hit):
-            found |= _of_gate(unrolled, clauses[at : at + 2], hit)
+    expect((len(clauses) - before) % OF_A_GATE == 0, "a formula has another form")
+    for gate in {(number - 1 - before) // OF_A_GATE for number in numbers if number > before}:
+        at = before + gate * OF_A_GATE
+        found |= _of_gate(unrolled, clauses[at : at + 2], [at + k + 1 in numbers for k in range(OF_A_GATE)])
     return found
 
 

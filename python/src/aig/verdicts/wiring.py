@@ -11,6 +11,8 @@ from .rtlil import Module
 _UNDRIVEN = re.compile(r"Wire .*?\.(\$\S+)(?: \[(\d+)\])? is used but has no driver")
 _LOOP = "found logic loop in module"
 _CELL = re.compile(r"cell (\S+) \(\S+\)")
+# Cells whose outputs follow an input between two edges.
+WAITS = re.compile(r"\$(adff|aldff|dffsr|dlatch|adlatch|sr)")
 _Z = re.compile(r" \d+'[01x-]*z")
 _CONSTANT = re.compile(r"(?<= )\d+'[01xz-]+(?= |$)")
 _WIRE = re.compile(r"wire \\(\S+)")
@@ -70,6 +72,12 @@ def _in_loops(pattern: Pattern[str], warnings: Sequence[str]) -> List[str]:
 
 def has_loop(warnings: Sequence[str]) -> bool:
     return any(_LOOP in warning for warning in warnings)
+
+
+def may_loop(warnings: Sequence[str], module: Dict[str, Any]) -> bool:
+    """Whether the gates of a flat module of one clock may have a loop: where its words have one, or go through a latch or an
+    asynchronous set or reset."""
+    return has_loop(warnings) or any(WAITS.match(cell["type"]) for cell in module["cells"].values())
 
 
 def driven_inouts(module: Dict[str, Any]) -> Set[str]:

@@ -8,11 +8,12 @@ from dataclasses import replace
 from importlib import import_module
 from pathlib import Path
 from types import TracebackType
-from typing import Any, Callable, Optional, Sequence, Type
+from typing import Any, Callable, Optional, Sequence, Type, Union
 
 from .checked import Wrong
 from .decide import Found, Sent, Task, decide, decide_about
 from .hints import by_name
+from .needed import Run
 from .recheck import check_claim
 from .tools import Stop, Stopped, ToolFailed
 
@@ -54,13 +55,13 @@ class Workers:
             self._executor.shutdown(wait=True)
 
 
-def check_all(found: Sequence[Found], circuit: bytes, stop: Stop) -> None:
+def check_all(found: Sequence[Union[Found, Run]], circuit: bytes, stop: Stop, who: str = "worker") -> None:
     """Checks what other processes found, side by side: their word is no check. A note says what is wrong."""
-    def check(it: Found) -> None:
+    def check(it: Union[Found, Run]) -> None:
         try:
             it.checked = check_claim(it.claim, circuit, by_name(it.claim, it.files), stop)
         except (Wrong, Stopped) as error:
-            it.notes.append(f"worker: {str(error) or 'stopped'}")
+            it.notes.append(f"{who}: {str(error) or 'stopped'}")
 
     with ThreadPoolExecutor(os.cpu_count() or 1) as pool:
         [*pool.map(check, [it for it in found if it.by and it.checked is None])]

@@ -139,6 +139,13 @@ class Yosys:
         self.write("flat.il", design)
         return [DIRECTED] * bool(found) + [FREED] * any(freed)
 
+    def free(self, flat: Dict[str, Any], names: Sequence[str]) -> List[str]:
+        """Gives signals of the flat module any value. Returns notes."""
+        design = rtlil.read(self.text("flat.il"))
+        said = [it for module in design.modules for it in left_out.free_signals(module, names, flat[module.name.removeprefix("\\")])]
+        self.write("flat.il", design)
+        return said
+
     def write(self, name: str, design: rtlil.Text) -> None:
         (self.folder / name).write_text(design.text(), encoding="latin-1")
 

@@ -1,4 +1,4 @@
-use Rattle.aig_refute.proofs.PartCircuit.{part_circuit}
+use Rattle.aig_cnf.proofs.PartCircuit.{part_circuit}
 use Rattle.aig_refute.proofs.PartRuns.{part_broken, part_reached, part_unreachable}
 use Rattle.aig_refute.proofs.read_part.law_of_read_part.Goals as goal
 

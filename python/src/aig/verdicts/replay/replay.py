@@ -11,9 +11,10 @@ from pathlib import Path
 from typing import Dict, Iterator, List, Optional, Sequence, Set
 
 from ...circuit import Circuit
-from ..assertions import copies
+from ..assertions import copies, given_values
 from ..bundle import Bundle
 from ..folder import write_whole
+from ..left_out import modules_and_signals
 from ..manifest import SCRIPT_OF_YOSYS
 from ..row import Row
 from ..sources import look_at_words
@@ -67,11 +68,14 @@ class Replay:
         simulator.data = {name: text.encode("latin-1") for name, text in sources.items() if name not in names}
         defines = ["FORMAL", "YOSYS", *defines]
         text = simulator.preprocessed(sources, names, defines)
-        text = without_bodies(text, bundle.manifest["options"].get("free", []))
+        modules, signals = modules_and_signals(bundle.manifest["options"].get("free", []))
+        self._freed = {it.partition(".")[2] for it in signals}
+        text = without_bodies(text, modules)
         adapted = Adapted(text)
         self._checks, self._places = adapted.checks, Places(text, top)
         inputs, both = (adapted.ports_of(top, [it]) for it in ("input", "inout"))
-        self._source = Source(top, adapted.text, defines, inputs, both, adapted.escaped)
+        instance = f"{top}{given_values(bundle.manifest['options'])}"
+        self._source = Source(instance, adapted.text, defines, inputs, both, adapted.escaped)
         self._properties = properties(bundle.rows, self._checks)
         constraints = [it.name for it in self._circuit.entries if it.letter == "c"]
         self._assumptions = assumptions(constraints, self._checks) if all(constraints) else []
@@ -86,7 +90,7 @@ class Replay:
             found = copies(texts, names, self._bundle.manifest["options"], self._timing.is_cycle)
         except (ToolFailed, KeyError) as error:
             raise NotReplayed(str(error)) from None
-        return {name: text.decode("latin-1") for name, text in found.texts.items()}
+        return {name: text.decode("latin-1") for name, text in found.played.items()}
 
     def _timing_of(self, script: str, text: str) -> Timing:
         facts = self._bundle.manifest["timing"]
@@ -115,7 +119,8 @@ class Replay:
     def _not_free(self, run: Sequence[Frame]) -> Iterator[Difference]:
         """The values that are free in the circuit, and known in a simulation that does not set them."""
         player = self._sides.player
-        asked = [*player.free, *player.constants]
+        freed = {at for it in player.free if it.path in self._freed for at in it.columns}
+        asked = [*(it for it in player.free if not freed & set(it.columns)), *player.constants]
         if not asked:
             return
         alone = replace(player, free=[], constants=[], shown=asked)

@@ -27,6 +27,7 @@ _WAITED = re.compile(r"\b(?:pos|neg)edge\s+\(?\s*(?:\\(\S+)|([A-Za-z_][\w$]*))")
 class Source:
     """The sources of a design, as the simulator gets them.
 
+    top         the top module, with the values that its parameters get
     text        all of them in one text, adapted
     defines     the macros
     inputs      the inputs of the top module, as it declares them

@@ -24,6 +24,7 @@ ROUNDS = 2
 class Player:
     """What a testbench drives, and what it prints.
 
+    top        the top module, with the values that its parameters get
     ports      the input ports
     free       signals without a driver, which have the values of the run
     constants  signals that have one value in all of the run

@@ -1,12 +1,11 @@
-use Rattle.std.proofs.Common.{◌+◌, ◌≤◌, drop}
-use Rattle.aig_unroll.specs.InputMap.{start_origins, origin_lines}
-use Rattle.aig_unroll.proofs.InputMapLines.{Partly}
+use Rattle.std.proofs.Common.{drop}
+use Rattle.std.specs.Prelude.{option_copied}
+use Rattle.aig_unroll.specs.InputMap.{start_origins}
+use Rattle.aig_unroll.proofs.KeptLines.{Midway}
 use Rattle.aig_unroll.proofs.input_map.MapWriter.write_starts.Given as goal
 
 abbrev pub invariant-loop-place : goal.invariant-loop-place
-invariant-loop-place g l = record {
-  few : l.position ≤ l.first + l.place;
-  partly : Partly g.W.Write.written g.W.Write.failures l.initial.out l.out
-      (origin_lines l.self.prefix.now l.self.circuit.now l.first (start_origins 0 l.latches))
-      (origin_lines l.self.prefix.now l.self.circuit.now l.position (start_origins l.place (drop l.place l.latches)));
-}
+invariant-loop-place g l =
+    Midway (option_copied l.self.marks) l.self.prefix.now l.self.circuit.now g.W.Write.written g.W.Write.failures
+    l.initial.out l.out l.first (start_origins 0 l.self.circuit.now.latches) l.position
+    (start_origins l.place (drop l.place l.self.circuit.now.latches))

@@ -1,0 +1,33 @@
+#!/usr/bin/env python3
+"""Options of `aig-verdicts run` that change what is read of a design: values of parameters (`-P`), and what is free
+(`--free`). Icarus Verilog says what is true. It needs yosys, cadical and iverilog."""
+
+import os
+import shutil
+import sys
+from pathlib import Path
+
+PYTHON = Path(__file__).resolve().parent.parent
+sys.path[:0] = [str(PYTHON.parent / "tests"), str(PYTHON / "src"), str(PYTHON / "tests")]
+from library import runs  # noqa: E402
+from options import free, kept, parameters  # noqa: E402
+
+
+def with_tools(part):
+    """The part, where all programs are there and the package runs the program that is tested."""
+    def checked(program, tally, chosen):
+        for name in ("yosys", "cadical", "iverilog"):
+            if shutil.which(name) is None:
+                raise runs.LeftOut(f"there is no {name}")
+        os.environ["AIG_PROGRAM"] = program.path
+        return part(program, tally, chosen)
+    checked.__doc__ = part.__doc__
+    return checked
+
+
+PARTS = {part.__name__: with_tools(part) for part in (
+    parameters.values, parameters.places, parameters.refused, parameters.everywhere, parameters.hostile,
+    free.signals, free.kept, free.rejected, kept.circuits)}
+
+if __name__ == "__main__":
+    runs.main(__doc__, PARTS)
