@@ -29,7 +29,8 @@ LIST = ROOT / "crates.txt"
 PAGE = ROOT / "docs" / "ARCHITECTURE.md"
 PICTURE = ROOT / "docs" / "floors.svg"
 TWO_MEANINGS = ROOT / "tools" / "two_meanings.txt"
-_TYPE = re.compile(r"(?m)^\s*(?:pub(?:\([^)]*\))?\s+)?(?:struct|enum|trait|type|union)\s+([A-Z]\w*)")
+# A type that an implementation names for its trait is none of the crate's: its line is indented.
+_TYPE = re.compile(r"(?m)^(?:pub(?:\([^)]*\))?\s+)?(?:struct|enum|trait|type|union)\s+([A-Z]\w*)")
 TABLE = "| crate | holds | stands on |"
 END = "."
 

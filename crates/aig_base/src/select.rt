@@ -77,7 +77,7 @@ fn properties_in(circuit: &Circuit, section: PropertySection) -> &[Lit]
 
 /// The positions of each number in a list, in a chain that rises. The length of the list ends a chain.
 #[derive(Drop)]
-struct Places<'a> {
+struct PositionChains<'a> {
     numbers: &'a [u32],
     first: Vec<u32>,
     next: Vec<u32>,
@@ -100,9 +100,9 @@ fn link(numbers: &[u32], first: &mut [u32], next: &mut [u32])
     }
 }
 
-impl<'a> Places<'a> {
+impl<'a> PositionChains<'a> {
     /// The positions of the numbers below `count` in a list of such numbers.
-    fn of(alloc: Global, count: usize, numbers: &'a [u32]) -> Result<Places<'a>, Memory>
+    fn of(alloc: Global, count: usize, numbers: &'a [u32]) -> Result<PositionChains<'a>, Memory>
         requires numbers { All (λ p. p < count) numbers.now }
         requires few { length numbers.now ≤ limit }
         ensures numbers { IfOk result (λ places. places.numbers.now ≡ numbers.now) }
@@ -113,7 +113,7 @@ impl<'a> Places<'a> {
         let mut first = vec![in alloc; end; count]?;
         let mut next = vec![in alloc; end; numbers.len()]?;
         link(numbers, &mut first, &mut next);
-        Ok(Places {
+        Ok(PositionChains {
             numbers,
             first,
             next,
@@ -148,7 +148,7 @@ impl<'a> Places<'a> {
 struct KeptProperties<'a> {
     from: PropertySection,
     into: PropertySection,
-    places: Places<'a>,
+    places: PositionChains<'a>,
 }
 
 impl KeptProperties<'_> {
@@ -196,7 +196,7 @@ fn selected_symbols(
     // Its contract says that each symbol names an entry that is there, and no two the same one.
     let _max_var = circuit.max_var();
     let count = properties_in(circuit, from).len();
-    let places = Places::of(alloc, count, positions)?;
+    let places = PositionChains::of(alloc, count, positions)?;
     let kept = KeptProperties { from, into, places };
     let mut list = SymbolList::new(alloc);
     for (entry, name) in circuit.symbols().iter() {

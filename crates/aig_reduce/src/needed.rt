@@ -15,7 +15,7 @@ ghost use Rattle.aig_reduce.specs.state.Needed.{AreNeededStarts};
 ghost use Rattle.aig_reduce.specs.state.Needed.{IsNeeded};
 
 use crate::looks::is_zero;
-use crate::place::Place;
+use crate::place::ValuePlace;
 use aig_base::{Circuit, Gate, Latch, List, Lit, Memory, Readers, Tern};
 use aig_bench::Bench;
 use aig_sim::{Grid, Stimulus, first_value};
@@ -430,7 +430,7 @@ impl Needed {
     }
 
     // The value at a place, and x where there is none.
-    fn get(&self, place: Place) -> Tern
+    fn get(&self, place: ValuePlace) -> Tern
         ensures { result ≢ Tern.X →
             slice_get (row_at (self.now.start.items ∷ self.now.rows.rows) place.list) place.position ≡ Some result }
     {
@@ -464,7 +464,7 @@ impl Needed {
     }
 
     /// Whether the value at a place is known to be needed.
-    pub fn has(&self, place: Place) -> bool
+    pub fn has(&self, place: ValuePlace) -> bool
         ensures { IsTrue result → (w : Tern) × (w ≢ Tern.X)
             × (slice_get (row_at (self.now.start.items ∷ self.now.rows.rows) place.list) place.position ≡ Some w) }
     {

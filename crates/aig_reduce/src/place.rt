@@ -6,7 +6,7 @@ use aig_base::Tern;
 
 /// A place of a value: position `position` of the starts, where `list` is 0, or of the inputs of frame `list - 1`.
 #[derive(Clone, Copy)]
-pub struct Place {
+pub struct ValuePlace {
     pub list: usize,
     pub position: usize,
 }
@@ -14,19 +14,19 @@ pub struct Place {
 /// A value that became x, and its place.
 #[derive(Clone, Copy)]
 pub struct Cleared {
-    pub place: Place,
+    pub place: ValuePlace,
     pub value: Tern,
 }
 
 /// Whether a place comes before another.
-pub fn is_before(one: Place, other: Place) -> bool
+pub fn is_before(one: ValuePlace, other: ValuePlace) -> bool
     ensures { IsTrue result ↔ IsBefore one.list one.position other.list other.position }
 {
     one.list < other.list || one.list == other.list && one.position < other.position
 }
 
 /// The first frame that a value at a place can change.
-pub fn frame_of(place: Place) -> u32
+pub fn frame_of(place: ValuePlace) -> u32
     requires { place.list ≤ 2 ^ 32 }
     ensures { result ≡ place.list - 1 }
 {

@@ -16,7 +16,7 @@ ghost use Rattle.aig_reduce.specs.state.Reducing.{Clearing, PutsValue, Reducing,
 use crate::looks::reaches_from;
 use crate::needed::{Known, is_unknown};
 use crate::pace::Pace;
-use crate::place::{Cleared, Place, frame_of, is_before};
+use crate::place::{Cleared, ValuePlace, frame_of, is_before};
 use crate::spread::Spread;
 use crate::starts::{is_fixed, is_uninitialised};
 use aig_base::{Latch, Lit, Tern};
@@ -126,7 +126,7 @@ impl<G: Grid> Reducer<G> {
     }
 
     // Puts a value to a place. The latches are those of the circuit, with their own resets.
-    fn put(&mut self, latches: &[Latch], place: Place, value: Tern)
+    fn put(&mut self, latches: &[Latch], place: ValuePlace, value: Tern)
         requires place { IsPlace (self.old.start.items ∷ self.old.bench.pair.rows) place.list place.position }
         requires runs { (raw : Raw) × (latches.now ≡ raw.latches) × Runs raw self.old.bench.pair self.old.start.items }
         ensures property { self.new.property ≡ self.old.property }
@@ -145,7 +145,7 @@ impl<G: Grid> Reducer<G> {
     }
 
     // The value at a place.
-    fn get(&self, place: Place) -> Tern
+    fn get(&self, place: ValuePlace) -> Tern
         requires { IsPlace (self.now.start.items ∷ self.now.bench.pair.rows) place.list place.position }
         ensures { slice_get (row_at (self.now.start.items ∷ self.now.bench.pair.rows) place.list) place.position ≡
             Some result }
@@ -161,7 +161,7 @@ impl<G: Grid> Reducer<G> {
     }
 
     // Whether there is a value at a place.
-    fn has(&self, place: Place) -> bool
+    fn has(&self, place: ValuePlace) -> bool
         ensures { IsTrue result ↔ IsPlace (self.now.start.items ∷ self.now.bench.pair.rows) place.list place.position }
     {
         if place.list == 0 {
@@ -172,7 +172,7 @@ impl<G: Grid> Reducer<G> {
     }
 
     // Puts x to a place, and keeps what was there.
-    fn clear_value(&mut self, latches: &[Latch], cleared: &mut Vec<Cleared>, place: Place)
+    fn clear_value(&mut self, latches: &[Latch], cleared: &mut Vec<Cleared>, place: ValuePlace)
         requires room { vec_len cleared.old < vec_capacity cleared.old }
         requires place { IsPlace (self.old.start.items ∷ self.old.bench.pair.rows) place.list place.position }
         requires runs { (raw : Raw) × (latches.now ≡ raw.latches) × Runs raw self.old.bench.pair self.old.start.items }
@@ -193,7 +193,12 @@ impl<G: Grid> Reducer<G> {
 
     // Clears a value, unless it is needed or the start of a latch with a reset of 0 or 1, and returns the next place of
     // its list. It returns the place itself where there is no room for one more.
-    fn clear_at(&mut self, known: &Known, cleared: &mut Vec<Cleared>, place: Place) -> Place
+    fn clear_at(
+        &mut self,
+        known: &Known,
+        cleared: &mut Vec<Cleared>,
+        place: ValuePlace,
+    ) -> ValuePlace
         requires place { IsPlace (self.old.start.items ∷ self.old.bench.pair.rows) place.list place.position }
         requires clearing { (raw : Raw) × (given : Witness) × (first : ℕ) × (Knows raw given known.now)
             × Clearing raw given self.old.bench.pair self.old.property self.old.start.items first place.list
@@ -210,7 +215,7 @@ impl<G: Grid> Reducer<G> {
             → Undoes cleared.new.items (self.new.start.items ∷ self.new.bench.pair.rows) was }
         ensures on { IsUpTo place.list place.position result.list result.position }
     {
-        let next = Place {
+        let next = ValuePlace {
             list: place.list,
             position: place.position + 1,
         };
@@ -231,7 +236,12 @@ impl<G: Grid> Reducer<G> {
     }
 
     // Clears the value at a place, and returns the next place. At the end of a list that is the first of the next list.
-    fn clear_next(&mut self, known: &Known, cleared: &mut Vec<Cleared>, place: Place) -> Place
+    fn clear_next(
+        &mut self,
+        known: &Known,
+        cleared: &mut Vec<Cleared>,
+        place: ValuePlace,
+    ) -> ValuePlace
         requires clearing { (raw : Raw) × (given : Witness) × (first : ℕ) × (Knows raw given known.now)
             × Clearing raw given self.old.bench.pair self.old.property self.old.start.items first place.list
             place.position }
@@ -253,7 +263,7 @@ impl<G: Grid> Reducer<G> {
         if place.list >= self.bench.frames() as usize {
             return place;
         }
-        Place {
+        ValuePlace {
             list: place.list + 1,
             position: 0,
         }
@@ -264,9 +274,9 @@ impl<G: Grid> Reducer<G> {
         &mut self,
         known: &Known,
         cleared: &mut Vec<Cleared>,
-        from: Place,
+        from: ValuePlace,
         size: usize,
-    ) -> Place
+    ) -> ValuePlace
         requires clearing { (raw : Raw) × (given : Witness) × (first : ℕ) × (Knows raw given known.now)
             × Clearing raw given self.old.bench.pair self.old.property self.old.start.items first from.list
             from.position }
@@ -313,9 +323,9 @@ impl<G: Grid> Reducer<G> {
         &mut self,
         known: &Known,
         cleared: &mut Vec<Cleared>,
-        from: Place,
+        from: ValuePlace,
         size: usize,
-    ) -> Place
+    ) -> ValuePlace
         requires empty { cleared.old.items ≡ [] }
         requires list { from.list ≤ length self.old.bench.pair.rows }
         requires reducing { (raw : Raw) × (given : Witness) × (Knows raw given known.now)
@@ -344,8 +354,8 @@ impl<G: Grid> Reducer<G> {
         known: &Known,
         cleared: &mut Vec<Cleared>,
         pace: &mut Pace,
-        from: Place,
-    ) -> Place
+        from: ValuePlace,
+    ) -> ValuePlace
         requires empty { cleared.old.items ≡ [] }
         requires list { from.list ≤ length self.old.bench.pair.rows }
         requires reducing { (raw : Raw) × (given : Witness) × (Knows raw given known.now)
@@ -369,7 +379,7 @@ impl<G: Grid> Reducer<G> {
     }
 
     // Notes in the pace whether x stayed at a place.
-    fn note(&self, pace: &mut Pace, place: Place) {
+    fn note(&self, pace: &mut Pace, place: ValuePlace) {
         if self.has(place) && is_unknown(self.get(place)) {
             pace.pass();
         } else {
@@ -378,7 +388,7 @@ impl<G: Grid> Reducer<G> {
     }
 
     // Tries x at one place.
-    fn try_value(&mut self, latches: &[Latch], place: Place)
+    fn try_value(&mut self, latches: &[Latch], place: ValuePlace)
         requires place { IsPlace (self.old.start.items ∷ self.old.bench.pair.rows) place.list place.position }
         requires reducing { (raw : Raw) × (given : Witness) × (latches.now ≡ raw.latches)
             × Reducing raw given self.old.bench.pair self.old.property self.old.start.items place.list place.position }
@@ -404,8 +414,8 @@ impl<G: Grid> Reducer<G> {
         known: &Known,
         cleared: &mut Vec<Cleared>,
         pace: &mut Pace,
-        place: Place,
-    ) -> Place
+        place: ValuePlace,
+    ) -> ValuePlace
         requires empty { cleared.old.items ≡ [] }
         requires place { IsPlace (self.old.start.items ∷ self.old.bench.pair.rows) place.list place.position }
         requires reducing { (raw : Raw) × (given : Witness) × (Knows raw given known.now)
@@ -423,7 +433,7 @@ impl<G: Grid> Reducer<G> {
         }
         self.try_value(&known.latches, place);
         self.note(pace, place);
-        Place {
+        ValuePlace {
             list: place.list,
             position: place.position + 1,
         }
@@ -435,8 +445,8 @@ impl<G: Grid> Reducer<G> {
         known: &Known,
         cleared: &mut Vec<Cleared>,
         pace: &mut Pace,
-        place: Place,
-    ) -> Place
+        place: ValuePlace,
+    ) -> ValuePlace
         requires empty { cleared.old.items ≡ [] }
         requires list { place.list ≤ length self.old.bench.pair.rows }
         requires reducing { (raw : Raw) × (given : Witness) × (Knows raw given known.now)
@@ -451,12 +461,12 @@ impl<G: Grid> Reducer<G> {
         // Its contract says how many frames there are.
         self.bench.frames();
         if !self.has(place) {
-            return Place {
+            return ValuePlace {
                 list: place.list + 1,
                 position: 0,
             };
         }
-        let next = Place {
+        let next = ValuePlace {
             list: place.list,
             position: place.position + 1,
         };
@@ -487,7 +497,7 @@ impl<G: Grid> Reducer<G> {
     {
         let frames = self.bench.frames() as usize;
         let mut pace = Pace::new();
-        let mut place = Place {
+        let mut place = ValuePlace {
             list: 0,
             position: 0,
         };

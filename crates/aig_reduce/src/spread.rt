@@ -10,7 +10,7 @@ ghost use Rattle.aig_reduce.specs.state.Needed.{AreFollowing, Breaks, Follows, I
 
 use crate::looks::{is_x, is_zero};
 use crate::needed::Known;
-use crate::place::Place;
+use crate::place::ValuePlace;
 use aig_base::{Gate, Lit, Memory};
 use aig_bench::Bench;
 use aig_sim::Grid;
@@ -248,7 +248,7 @@ impl Spread {
 
     /// Whether x at a place makes x of a variable that is needed. It follows gates that become x, up to the first one
     /// that is needed, and only at the frame of the place: the first one for a start.
-    pub fn breaks<G: Grid>(&mut self, bench: &Bench<G>, known: &Known, place: Place) -> bool
+    pub fn breaks<G: Grid>(&mut self, bench: &Bench<G>, known: &Known, place: ValuePlace) -> bool
         requires { length known.now.readers.lists ≡ bench.now.pair.circuit.max_var + 1 }
         ensures { IsTrue result → Breaks bench.now.pair known.now.needed.cells.rows place.list place.position }
     {

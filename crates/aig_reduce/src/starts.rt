@@ -2,7 +2,7 @@
 ghost use Rattle.std.specs.Prelude.{◌≡◌, ◌<◌, ◌↔◌, length, Some, slice_get, IsTrue};
 ghost use Rattle.aig_parts.specs.declared.latch.Latch.{Latch};
 
-use crate::place::Place;
+use crate::place::ValuePlace;
 use aig_base::Latch;
 
 /// Whether a latch has no reset of 0 or 1.
@@ -13,7 +13,7 @@ pub fn is_uninitialised(latch: Latch) -> bool
 }
 
 /// Whether a place is the start of a latch with a reset of 0 or 1.
-pub fn is_fixed(latches: &[Latch], place: Place) -> bool
+pub fn is_fixed(latches: &[Latch], place: ValuePlace) -> bool
     requires { place.list ≡ 0 → place.position < length latches.now }
     ensures fixed { IsTrue result → (place.list ≡ 0)
         × ((x : Latch) → slice_get latches.now place.position ≡ Some x → 1 < x.reset → ⊥) }

@@ -16,21 +16,21 @@ use std::str;
 
 /// A circuit, its rows, and the lines of a script.
 #[derive(Clone, Copy)]
-struct Case<'a> {
+struct EditCase<'a> {
     circuit: &'a [u8],
     rows: &'a [u8],
     script: &'a str,
 }
 
-impl<'a> Case<'a> {
+impl<'a> EditCase<'a> {
     /// The first case of these bytes, and the bytes after it. The numbers of its first line are how many bytes the
     /// circuit, the rows and the script have.
-    fn first(bytes: &'a [u8]) -> Option<(Case<'a>, &'a [u8])> {
+    fn first(bytes: &'a [u8]) -> Option<(EditCase<'a>, &'a [u8])> {
         let ([circuit_size, rows_size, script_size], rest) = three_numbers(bytes)?;
         let (circuit, rest) = split(rest, circuit_size)?;
         let (rows, rest) = split(rest, rows_size)?;
         let (script, rest) = split(rest, script_size)?;
-        let case = Case {
+        let case = EditCase {
             circuit,
             rows,
             script: str::from_utf8(script).ok()?,
@@ -96,7 +96,7 @@ pub(crate) fn run(rt: HostRuntime) -> io::Result<()> {
         if rest.is_empty() {
             break;
         }
-        let Some((case, after)) = Case::first(rest) else {
+        let Some((case, after)) = EditCase::first(rest) else {
             return Err(ErrorKind::InvalidData.into());
         };
         case.print::<ByteGrid>(rt)?;

@@ -9,13 +9,13 @@ mod steps;
 
 use std::env;
 use std::io::{self, ErrorKind};
-use steps::Shown;
+use steps::CaseText;
 
 /// Prints a line for each case of standard input, by the word that says of what.
 fn serve(rt: HostRuntime, word: &str) -> io::Result<()> {
     match word {
-        "steps" => steps::run(rt, Shown::Marks),
-        "names" => steps::run(rt, Shown::Names),
+        "steps" => steps::run(rt, CaseText::Marks),
+        "names" => steps::run(rt, CaseText::Names),
         "edits" => edits::run(rt),
         _ => Err(ErrorKind::InvalidInput.into()),
     }

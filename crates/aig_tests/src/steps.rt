@@ -8,7 +8,7 @@ use std::io::{self, ErrorKind};
 
 /// What is printed of a case.
 #[derive(Clone, Copy)]
-pub(crate) enum Shown {
+pub(crate) enum CaseText {
     /// A mark for each step, and how the check ends.
     Marks,
     /// The literals of the steps, and how many variables there are after them.
@@ -43,16 +43,16 @@ a\x06\x04\x00a\x010 2 0
 ";
 
 /// Prints a line for each case of standard input.
-pub(crate) fn run(rt: HostRuntime, shown: Shown) -> io::Result<()> {
+pub(crate) fn run(rt: HostRuntime, shown: CaseText) -> io::Result<()> {
     print(rt, input::all(rt)?.as_slice(), shown)
 }
 
 /// Prints a line for each case of the sample.
 pub(crate) fn run_sample(rt: HostRuntime) -> io::Result<()> {
-    print(rt, SAMPLE, Shown::Marks)
+    print(rt, SAMPLE, CaseText::Marks)
 }
 
-fn print(rt: HostRuntime, bytes: &[u8], shown: Shown) -> io::Result<()> {
+fn print(rt: HostRuntime, bytes: &[u8], shown: CaseText) -> io::Result<()> {
     let mut rest = bytes;
     for _ in 0..bytes.len() {
         if rest.is_empty() {
@@ -62,8 +62,8 @@ fn print(rt: HostRuntime, bytes: &[u8], shown: Shown) -> io::Result<()> {
             return Err(ErrorKind::InvalidData.into());
         };
         let line = match shown {
-            Shown::Marks => case.outcome(rt.alloc()),
-            Shown::Names => case.names(rt.alloc()),
+            CaseText::Marks => case.outcome(rt.alloc()),
+            CaseText::Names => case.names(rt.alloc()),
         };
         match line {
             Ok(line) => println!(rt; "{line}")?,

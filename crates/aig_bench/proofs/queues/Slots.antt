@@ -12,7 +12,7 @@ use Rattle.aig_base.specs.Sound.{IsSound}
 use Rattle.aig_base.specs.state.Marks.{IsMarked}
 use Rattle.aig_base.proofs.circuits.Circuits.{gate_in_range}
 use Rattle.aig_base.proofs.lists.Gets.{slice_get_last, slice_get_left}
-use Rattle.aig_bench.specs.declared.propagate.waiting.Slot.{Slot}
+use Rattle.aig_bench.specs.declared.propagate.waiting.EventSlot.{EventSlot}
 use Rattle.aig_bench.specs.state.Buckets.{AreQueues, LinksIn}
 use Rattle.aig_bench.specs.state.Waiting.{HaveSides, Sides, idle, is_waiting, level_of, marks_of, next_of, sides_in}
 use Rattle.aig_bench.specs.state.Waiting.{sides_of, view_of}
@@ -20,11 +20,11 @@ use Rattle.aig_bench.proofs.growing.Lengthened.{unmarked_pushed}
 use Rattle.aig_bench.proofs.queues.WaitingMarks.{marks_entered, marks_pushed, not_idle}
 
 -- a slot that was written
-module _ (slots : List Slot) (v : ℕ) (s : Slot) (room : Bool) (is : s ≡ get_or slots v s) where
+module _ (slots : List EventSlot) (v : ℕ) (s : EventSlot) (room : Bool) (is : s ≡ get_or slots v s) where
   pub level_written : (level : ℕ) → view_of (set slots v (record s { level = level })) room
       ≡ record (view_of slots room) { levels = set (map level_of slots) v level }
   level_written level =
-      let now : Slot = record s { level = level } in
+      let now : EventSlot = record s { level = level } in
       let a : map next_of (set slots v now) ≡ map next_of slots = map-set_same next_of slots v now s (ap next_of is) in
       let b = map-set level_of slots v now in
       let d : map sides_in (set slots v now) ≡ map sides_in slots = map-set_same sides_in slots v now s (ap sides_in is) in
@@ -33,7 +33,7 @@ module _ (slots : List Slot) (v : ℕ) (s : Slot) (room : Bool) (is : s ≡ get_
   pub sides_written : (r0 r1 : ℕ) → view_of (set slots v (record s { rhs0 = r0; rhs1 = r1 })) room
       ≡ record (view_of slots room) { sides = set (map sides_in slots) v (record { rhs0 = r0; rhs1 = r1 }) }
   sides_written r0 r1 =
-      let now : Slot = record s { rhs0 = r0; rhs1 = r1 } in
+      let now : EventSlot = record s { rhs0 = r0; rhs1 = r1 } in
       let a : map next_of (set slots v now) ≡ map next_of slots = map-set_same next_of slots v now s (ap next_of is) in
       let b : map level_of (set slots v now) ≡ map level_of slots = map-set_same level_of slots v now s (ap level_of is) in
       let d = map-set sides_in slots v now in
@@ -46,14 +46,14 @@ module _ (slots : List Slot) (v : ℕ) (s : Slot) (room : Bool) (is : s ≡ get_
         next = set (map next_of slots) v second;
       }
   entered second ne =
-      let now : Slot = record s { next = second } in
+      let now : EventSlot = record s { next = second } in
       let a = map-set next_of slots v now in
       let b : map level_of (set slots v now) ≡ map level_of slots = map-set_same level_of slots v now s (ap level_of is) in
       let d : map sides_in (set slots v now) ≡ map sides_in slots = map-set_same sides_in slots v now s (ap sides_in is) in
       rw (a, b, d, marks_entered (map next_of slots) v second ne) refl
 
 -- whether a variable waits, and its level, by its slot
-module _ (slots : List Slot) (v : ℕ) (s : Slot) (at : slice_get slots v ≡ Some s) where
+module _ (slots : List EventSlot) (v : ℕ) (s : EventSlot) (at : slice_get slots v ≡ Some s) where
   pub level_read : slice_get (map level_of slots) v ≡ Some s.level
   level_read = slice_get-map level_of slots v ∙ ap (option_map level_of) at
 
@@ -69,7 +69,7 @@ module _ (slots : List Slot) (v : ℕ) (s : Slot) (at : slice_get slots v ≡ So
   rests e m = false≢true (sym (ap is_waiting e) ∙ same_Some (is_waiting s.next) true (sym mark_read ∙ m))
 
 -- whether there is room for one more does not matter
-pub queues_room : (levels head : List ℕ) (slots : List Slot) (old new : Bool) (words : List ℕ)
+pub queues_room : (levels head : List ℕ) (slots : List EventSlot) (old new : Bool) (words : List ℕ)
     → AreQueues levels head (view_of slots old) words → AreQueues levels head (view_of slots new) words
 queues_room levels head slots old new words h = record {
   chained = h.chained;
@@ -80,7 +80,7 @@ queues_room levels head slots old new words h = record {
   occupied = h.occupied;
 }
 
-pub links_room : (P : ℕ → Type 0) (head head' : List ℕ) (slots slots' : List Slot) (room before after : Bool)
+pub links_room : (P : ℕ → Type 0) (head head' : List ℕ) (slots slots' : List EventSlot) (room before after : Bool)
     → LinksIn P head (view_of slots room) head' (view_of slots' room)
     → LinksIn P head (view_of slots before) head' (view_of slots' after)
 links_room P head head' slots slots' room before after h = record {
@@ -92,7 +92,7 @@ links_room P head head' slots slots' room before after h = record {
 }
 
 -- the slots of the first n variables, none of which waits
-pub record SlotsTo (raw : Raw) (levels : List ℕ) (n : ℕ) (slots : List Slot) : Type 0 where
+pub record SlotsTo (raw : Raw) (levels : List ℕ) (n : ℕ) (slots : List EventSlot) : Type 0 where
   pub size : length slots ≡ n
   pub none : (v : ℕ) → IsMarked (marks_of (map next_of slots)) v → ⊥
   pub levels_are : map level_of slots ≡ take n levels
@@ -108,7 +108,7 @@ module _ (raw : Raw) (levels : List ℕ) where
     sides = λ q g at lt. absurd (omega arith);
   }
 
-  pub slots_more : (n : ℕ) (slots : List Slot) (s : Slot) → n < length levels → SlotsTo raw levels n slots
+  pub slots_more : (n : ℕ) (slots : List EventSlot) (s : EventSlot) → n < length levels → SlotsTo raw levels n slots
       → s.next ≡ idle → slice_get levels n ≡ Some s.level
       → ((q : ℕ) (g : Gate) → slice_get raw.gates q ≡ Some g → variable g.lhs ≡ n → s.rhs0 ≡ g.rhs0)
       → ((q : ℕ) (g : Gate) → slice_get raw.gates q ≡ Some g → variable g.lhs ≡ n → s.rhs1 ≡ g.rhs1)
@@ -133,7 +133,7 @@ module _ (raw : Raw) (levels : List ℕ) where
         ];
   }
 
-  pub all_sides : (n : ℕ) (slots : List Slot) → SlotsTo raw levels n slots → IsSound raw → n ≡ raw.max_var + 1
+  pub all_sides : (n : ℕ) (slots : List EventSlot) → SlotsTo raw levels n slots → IsSound raw → n ≡ raw.max_var + 1
       → HaveSides raw (map sides_in slots)
   all_sides n slots h sound is = record {
     size = length-map slots sides_in ∙ h.size ∙ is;

@@ -3,7 +3,7 @@ use Rattle.std.specs.Prelude.{◌≡◌, ℕ, ◌+◌, Bool, not, nat_eq, List, 
 use Rattle.aig_parts.specs.declared.gate.Gate.{Gate}
 use Rattle.aig_parts.specs.declared.raw.Raw.{Raw}
 use Rattle.aig_parts.specs.Literal.{variable}
-use Rattle.aig_bench.specs.declared.propagate.waiting.Slot.{Slot}
+use Rattle.aig_bench.specs.declared.propagate.waiting.EventSlot.{EventSlot}
 
 -- two right sides
 pub record Sides : Type 0 where
@@ -30,17 +30,17 @@ is_waiting n = not (nat_eq n idle)
 abbrev pub marks_of : List ℕ → List Bool
 marks_of next = map is_waiting next
 
-abbrev pub next_of : Slot → ℕ
+abbrev pub next_of : EventSlot → ℕ
 next_of s = s.next
 
-abbrev pub level_of : Slot → ℕ
+abbrev pub level_of : EventSlot → ℕ
 level_of s = s.level
 
-abbrev pub sides_in : Slot → Sides
+abbrev pub sides_in : EventSlot → Sides
 sides_in s = record { rhs0 = s.rhs0; rhs1 = s.rhs1 }
 
 -- what contracts see of slots
-abbrev pub view_of : List Slot → Bool → WaitingVariables
+abbrev pub view_of : List EventSlot → Bool → WaitingVariables
 view_of slots room = record {
   items = marks_of (map next_of slots);
   next = map next_of slots;

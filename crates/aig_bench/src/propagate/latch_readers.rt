@@ -5,7 +5,7 @@ ghost use Rattle.aig_parts.specs.declared.raw.Raw.{Raw};
 ghost use Rattle.aig_bench.specs.state.Latches.{AreLatchReaders, TakesNextFrom, IsLatchList, Lists};
 
 use crate::propagate::latch_list::LatchList;
-use crate::propagate::level_set::BitSet;
+use crate::propagate::level_set::NumberSet;
 use aig_base::{Circuit, Memory};
 use std::alloc::Global;
 
@@ -17,7 +17,7 @@ pub struct LatchReaders {
     // For each latch the one before it that reads the same variable; 0 stands for none.
     before: Vec<u32>,
     // The variables that a latch reads: few mostly, and in little memory.
-    read: BitSet,
+    read: NumberSet,
 }
 
 impl LatchReaders {
@@ -28,7 +28,7 @@ impl LatchReaders {
         let mut last = vec![in alloc; 0; circuit.max_var() as usize + 1]?;
         let mut before = Vec::new(alloc);
         before.push(0)?;
-        let mut read = BitSet::new(alloc, circuit.max_var() as usize + 1)?;
+        let mut read = NumberSet::new(alloc, circuit.max_var() as usize + 1)?;
         for (position, latch) in circuit.latches().iter().enumerate() {
             let variable = latch.next.var() as usize;
             before.push(last[variable])?;

@@ -27,20 +27,20 @@ fn first_place(word: u64, from: usize) -> Option<usize>
 
 /// Numbers by bits, 64 a word.
 #[derive(Drop, Debug)]
-pub struct BitSet {
+pub struct NumberSet {
     words: Vec<u64>,
 }
 
-impl BitSet {
+impl NumberSet {
     /// No numbers, with room for those below `size`, in the fewest words.
-    pub fn new(alloc: Global, size: usize) -> Result<BitSet, Memory>
+    pub fn new(alloc: Global, size: usize) -> Result<NumberSet, Memory>
         requires { size ≤ limit + 1 }
         ensures words { IfOk result (λ b. length b.words.items ≡ (size + 63) / 64) }
         ensures empty { IfOk result (λ b. (n : ℕ) → slice_index b.words.items n ≡ 0) }
     {
         let count = (size + (BITS - 1)) / BITS;
         let words = vec![in alloc; 0; count]?;
-        Ok(BitSet { words })
+        Ok(NumberSet { words })
     }
 
     /// Makes room for a number, which one more word is enough for; no number comes or goes.
@@ -127,9 +127,9 @@ impl BitSet {
 /// takes memory when it is made and when it grows, and else none. Contracts see the words of the levels.
 #[derive(Drop, Debug)]
 pub struct LevelSet {
-    levels: BitSet,
+    levels: NumberSet,
     // Numbers of words.
-    filled: BitSet,
+    filled: NumberSet,
 }
 
 impl Model for LevelSet {
@@ -151,8 +151,8 @@ impl LevelSet {
         ensures room { IfOk result (λ s. size ≤ 64 * length s) }
         ensures empty { IfOk result (λ s. (l : ℕ) → HasBit s l → ⊥) }
     {
-        let levels = BitSet::new(alloc, size)?;
-        let filled = BitSet::new(alloc, (size + (BITS - 1)) / BITS)?;
+        let levels = NumberSet::new(alloc, size)?;
+        let filled = NumberSet::new(alloc, (size + (BITS - 1)) / BITS)?;
         Ok(LevelSet { levels, filled })
     }
 

@@ -5,7 +5,7 @@ ghost use Rattle.aig_bench.specs.state.Buckets.{AreQueues, CanBeQueued, IsOccupi
 ghost use Rattle.aig_bench.specs.state.Waiting.{view_of};
 
 use crate::propagate::level_set::LevelSet;
-use crate::propagate::waiting::{IDLE, Slot};
+use crate::propagate::waiting::{EventSlot, IDLE};
 
 // Puts a variable before the others of a level's chain, and returns which was the first; 0 stands for none.
 fn push_first(head: &mut [u32], occupied: &mut LevelSet, level: usize, first: u32) -> u32
@@ -27,7 +27,7 @@ fn push_first(head: &mut [u32], occupied: &mut LevelSet, level: usize, first: u3
 }
 
 // Lets a variable wait, unless it waits already.
-fn link(slots: &mut [Slot], head: &mut [u32], occupied: &mut LevelSet, variable: u32)
+fn link(slots: &mut [EventSlot], head: &mut [u32], occupied: &mut LevelSet, variable: u32)
     requires { (levels : List ℕ) × AreQueues levels head.old (view_of slots.old false) occupied.old
         × CanBeQueued levels (length head.old) variable }
     ensures queues { (levels : List ℕ) → AreQueues levels head.old (view_of slots.old false) occupied.old
@@ -43,7 +43,12 @@ fn link(slots: &mut [Slot], head: &mut [u32], occupied: &mut LevelSet, variable:
 }
 
 /// Lets these variables wait.
-pub fn link_all(slots: &mut [Slot], head: &mut [u32], occupied: &mut LevelSet, variables: &[u32])
+pub fn link_all(
+    slots: &mut [EventSlot],
+    head: &mut [u32],
+    occupied: &mut LevelSet,
+    variables: &[u32],
+)
     requires { (levels : List ℕ) × AreQueues levels head.old (view_of slots.old false) occupied.old
         × ((v : ℕ) → Contains variables.now v → CanBeQueued levels (length head.old) v) }
     ensures queues { (levels : List ℕ) → AreQueues levels head.old (view_of slots.old false) occupied.old

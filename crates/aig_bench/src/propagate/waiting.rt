@@ -19,7 +19,7 @@ pub const IDLE: u32 = 0xffff_ffff;
 
 /// What an event looks at of a variable, 16 bytes.
 #[derive(Clone, Copy, Debug)]
-pub struct Slot {
+pub struct EventSlot {
     /// The next variable of the chain, 0 after the last one, or `IDLE`.
     pub next: u32,
     pub level: u32,
@@ -28,15 +28,15 @@ pub struct Slot {
     pub rhs1: Lit,
 }
 
-impl Slot {
+impl EventSlot {
     // The slot of a variable that does not wait.
-    fn idle(level: u32, rhs0: Lit, rhs1: Lit) -> Slot
+    fn idle(level: u32, rhs0: Lit, rhs1: Lit) -> EventSlot
         ensures next { result.next ≡ idle }
         ensures level { result.level ≡ level }
         ensures first { result.rhs0 ≡ rhs0 }
         ensures second { result.rhs1 ≡ rhs1 }
     {
-        Slot {
+        EventSlot {
             next: IDLE,
             level,
             rhs0,
@@ -46,7 +46,7 @@ impl Slot {
 }
 
 // The slot of a variable of a circuit where none waits.
-fn slot_of(circuit: &Circuit, levels: &Levels, variable: u32) -> Slot
+fn slot_of(circuit: &Circuit, levels: &Levels, variable: u32) -> EventSlot
     requires { variable < length levels.now }
     ensures next { result.next ≡ idle }
     ensures level { slice_get levels.now variable ≡ Some result.level }
@@ -59,8 +59,8 @@ fn slot_of(circuit: &Circuit, levels: &Levels, variable: u32) -> Slot
     circuit.facts();
     let level = levels.level(variable);
     match circuit.gate_of(variable) {
-        Some(gate) => Slot::idle(level, gate.rhs0, gate.rhs1),
-        None => Slot::idle(level, Lit::new(0), Lit::new(0)),
+        Some(gate) => EventSlot::idle(level, gate.rhs0, gate.rhs1),
+        None => EventSlot::idle(level, Lit::new(0), Lit::new(0)),
     }
 }
 
@@ -68,7 +68,7 @@ fn slot_of(circuit: &Circuit, levels: &Levels, variable: u32) -> Slot
 /// for all, so an event looks at one place. Contracts see a list of each.
 #[derive(Drop, Debug)]
 pub struct Waiting {
-    slots: Vec<Slot>,
+    slots: Vec<EventSlot>,
 }
 
 impl Model for Waiting {
@@ -120,7 +120,7 @@ impl Waiting {
         ensures sides { self.new.sides ≡ self.old.sides ++ (let s : Sides = record { rhs0 = rhs0; rhs1 = rhs1 } in s)
             ∷ [] }
     {
-        let slot = Slot::idle(level, rhs0, rhs1);
+        let slot = EventSlot::idle(level, rhs0, rhs1);
         self.slots.push_reserved(slot);
     }
 
@@ -136,7 +136,7 @@ impl Waiting {
     }
 
     /// Lets a variable wait no more, and returns what its slot was.
-    pub fn leave(&mut self, variable: u32) -> Slot
+    pub fn leave(&mut self, variable: u32) -> EventSlot
         requires { variable < length self.old.next }
         ensures second { result.next ≡ slice_index self.old.next variable }
         ensures gate { slice_get self.old.sides variable ≡ Some (record { rhs0 = result.rhs0; rhs1 = result.rhs1 }) }

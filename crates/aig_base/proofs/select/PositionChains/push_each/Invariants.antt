@@ -1,7 +1,7 @@
 use Rattle.std.proofs.Common.{◌-◌, length}
 use Rattle.aig_base.specs.Selected.{places_from}
 use Rattle.aig_base.proofs.selections.Walks.{Walked}
-use Rattle.aig_base.proofs.select.Places.push_each.Given as goal
+use Rattle.aig_base.proofs.select.PositionChains.push_each.Given as goal
 
 abbrev pub invariant-loop-place : goal.invariant-loop-place
 invariant-loop-place l =

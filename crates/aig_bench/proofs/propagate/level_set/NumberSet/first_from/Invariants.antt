@@ -1,6 +1,6 @@
 use Rattle.std.proofs.Common.{◌+◌, ◌*◌, ◌/◌, ◌≤◌}
 use Rattle.aig_bench.specs.state.LevelSet.{HasNone}
-use Rattle.aig_bench.proofs.propagate.level_set.BitSet.first_from.Given as goal
+use Rattle.aig_bench.proofs.propagate.level_set.NumberSet.first_from.Given as goal
 
 abbrev pub invariant-loop-word : goal.invariant-loop-word
 invariant-loop-word l = record {

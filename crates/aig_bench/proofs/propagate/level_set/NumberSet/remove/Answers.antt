@@ -1,5 +1,5 @@
 use Rattle.aig_bench.proofs.queues.BitPlaces.{removed}
-use Rattle.aig_bench.proofs.propagate.level_set.BitSet.remove.Goals as goal
+use Rattle.aig_bench.proofs.propagate.level_set.NumberSet.remove.Goals as goal
 
 pub returns-clause-bits : goal.returns-clause-bits
 returns-clause-bits c =

@@ -1,6 +1,6 @@
 use Rattle.std.proofs.Common.{arith}
 use Rattle.aig_bench.proofs.queues.BitPlaces.{none_at_all}
-use Rattle.aig_bench.proofs.propagate.level_set.BitSet.first_from.Goals as goal
+use Rattle.aig_bench.proofs.propagate.level_set.NumberSet.first_from.Goals as goal
 
 pub returns : goal.returns
 returns c =

@@ -5,7 +5,7 @@ use Rattle.aig_parts.specs.declared.symbols.Kind.{Kind}
 use Rattle.aig_parts.specs.SymbolPlaces.{Key}
 use Rattle.aig_base.specs.Selected.{places_from}
 use Rattle.aig_base.proofs.selections.Walks.{entry_at, walk_more, walk_end}
-use Rattle.aig_base.proofs.select.Places.push_each.Goals as goal
+use Rattle.aig_base.proofs.select.PositionChains.push_each.Goals as goal
 
 pub push-requires : goal.push-requires
 push-requires c =

@@ -1,7 +1,7 @@
 use Rattle.std.proofs.Common.{arith}
 use Rattle.aig_parts.proofs.BitLemmas.{past}
 use Rattle.aig_bench.proofs.queues.BitPlaces.{none_in_word, some_in_word}
-use Rattle.aig_bench.proofs.propagate.level_set.BitSet.first_in_word.Goals as goal
+use Rattle.aig_bench.proofs.propagate.level_set.NumberSet.first_in_word.Goals as goal
 
 pub returns-then-word-len-clause-least : goal.returns-then-word-len-clause-least
 returns-then-word-len-clause-least c n le lt has = past c.args.self.now.words.items n (omega arith) has

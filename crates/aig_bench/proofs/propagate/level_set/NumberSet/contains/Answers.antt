@@ -1,7 +1,7 @@
 use Rattle.std.proofs.Common.{length, arith, ◌/◌, ◌≤◌, ◌<◌}
 use Rattle.std.proofs.lemmas.Bool.Decides.{nat_tests}
 use Rattle.aig_parts.proofs.BitLemmas.{past, has_read}
-use Rattle.aig_bench.proofs.propagate.level_set.BitSet.contains.Goals as goal
+use Rattle.aig_bench.proofs.propagate.level_set.NumberSet.contains.Goals as goal
 
 pub returns-then-word-len : goal.returns-then-word-len
 returns-then-word-len c =

@@ -1,6 +1,6 @@
 use Rattle.aig_parts.proofs.BitLemmas.{inserted}
 use Rattle.aig_bench.proofs.queues.BitPlaces.{filled_now}
-use Rattle.aig_bench.proofs.propagate.level_set.BitSet.insert.Goals as goal
+use Rattle.aig_bench.proofs.propagate.level_set.NumberSet.insert.Goals as goal
 
 pub returns-clause-bits : goal.returns-clause-bits
 returns-clause-bits c =
