@@ -5,7 +5,7 @@ use Rattle.std.proofs.lemmas.List.{drop_more, drop_all, map-append}
 use Rattle.aig_parts.specs.declared.symbols.Kind.{Kind}
 use Rattle.aig_parts.specs.SymbolPlaces.{Key}
 use Rattle.aig_names.specs.declared.signals.Entry.{Entry}
-use Rattle.aig_names.specs.declared.signals.Signal.{Signal}
+use Rattle.aig_names.specs.declared.signals.NamedSignal.{NamedSignal}
 use Rattle.aig_names.specs.Header.{name_lines, signal_line, moves, scope_line, closings, section_scope}
 use Rattle.aig_names.specs.Names.{names_of}
 use Rattle.aig_names.specs.Paths.{path_of, scopes_of, leaf_of}
@@ -34,7 +34,7 @@ unfolding path_of
 no_scopes_at_first = refl
 
 -- the line of one name more, after those that lead to its scopes
-pub lines_more : (shape before name leaf : List ℕ) (xs : List Signal) (i : ℕ) (d : Signal) (text mid new all : List ℕ)
+pub lines_more : (shape before name leaf : List ℕ) (xs : List NamedSignal) (i : ℕ) (d : NamedSignal) (text mid new all : List ℕ)
     → i < length xs → name ≡ name_text (get_or xs i d).name → mid ≡ text ++ moves (scopes_of before) (scopes_of name)
     → leaf ≡ leaf_of name → new ≡ mid ++ signal_line shape (get_or xs i d).number leaf
     → text ++ name_lines shape (scopes_of before) (map named (drop i xs)) ≡ all
@@ -50,15 +50,15 @@ lines_more shape before name leaf xs i d text mid new all lt is way own more h =
     ∙ append_assoc mid line after ∙ ap (λ (t : List ℕ). t ++ (line ++ after)) way
     ∙ append_assoc text leads (line ++ after)
     ∙ ap (λ (w : List ℕ). text ++ name_lines shape (scopes_of before) ((n, w) ∷ rest)) is
-    ∙ ap (λ (ys : List Signal). text ++ name_lines shape (scopes_of before) (map named ys)) (sym (drop_more xs i d lt)) ∙ h
+    ∙ ap (λ (ys : List NamedSignal). text ++ name_lines shape (scopes_of before) (map named ys)) (sym (drop_more xs i d lt)) ∙ h
 
 -- the lines after the last name
-pub lines_done : (shape before : List ℕ) (xs : List Signal) (i n : ℕ) (text new all : List ℕ) → length xs ≤ i → n ≡ length (scopes_of before)
+pub lines_done : (shape before : List ℕ) (xs : List NamedSignal) (i n : ℕ) (text new all : List ℕ) → length xs ≤ i → n ≡ length (scopes_of before)
     → new ≡ text ++ closings n → text ++ name_lines shape (scopes_of before) (map named (drop i xs)) ≡ all → new ≡ all
 unfolding name_lines
 lines_done shape before xs i n text new all le is done h =
     done ∙ ap (λ (k : ℕ). text ++ closings k) is
-    ∙ ap (λ (ys : List Signal). text ++ name_lines shape (scopes_of before) (map named ys)) (sym (drop_all i xs le)) ∙ h
+    ∙ ap (λ (ys : List NamedSignal). text ++ name_lines shape (scopes_of before) (map named ys)) (sym (drop_all i xs le)) ∙ h
 
 -- ---- sections
 pub section_of : (symbols : List (Key × List ℕ)) (kind : Kind) (scope type : List ℕ) (n count : ℕ) → 0 < count

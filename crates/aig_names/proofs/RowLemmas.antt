@@ -7,10 +7,10 @@ use Rattle.aig_parts.specs.declared.symbols.Kind.TheVariants.{Input, Latch, Outp
 use Rattle.aig_parts.specs.SymbolPlaces.{Key}
 use Rattle.aig_names.specs.Header.{section_scope, sections}
 use Rattle.aig_names.specs.declared.header.SignalCounts.{SignalCounts}
-use Rattle.aig_names.specs.state.Rows.{Row, rows_size, rows_text}
+use Rattle.aig_names.specs.state.Rows.{ScopeRow, rows_size, rows_text}
 
 -- one section more
-pub row_more : (symbols : List (Key × List ℕ)) (rows : List Row) (i : ℕ) (d : Row) (first size : ℕ) → i < length rows
+pub row_more : (symbols : List (Key × List ℕ)) (rows : List ScopeRow) (i : ℕ) (d : ScopeRow) (first size : ℕ) → i < length rows
     → (text new all : List ℕ)
     → new ≡ text ++ section_scope symbols (get_or rows i d).0 (get_or rows i d).2.now (get_or rows i d).3.now first (get_or rows i d).1
     → text ++ rows_text symbols first (drop i rows) ≡ all → first + rows_size (drop i rows) ≡ size

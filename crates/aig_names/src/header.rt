@@ -9,7 +9,7 @@ ghost use Rattle.aig_names.specs.state.Rows.{rows_size, rows_text};
 
 use crate::names::show;
 use crate::paths::{Path, push_closings, push_moves, push_scope};
-use crate::signals::{Section, Signal, signals_of};
+use crate::signals::{NamedSignal, Section, signals_of};
 use aig_bytes::Memory;
 use aig_parts::{Kind, Symbols};
 use std::alloc::Global;
@@ -30,7 +30,7 @@ pub struct SignalCounts {
 
 /// A section in the table of scopes: its kind, how many signals it has, the name of its scope, and the type of its
 /// signals.
-type Row<'a> = (Kind, u32, &'a [u8], &'a [u8]);
+type ScopeRow<'a> = (Kind, u32, &'a [u8], &'a [u8]);
 
 // Adds the identifier code of a signal.
 fn push_code(text: &mut Vec<u8>, signal: u32) -> Result<(), Memory>
@@ -82,7 +82,7 @@ fn push_signals(
     alloc: Global,
     text: &mut Vec<u8>,
     shape: &[u8],
-    signals: &[Signal<'_>],
+    signals: &[NamedSignal<'_>],
 ) -> Result<(), Memory>
     ensures { OnOk result (text.new.items ≡ text.old.items ++ name_lines shape.now [] (map named signals.now)) }
 {
@@ -103,7 +103,7 @@ fn push_section(
     alloc: Global,
     text: &mut Vec<u8>,
     symbols: &Symbols,
-    row: &Row<'_>,
+    row: &ScopeRow<'_>,
     first: u32,
 ) -> Result<(), Memory>
     requires once { AllPairs (λ x y. x ≢ y) (keys_of symbols.now) }
@@ -127,7 +127,7 @@ fn push_rows(
     alloc: Global,
     text: &mut Vec<u8>,
     symbols: &Symbols,
-    rows: &[Row<'_>],
+    rows: &[ScopeRow<'_>],
 ) -> Result<(), Memory>
     requires once { AllPairs (λ x y. x ≢ y) (keys_of symbols.now) }
     requires few { rows_size rows.now < 2 ^ 32 }
@@ -153,7 +153,7 @@ fn push_sections(
         < 2 ^ 32 }
     ensures { OnOk result (text.new.items ≡ text.old.items ++ sections symbols.now counts.now) }
 {
-    let rows: [Row<'_>; 5] = [
+    let rows: [ScopeRow<'_>; 5] = [
         (Kind::Input, counts.inputs, b"inputs", b"wire"),
         (Kind::Latch, counts.latches, b"latches", b"reg"),
         (Kind::Output, counts.outputs, b"outputs", b"wire"),

@@ -20,7 +20,7 @@ pub struct Section {
 
 /// A signal with one of its names.
 #[derive(Clone, Copy, Drop)]
-pub struct Signal<'a> {
+pub struct NamedSignal<'a> {
     pub number: u32,
     pub name: Name<'a>,
 }
@@ -56,7 +56,7 @@ fn entries_of<'a>(
 // Adds the first name of each entry that has one to a column, and answers what is left of these entries.
 fn take_column<'a>(
     alloc: Global,
-    column: &mut Vec<Signal<'a>>,
+    column: &mut Vec<NamedSignal<'a>>,
     entries: &[Entry<'a>],
 ) -> Result<Vec<Entry<'a>>, Memory>
     requires empty { column.old.items ≡ [] }
@@ -68,7 +68,7 @@ fn take_column<'a>(
     let mut rest = Vec::new(alloc);
     for entry in entries {
         if let Some(first) = first_name(entry.names) {
-            column.push(Signal {
+            column.push(NamedSignal {
                 number: entry.number,
                 name: first.name,
             })?;
@@ -86,7 +86,7 @@ pub fn signals_of<'a>(
     alloc: Global,
     symbols: &'a Symbols,
     section: &Section,
-) -> Result<Vec<Signal<'a>>, Memory>
+) -> Result<Vec<NamedSignal<'a>>, Memory>
     requires once { AllPairs (λ x y. x ≢ y) (keys_of symbols.now) }
     requires few { section.now.first + section.now.count < 2 ^ 32 }
     ensures { IfOk result (λ signals. map named signals.items

@@ -8,7 +8,7 @@ ghost use Rattle.aig_names.specs.Vectors.{is_index, is_index_end, next_name, tur
 ghost use Rattle.aig_names.specs.state.Naming.{named};
 
 use crate::names::show;
-use crate::signals::Signal;
+use crate::signals::NamedSignal;
 use aig_bytes::Memory;
 use itoa::Buffer;
 use std::alloc::Global;
@@ -117,7 +117,10 @@ pub fn show_next(next: &mut Vec<u8>, name: &[u8]) -> Result<(), Memory>
 }
 
 // Moves a run to the end of signals, from its last to its first.
-fn push_run<'a>(signals: &mut Vec<Signal<'a>>, run: &mut Vec<Signal<'a>>) -> Result<(), Memory>
+fn push_run<'a>(
+    signals: &mut Vec<NamedSignal<'a>>,
+    run: &mut Vec<NamedSignal<'a>>,
+) -> Result<(), Memory>
     ensures reversed { OnOk result (signals.new.items ≡ signals.old.items ++ reverse run.old.items) }
     ensures empty { OnOk result (run.new.items ≡ []) }
 {
@@ -129,8 +132,8 @@ fn push_run<'a>(signals: &mut Vec<Signal<'a>>, run: &mut Vec<Signal<'a>>) -> Res
 /// Adds the signals of a column, each longest run of bits of a vector from its last to its first.
 pub fn push_turned<'a>(
     alloc: Global,
-    signals: &mut Vec<Signal<'a>>,
-    column: &[Signal<'a>],
+    signals: &mut Vec<NamedSignal<'a>>,
+    column: &[NamedSignal<'a>],
 ) -> Result<(), Memory>
     ensures { OnOk result (map named signals.new.items ≡ map named signals.old.items ++ turned (map named column.now)) }
 {

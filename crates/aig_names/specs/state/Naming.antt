@@ -5,7 +5,7 @@ use Rattle.aig_names.specs.declared.names.Name.{Name}
 use Rattle.aig_names.specs.declared.names.Name.TheVariants as name
 use Rattle.aig_names.specs.declared.names.Names.{Names}
 use Rattle.aig_names.specs.declared.names.Names.TheVariants as names
-use Rattle.aig_names.specs.declared.signals.Signal.{Signal}
+use Rattle.aig_names.specs.declared.signals.NamedSignal.{NamedSignal}
 use Rattle.aig_names.specs.declared.signals.Entry.{Entry}
 use Rattle.aig_parts.specs.Letters.{letter}
 use Rattle.aig_names.specs.Names.{words, as_name}
@@ -27,7 +27,7 @@ names_size (names.Words text) = length text.now
 names_size (names.Position kind p) = 1
 
 -- a signal's number and its name
-abbrev pub named : Signal → ℕ × List ℕ
+abbrev pub named : NamedSignal → ℕ × List ℕ
 named signal = (signal.number, name_text signal.name)
 
 -- a signal's number and the names that are not declared yet
