@@ -81,12 +81,12 @@ two_more false true false e = refl
 two_more false false true e = refl
 two_more false false false e = refl
 
-pub taken : (literals : List ℕ) (g : Gate) (gates : List Gate) → reads literals (cone literals gates) (variable g.lhs) ≡ true
+taken : (literals : List ℕ) (g : Gate) (gates : List Gate) → reads literals (cone literals gates) (variable g.lhs) ≡ true
     → cone literals (g ∷ gates) ≡ g ∷ cone literals gates
 unfolding cone
 taken literals g gates e = rw e refl
 
-pub left_out : (literals : List ℕ) (g : Gate) (gates : List Gate) → reads literals (cone literals gates) (variable g.lhs) ≡ false
+left_out : (literals : List ℕ) (g : Gate) (gates : List Gate) → reads literals (cone literals gates) (variable g.lhs) ≡ false
     → cone literals (g ∷ gates) ≡ cone literals gates
 unfolding cone
 left_out literals g gates e = rw e refl
@@ -174,7 +174,7 @@ All-reverse P (x ∷ xs) h =
     (All-append P (reverse xs) (x ∷ []) (All-reverse P xs (All-tail P x xs h))
     (All-cons P x [] (All-head P x xs h) (All-nil P)))
 
-pub gates_are_below : (raw : Raw) → IsCircuit raw → All (IsGateBelow (raw.max_var + 1)) raw.gates
+gates_are_below : (raw : Raw) → IsCircuit raw → All (IsGateBelow (raw.max_var + 1)) raw.gates
 gates_are_below raw circuit k d lt =
     let lits : List ℕ = map (λ x. x.lit) raw.latches in
     let lhss : List ℕ = map (λ g. g.lhs) raw.gates in
@@ -187,8 +187,8 @@ gates_are_below raw circuit k d lt =
     record { lhs = omega (arith, lhs); first = omega (arith, sides.0); second = omega (arith, sides.1) }
 
 -- the gate at a turn
-pub turn_below : (m : ℕ) (gates : List Gate) → All (IsGateBelow m) gates → (n i : ℕ) (g : Gate) → n ≡ m
-    → (i < length (reverse gates)) × (g ≡ slice_index_or (reverse gates) i g) → IsGateBelow n g
-turn_below m gates below n i g e (lt, is) =
-    subst (λ o. IsGateBelow o g) (sym e) (subst (IsGateBelow m) (sym is)
-    (All-reverse (IsGateBelow m) gates below i g lt))
+pub turn_below : (raw : Raw) → IsCircuit raw → (n i : ℕ) (g : Gate) → n ≡ raw.max_var + 1
+    → (i < length (reverse raw.gates)) × (g ≡ slice_index_or (reverse raw.gates) i g) → IsGateBelow n g
+turn_below raw circuit n i g e (lt, is) =
+    subst (λ m. IsGateBelow m g) (sym e) (subst (IsGateBelow (raw.max_var + 1)) (sym is)
+    (All-reverse (IsGateBelow (raw.max_var + 1)) raw.gates (gates_are_below raw circuit) i g lt))

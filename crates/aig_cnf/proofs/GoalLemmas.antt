@@ -1,7 +1,8 @@
 -- The bad literals of the frames of an unrolled circuit.
 use Rattle.std.proofs.Common.{◌≡◌, ℕ, zero, suc, ◌+◌, ◌*◌, ◌<◌, ◌≤◌, List, [], ◌∷◌, length, slice_index, All}
-use Rattle.std.proofs.Common.{Ok}
-use Rattle.std.proofs.Common.{refl, sym, ◌∙◌, ap, subst, arith}
+use Rattle.std.proofs.Common.{Result, Ok, Err, IfErr}
+use Rattle.std.proofs.Common.{mul-le-mul_right, refl, sym, ◌∙◌, ap, subst, arith}
+use Rattle.std.specs.Result.{IsErrAnd}
 use Rattle.std.proofs.lemmas.List.Elements.{All-nil, All-cons, All-head, All-tail, All-weaker}
 use Rattle.aig_parts.specs.Literal.{variable}
 use Rattle.aig_parts.specs.declared.gate.Gate.{Gate}
@@ -15,19 +16,33 @@ use Rattle.aig_base.proofs.circuits.ShortGates.{short_gates}
 use Rattle.aig_base.proofs.lists.Joined.{All-right}
 use Rattle.aig_unroll.specs.Answers.{IsUnrolled}
 use Rattle.aig_unroll.specs.Unrollable.{FitsLimits}
-use Rattle.aig_unroll.proofs.UnrolledCircuit.{length-frames, unrolled_circuit}
+use Rattle.aig_unroll.specs.Unrolled.{frame_bad}
+use Rattle.aig_unroll.proofs.UnrolledCircuit.{length-frame_bad, length-frames}
 use Rattle.aig_unroll.proofs.UnrolledReady.{All-frames}
 use Rattle.aig_cnf.specs.declared.query.Goal.{Goal}
 use Rattle.aig_cnf.specs.declared.query.Goal.TheVariants as asked
 use Rattle.aig_cnf.specs.declared.query.Query.{Query}
 use Rattle.aig_cnf.specs.Formula.{IsFormulaOf, clauses, cone, goals, reset_literals, start_literals}
-use Rattle.aig_cnf.specs.Answers.{HasFormula}
+use Rattle.aig_cnf.specs.Answers.{HasFormula, RefusesFormula}
 use Rattle.aig_cnf.specs.Query.{depth, depth_of, subject}
+use Rattle.aig_cnf.specs.declared.fault.CnfFault.{CnfFault}
+use Rattle.aig_cnf.specs.declared.fault.CnfFault.TheVariants as faults
 use Rattle.aig_cnf.specs.state.Kept.{IsShort, Keeps, kept_latches}
-use Rattle.aig_cnf.specs.declared.formula.ReadPart.{ReadPart}
-use Rattle.aig_cnf.specs.state.Made.{IsAnswered, IsReadPart}
+use Rattle.aig_cnf.specs.state.Made.{IsAnswered}
 use Rattle.aig_cnf.proofs.ConeLemmas.{All-cone, length-cone}
 use Rattle.aig_cnf.proofs.StartLemmas.{few_latches, length-reset_literals, starts_are}
+
+-- the goal of frame t is a bad literal
+pub is_goal : (bad : List ℕ) (n t k p : ℕ) → t < k → p < n → length bad ≡ k * n → t * n + p < length bad
+is_goal bad n t k p lt within size =
+    let up : suc t * n ≤ k * n = mul-le-mul_right {m = suc t} {n = k} n lt in
+    let e : suc t * n ≡ n + t * n = omega arith in
+    omega (arith, up, e, size, within)
+
+-- each frame has the bad literals of the circuit
+pub unrolled_bad : (raw new : Raw) (k : ℕ) → IsUnrolled raw k new → length new.bad ≡ k * length raw.bad
+unrolled_bad raw new k (order, canonical, is) =
+    ap (λ (x : Raw). length x.bad) is ∙ length-frames (frame_bad raw order k) (length raw.bad) k (length-frame_bad raw order k)
 
 -- one a frame
 pub length-goals : (new : Raw) (n k p : ℕ) → length (goals new n k p) ≡ k
@@ -61,26 +76,13 @@ starts_of raw mid query k first latches starts e depth_is f g h =
     h ∙ ap (λ n. reset_literals n latches) (first_is query.goal raw mid k first e f)
     ∙ ap (λ (xs : List Latch). reset_literals (k * length raw.inputs + 1) xs) g ∙ starts_are query k raw depth_is
 
-formula_at : (raw new : Raw) (query : Query) (k n variables : ℕ) (starts found : List ℕ) (gates : List Gate)
+pub is_formula : (raw new : Raw) (query : Query) (k n variables : ℕ) (starts found : List ℕ) (gates : List Gate)
     → IsUnrolled (subject query.goal raw) k new
     → k ≡ depth query → n ≡ length raw.bad → variables ≡ new.max_var + 1 → starts ≡ start_literals query raw
     → found ≡ goals new n k query.property → gates ≡ cone found new.gates
     → IsFormulaOf raw query
     (record { variables = variables; goals = found; clauses = clauses query.goal starts found gates })
-formula_at raw new query k n variables starts found gates (order, canonical, is) e f v s g h = (order, canonical, cc)
-
-pub is_formula : (raw mid : Raw) (query : Query) (k : ℕ) (part : ReadPart) (starts : List ℕ) → mid ≡ subject query.goal raw
-    → k ≡ depth query → starts ≡ start_literals query raw → IsReadPart mid k query.property part
-    → IsFormulaOf raw query (record {
-      variables = part.max_var + 1;
-      goals = part.goals.items;
-      clauses = clauses query.goal starts part.goals.items part.gates.items;
-    })
-is_formula raw mid query k part starts same depth_is s is =
-    let (order, canonical, e) = subst (λ (r : Raw). IsUnrolled r k is.new) same is.unrolled in
-    let count : length mid.bad ≡ length raw.bad = ap (λ (r : Raw). length r.bad) same ∙ ap (λ (ls : List ℕ). length ls) (subject_bad query.goal raw) in
-    formula_at raw is.new query k (length mid.bad) (part.max_var + 1) starts part.goals.items part.gates.items
-    (order, canonical, e) depth_is count (ap (λ n. n + 1) is.max_var) s is.goals_are is.gates_are
+is_formula raw new query k n variables starts found gates (order, canonical, is) e f v s g h = (order, canonical, cc)
 
 -- ---- the bad literals of an unrolled circuit are of its variables
 
@@ -106,11 +108,6 @@ goals_in_range new circuit n k p found e =
     (All-weaker (λ l. variable l < new.max_var + 1) (λ l. variable l ≤ new.max_var) (λ l h. omega (arith, h))
     (goals new n k p) (goals_below new circuit n k p))
 
--- a circuit that was unrolled is one
-unrolled_whole : (raw : Raw) → IsCircuit raw → (k : ℕ) → FitsLimits raw k → (new : Raw) → IsUnrolled raw k new → IsCircuit new
-unrolled_whole raw circuit k fits new (order, canonical, is) =
-    subst IsCircuit (sym is) (unrolled_circuit raw circuit order canonical k fits)
-
 -- ---- answers
 
 pub has_formula : (raw mid : Raw) (query : Query) (k : ℕ) → mid ≡ subject query.goal raw → IsAnswered mid query (Ok k)
@@ -121,19 +118,19 @@ has_formula raw mid query k e h = record {
   limits = subst (λ (r : Raw). FitsLimits r (depth query)) e (subst (FitsLimits mid) h.0 h.3);
 }
 
+-- memory ran out on the way to the formula
+pub refused : {A : Type 0} (raw : Raw) (query : Query) (r : Result A CnfFault) → IsErrAnd r (λ f. f ≡ faults.Memory)
+    → HasFormula raw query → IfErr r (RefusesFormula raw query)
+refused raw query (Ok x) h some = absurd h
+refused raw query (Err fault) h some = subst (RefusesFormula raw query) (sym h) some
+
 -- a goal a frame, of which there are some, and not too many; a literal a latch; and the gates of the cone
-pub keeps : (raw mid : Raw) (query : Query) (k first : ℕ) (latches : List Latch) (starts : List ℕ) (part : ReadPart)
-    → mid ≡ subject query.goal raw → IsCircuit mid → IsAnswered mid query (Ok k)
-    → latches ≡ kept_latches query.goal raw → starts ≡ reset_literals first latches → IsReadPart mid k query.property part
-    → Keeps (part.max_var + 1) starts part.goals.items part.gates.items
-keeps raw mid query k first latches starts part same circuit h g s is =
-    let found : List ℕ = part.goals.items in
-    let new : Raw = is.new in
-    let whole : IsCircuit new = unrolled_whole mid circuit k h.3 new is.unrolled in
-    let v : part.max_var + 1 ≡ new.max_var + 1 = ap (λ n. n + 1) is.max_var in
-    let e = is.goals_are in
-    let kept = is.gates_are in
-    let size : length found ≡ k = ap length e ∙ length-goals new (length mid.bad) k query.property in
+pub keeps : (raw mid new : Raw) (query : Query) (k n p first variables : ℕ) (latches : List Latch) (starts found : List ℕ)
+    (gates : List Gate) → mid ≡ subject query.goal raw → IsCircuit mid → IsAnswered mid query (Ok k)
+    → latches ≡ kept_latches query.goal raw → starts ≡ reset_literals first latches → found ≡ goals new n k p
+    → IsCircuit new → variables ≡ new.max_var + 1 → gates ≡ cone found new.gates → Keeps variables starts found gates
+keeps raw mid new query k n p first variables latches starts found gates same circuit h g s e whole v kept =
+    let size : length found ≡ k = ap length e ∙ length-goals new n k p in
     let positive : 0 < k = rw h.0 (depth_positive query.goal query.frames h.1) in
     let most = h.3.frames in
     let few = few_latches query.goal raw (subst IsCircuit same circuit) in
@@ -154,7 +151,7 @@ keeps raw mid query k first latches starts part same circuit h g s is =
         length-cone found new.gates,
         whole.formed.counts.gates,
       );
-      short = subst (All IsShort) (sym kept) (All-cone IsShort part.goals.items new.gates (short_gates new whole));
+      short = subst (All IsShort) (sym kept) (All-cone IsShort found new.gates (short_gates new whole));
     }
   where
     depth_positive : (goal : Goal) (k : ℕ) → 0 < k → 0 < depth_of goal k

@@ -14,11 +14,8 @@ pub mod PartLists
 pub mod PartReads
 pub mod Picked
 pub mod ReadFormulas
-pub mod ReadGates
 pub mod ReadMap
-pub mod ReadParts
 pub mod SignLemmas
 pub mod StartLemmas
 pub mod Sublists
 pub mod TermLemmas
-pub mod Thinned

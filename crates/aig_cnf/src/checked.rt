@@ -14,14 +14,14 @@ use std::alloc::Global;
 
 // Adds one clause.
 fn add(refutation: &mut Refutation, clause: &[Lit]) -> Result<(), Memory>
-    ensures { Adds (clause.now ∷ []) refutation.old refutation.new }
+    ensures { Adds (clause.now ∷ []) refutation.old.clauses refutation.new.clauses }
 {
     refutation.add_clause(clause)
 }
 
 // Adds the three clauses of a gate.
 fn add_gate(refutation: &mut Refutation, gate: Gate) -> Result<(), Memory>
-    ensures { Adds (gate_clauses gate) refutation.old refutation.new }
+    ensures { Adds (gate_clauses gate) refutation.old.clauses refutation.new.clauses }
 {
     add(refutation, &[gate.lhs.not(), gate.rhs0])?;
     add(refutation, &[gate.lhs.not(), gate.rhs1])?;
@@ -30,7 +30,7 @@ fn add_gate(refutation: &mut Refutation, gate: Gate) -> Result<(), Memory>
 
 // Adds the clauses of all gates.
 fn add_gates(refutation: &mut Refutation, gates: &[Gate]) -> Result<(), Memory>
-    ensures { Adds (flat_map gate_clauses gates.now) refutation.old refutation.new }
+    ensures { Adds (flat_map gate_clauses gates.now) refutation.old.clauses refutation.new.clauses }
 {
     for gate in gates {
         add_gate(refutation, *gate)?;
@@ -40,7 +40,7 @@ fn add_gates(refutation: &mut Refutation, gates: &[Gate]) -> Result<(), Memory>
 
 // Adds that the last literal is true, and those before it are false.
 fn add_first_reached(refutation: &mut Refutation, goals: &[Lit]) -> Result<(), Memory>
-    ensures { Adds (first_reached goals.now) refutation.old refutation.new }
+    ensures { Adds (first_reached goals.now) refutation.old.clauses refutation.new.clauses }
 {
     let Some((last, earlier)) = goals.split_last() else {
         return Ok(());
@@ -53,7 +53,7 @@ fn add_first_reached(refutation: &mut Refutation, goals: &[Lit]) -> Result<(), M
 
 // Adds that each of some literals is true if another one is.
 fn add_implied(refutation: &mut Refutation, literal: Lit, implied: &[Lit]) -> Result<(), Memory>
-    ensures { Adds (implies implied.now literal) refutation.old refutation.new }
+    ensures { Adds (implies implied.now literal) refutation.old.clauses refutation.new.clauses }
 {
     for other in implied {
         add(refutation, &[literal.not(), *other])?;
@@ -63,7 +63,7 @@ fn add_implied(refutation: &mut Refutation, literal: Lit, implied: &[Lit]) -> Re
 
 // Adds that the start obeys the resets if a bad literal before the last one is true.
 fn add_starts(refutation: &mut Refutation, starts: &[Lit], goals: &[Lit]) -> Result<(), Memory>
-    ensures { Adds (flat_map (implies starts.now) (all_but_last goals.now)) refutation.old refutation.new }
+    ensures { Adds (flat_map (implies starts.now) (all_but_last goals.now)) refutation.old.clauses refutation.new.clauses }
 {
     let Some((_, earlier)) = goals.split_last() else {
         return Ok(());
@@ -76,7 +76,7 @@ fn add_starts(refutation: &mut Refutation, starts: &[Lit], goals: &[Lit]) -> Res
 
 // Adds that a bad literal is true, and that the start obeys the resets if it is one before the last.
 fn add_induction(refutation: &mut Refutation, starts: &[Lit], goals: &[Lit]) -> Result<(), Memory>
-    ensures { Adds (goals.now ∷ flat_map (implies starts.now) (all_but_last goals.now)) refutation.old refutation.new }
+    ensures { Adds (goals.now ∷ flat_map (implies starts.now) (all_but_last goals.now)) refutation.old.clauses refutation.new.clauses }
 {
     add(refutation, goals)?;
     add_starts(refutation, starts, goals)
@@ -89,7 +89,7 @@ fn add_goal(
     starts: &[Lit],
     goals: &[Lit],
 ) -> Result<(), Memory>
-    ensures { Adds (goal_clauses goal starts.now goals.now) refutation.old refutation.new }
+    ensures { Adds (goal_clauses goal starts.now goals.now) refutation.old.clauses refutation.new.clauses }
 {
     match goal {
         Goal::Within => add(refutation, goals),
@@ -101,7 +101,7 @@ fn add_goal(
 
 // A checker without clauses, for steps with hints or without.
 fn checker(alloc: Global, variables: u32, is_hinted: bool) -> Result<Refutation, Memory>
-    ensures { IfOk result (Follows []) }
+    ensures { IfOk result (λ refutation. Follows [] refutation.clauses) }
 {
     if is_hinted {
         Refutation::with_hints(alloc, variables)
@@ -113,7 +113,7 @@ fn checker(alloc: Global, variables: u32, is_hinted: bool) -> Result<Refutation,
 impl Formula {
     // Adds all clauses.
     fn add_all(&self, refutation: &mut Refutation) -> Result<(), Memory>
-        ensures { Adds self.now.clauses refutation.old refutation.new }
+        ensures { Adds self.now.clauses refutation.old.clauses refutation.new.clauses }
     {
         let gates = self.gates.as_slice();
         add(refutation, &[Lit::new(1)])?;
@@ -124,7 +124,7 @@ impl Formula {
     /// Returns a checker that has the formula, for steps with hints or without: what it refutes, no assignment
     /// satisfies.
     pub fn refutation(&self, alloc: Global, is_hinted: bool) -> Result<Refutation, Memory>
-        ensures { IfOk result (Follows self.now.clauses) }
+        ensures { IfOk result (λ refutation. Follows self.now.clauses refutation.clauses) }
     {
         let mut refutation = checker(alloc, self.variables(), is_hinted)?;
         self.add_all(&mut refutation)?;

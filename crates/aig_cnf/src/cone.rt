@@ -5,7 +5,7 @@ ghost use Rattle.aig_parts.specs.declared.gate.Gate.{Gate};
 ghost use Rattle.aig_cnf.specs.Formula.{cone, reads};
 ghost use Rattle.aig_cnf.specs.state.Cones.{AreMarks, IsCone, IsGateBelow};
 
-use aig_base::{Gate, Lit, Memory};
+use aig_base::{Circuit, Gate, Lit, Memory};
 use std::alloc::Global;
 
 // Marks the variable of a literal.
@@ -43,21 +43,19 @@ fn add_read(marks: &mut [bool], found: &mut Vec<Gate>, gate: Gate) -> Result<(),
     Ok(())
 }
 
-/// Of gates whose variables are up to the greatest one, those in the cone of some literals. It goes over the gates
-/// once, from the last one on.
+/// The gates of a circuit in the cone of some of its literals. It goes over the gates once, from the last one on.
 pub(crate) fn cone_of(
     alloc: Global,
-    max_var: u32,
-    gates: &[Gate],
+    circuit: &Circuit,
     literals: &[Lit],
 ) -> Result<Vec<Gate>, Memory>
-    requires gates { All (IsGateBelow (max_var + 1)) gates.now }
-    requires literals { All (λ l. variable l ≤ max_var) literals.now }
-    ensures { IfOk result (λ found. found.items ≡ cone literals.now gates.now) }
+    requires { All (λ l. variable l ≤ circuit.now.max_var) literals.now }
+    ensures { IfOk result (λ gates. gates.items ≡ cone literals.now circuit.now.gates) }
 {
-    let mut marks = marks_of(alloc, max_var, literals)?;
+    circuit.facts();
+    let mut marks = marks_of(alloc, circuit.max_var(), literals)?;
     let mut found = Vec::new(alloc);
-    for gate in gates.iter().rev() {
+    for gate in circuit.gates().iter().rev() {
         add_read(&mut marks, &mut found, *gate)?;
     }
     found.reverse();

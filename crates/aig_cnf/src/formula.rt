@@ -2,22 +2,21 @@
 ghost use Rattle.std.specs.Prelude.{◌≡◌, ◌+◌, ◌*◌, ◌^◌, ◌<◌, ◌≤◌, All, IfErr, IfOk, OnOk, length, slice_index};
 ghost use Rattle.aig_parts.specs.Limits.{frame_limit};
 ghost use Rattle.aig_parts.specs.Literal.{variable};
-ghost use Rattle.aig_base.specs.Levels.{AreLevels};
-ghost use Rattle.aig_base.specs.Part.{AreReadMarks};
+ghost use Rattle.aig_unroll.specs.Answers.{IsUnrolled};
 ghost use Rattle.aig_unroll.specs.Unrollable.{FitsLimits};
 ghost use Rattle.aig_cnf.specs.Answers.{HasFormula, RefusesFormula};
-ghost use Rattle.aig_cnf.specs.Formula.{IsFormulaOf, last_alone};
+ghost use Rattle.aig_cnf.specs.Formula.{IsFormulaOf, goals, last_alone};
 ghost use Rattle.aig_cnf.specs.Query.{depth, subject};
 ghost use Rattle.aig_cnf.specs.state.Kept.{kept_latches};
-ghost use Rattle.aig_cnf.specs.state.Made.{IsAnswered, IsReadPart};
+ghost use Rattle.aig_cnf.specs.state.Made.{IsAnswered};
 
 use crate::any_state::start_in_any_state;
 use crate::cone::cone_of;
 use crate::fault::CnfFault;
 use crate::query::{Goal, Query};
 use crate::resets::reset_literals;
-use aig_base::{Circuit, Gate, Latch, Levels, Lit, Memory, read_marks};
-use aig_unroll::{fits_limits, unrolled_part};
+use aig_base::{Circuit, Gate, Latch, Levels, Lit, Memory};
+use aig_unroll::{fits_limits, unrolled_circuit};
 use std::alloc::Global;
 use std::marker::Model;
 
@@ -125,66 +124,40 @@ fn check_query(circuit: &Circuit, query: Query) -> Result<u32, CnfFault>
     Ok(depth)
 }
 
-// What a formula has of a circuit unrolled for some frames.
-#[derive(Drop)]
-struct ReadPart {
-    // The greatest variable.
-    max_var: u32,
-    // The bad literal of each frame.
-    goals: Vec<Lit>,
-    // The gates that these depend on.
-    gates: Vec<Gate>,
-}
-
-// For each variable whether the property or a constraint reads it.
-fn marks_for(alloc: Global, circuit: &Circuit, property: u32) -> Result<Vec<bool>, Memory>
-    requires { property < length circuit.now.bad }
-    ensures { IfOk result (λ marks. AreReadMarks circuit.now (slice_index circuit.now.bad property) marks.items) }
-{
-    circuit.facts();
-    read_marks(alloc, circuit, circuit.bad()[property as usize])
-}
-
-// The part of a property, of which these marks say what it reads.
-fn part_of(
-    alloc: Global,
-    circuit: &Circuit,
-    levels: &Levels,
-    frames: u32,
-    property: u32,
-    marks: &[bool],
-) -> Result<ReadPart, Memory>
-    requires levels { AreLevels circuit.now levels.now }
-    requires fits { FitsLimits circuit.now frames }
-    requires property { property < length circuit.now.bad }
-    requires marks { AreReadMarks circuit.now (slice_index circuit.now.bad property) marks.now }
-    ensures { IfOk result (IsReadPart circuit.now frames property) }
-{
-    circuit.facts();
-    let part = unrolled_part(alloc, circuit, levels, frames, property, marks)?;
-    let gates = cone_of(alloc, part.max_var, part.gates.as_slice(), &part.goals)?;
-    Ok(ReadPart {
-        max_var: part.max_var,
-        goals: part.goals,
-        gates,
-    })
-}
-
-// What the formula of a property has of the circuit unrolled for these frames. Gates that the property does not read
-// are not made.
-fn read_part(
-    alloc: Global,
-    circuit: &Circuit,
-    frames: u32,
-    property: u32,
-) -> Result<ReadPart, Memory>
-    requires fits { FitsLimits circuit.now frames }
-    requires property { property < length circuit.now.bad }
-    ensures { IfOk result (IsReadPart circuit.now frames property) }
+// The circuit unrolled for so many frames. The levels end here: they take more memory than a small part.
+fn unrolled_for(alloc: Global, circuit: &Circuit, frames: u32) -> Result<Circuit, Memory>
+    requires { FitsLimits circuit.now frames }
+    ensures { IfOk result (IsUnrolled circuit.now frames) }
 {
     let levels = Levels::of(alloc, circuit)?;
-    let marks = marks_for(alloc, circuit, property)?;
-    part_of(alloc, circuit, &levels, frames, property, &marks)
+    unrolled_circuit(alloc, circuit, &levels, frames)
+}
+
+// A bad literal of a frame, where a circuit of `bads` bad literals was unrolled.
+fn goal_at(circuit: &Circuit, bads: u32, frame: u32, property: u32) -> Lit
+    requires { frame * bads + property < length circuit.now.bad }
+    ensures { result ≡ slice_index circuit.now.bad (frame * bads + property) }
+{
+    circuit.bad()[frame as usize * bads as usize + property as usize]
+}
+
+// That of each frame.
+fn goals_of(
+    alloc: Global,
+    circuit: &Circuit,
+    bads: u32,
+    frames: u32,
+    property: u32,
+) -> Result<Vec<Lit>, Memory>
+    requires property { property < bads }
+    requires bad { length circuit.now.bad ≡ frames * bads }
+    ensures { IfOk result (λ found. found.items ≡ goals circuit.now bads frames property) }
+{
+    let mut found = Vec::new(alloc);
+    for frame in 0..frames {
+        found.push(goal_at(circuit, bads, frame, property))?;
+    }
+    Ok(found)
 }
 
 // The last of the bad literals.
@@ -211,13 +184,17 @@ impl Formula {
         let latches = latches?;
         let first = first_latch(circuit, depth);
         let starts = reset_literals(alloc, &latches, first)?;
-        let part = read_part(alloc, circuit, depth, query.property)?;
+        let bads = circuit.bad().len() as u32;
+        let unrolled = unrolled_for(alloc, circuit, depth)?;
+        let goals = goals_of(alloc, &unrolled, bads, depth, query.property)?;
+        unrolled.facts();
+        let gates = cone_of(alloc, &unrolled, &goals)?;
         Ok(Formula {
             goal: query.goal,
             starts,
-            goals: part.goals,
-            variables: part.max_var + 1,
-            gates: part.gates,
+            goals,
+            variables: unrolled.max_var() + 1,
+            gates,
         })
     }
 

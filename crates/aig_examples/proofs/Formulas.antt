@@ -11,7 +11,7 @@ use Rattle.aig_base.specs.Renumbered.{renumbered, renumbered_literal, renumbered
 use Rattle.aig_base.specs.Value as value
 use Rattle.aig_values.specs.Trace.{IsTrace}
 use Rattle.aig_unroll.specs.FrameLiteral.{frame_literal, latch_literal}
-use Rattle.aig_unroll.specs.InputMap.{origin_lines, start_origins, symbol_name_at}
+use Rattle.aig_unroll.specs.InputMap.{origin_lines, read_origins, start_origins, symbol_name_at}
 use Rattle.aig_cnf.specs.Answers.{RefusesFormula}
 use Rattle.aig_cnf.specs.CnfText.{read_text}
 use Rattle.aig_cnf.specs.Dimacs.{clause_text, formula_text, literal_text, problem_line}
@@ -20,6 +20,7 @@ use Rattle.aig_cnf.specs.Formula.{all_but_last, cone, formula_of, gate_clauses, 
 use Rattle.aig_cnf.specs.Heading.{heading}
 use Rattle.aig_cnf.specs.Query.{depth, induction, step, subject, uninitialised_latch, within}
 use Rattle.aig_cnf.specs.ReadFormula.{marked, of_part}
+use Rattle.aig_cnf.specs.ReadMap.{ReportsReadInputs}
 use Rattle.aig_cnf.specs.declared.fault.CnfFault.TheVariants as faults
 use Rattle.aig_cnf.specs.declared.heading.Heading.TheVariants.{Alive, Runs}
 use Rattle.aig_cnf.specs.declared.query.Goal.TheVariants as goals
@@ -119,6 +120,12 @@ reads_second = marked (false ∷ false ∷ true ∷ [])
 formula_of_second : (formula_of (part second_bad 4 reads_second) [] (of_part (within 1 0))).variables ≡ 2
 unfolding picked
 formula_of_second = refl
+
+-- of the inputs 2 and 4, a bad literal that reads the second: `c i 2 0 1` names literal 2 of the unrolled part
+map_of_second : (origin_lines (codes "c ") second_bad 2 (read_origins reads_second second_bad 1) ≡ codes "c i 2 0 1 \n")
+    × ReportsReadInputs second_bad 4 reads_second goals.Within [] 1 (2 ∷ [])
+unfolding digits frame_literal origin_lines picked start_origins symbol_name_at
+map_of_second = (refl, refl)
 
 -- a property reads the second of two inputs: the row `1` of the part is the row `x1` of the circuit
 row_of_second : spread_rows reads_second second_bad ((One ∷ []) ∷ []) ≡ (X ∷ One ∷ []) ∷ []

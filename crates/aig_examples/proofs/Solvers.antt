@@ -1,10 +1,10 @@
 -- The examples of the definitions of `aig_sat` and `aig_certificate`.
-use Rattle.std.proofs.Common.{zero, ◌≡◌, ◌≢◌, inl, inr, ℕ, suc, ◌<◌, [], ◌∷◌, ◌++◌, Some, Contains, refl, lit<}
-use Rattle.std.proofs.Common.{arith}
+use Rattle.std.proofs.Common.{zero, ◌≡◌, ◌≢◌, inl, inr, ℕ, suc, ◌<◌, [], ◌∷◌, ◌++◌, Some, Contains, get_or, refl, lit<}
+use Rattle.std.proofs.Common.{List, arith}
 use Rattle.std.specs.Prelude.{Bool, true, false, Ok, Err, codes, nat_eq, slice_index_or}
 use Rattle.std.specs.Fmt.{digits}
 use Rattle.std.proofs.lemmas.List.Elements.{All-cons, All-nil}
-use Rattle.aig_parts.specs.Literal.{variable}
+use Rattle.aig_parts.specs.Literal.{negation, variable}
 use Rattle.aig_parts.specs.declared.raw.Raw.{Raw}
 use Rattle.aig_parts.specs.declared.symbols.Kind.TheVariants.{Input, Latch}
 use Rattle.aig_parts.specs.declared.ternary.Tern.TheVariants.{Zero, One, X}
@@ -14,6 +14,8 @@ use Rattle.aig_certificate.specs.Shared as shared
 use Rattle.aig_certificate.specs.Shared.{StandsFor}
 use Rattle.aig_sat.specs.checker.Clause.{is_true, meets, Satisfies}
 use Rattle.aig_sat.specs.checker.Consequence.{Follows, IsUnsatisfiable}
+use Rattle.aig_sat.specs.checker.Hints.{IsShown, Numbered, Shows}
+use Rattle.aig_sat.specs.checker.Knowledge.{IsIn}
 use Rattle.aig_sat.specs.checker.Standing.{standing}
 use Rattle.aig_sat.specs.declared.checker.propagator.Propagator.{Propagator}
 use Rattle.aig_sat.specs.model.ModelText as model
@@ -177,6 +179,31 @@ none_over_five l h = let lt = h 0 0 (omega arith) in omega (arith, lt)
 one_known : (p : Propagator) → p.clauses.words.items ≡ [] → p.known.truths.items ≡ false ∷ false ∷ true ∷ false ∷ []
     → standing false p ≡ (2 ∷ []) ∷ []
 one_known p none truths = rw none (rw truths refl)
+
+-- of the clauses `2 4` and `2 5`, numbered 1 and 2, the hints 0 and 2 show the clause `2`
+abbrev two_numbered : List Numbered
+two_numbered = record { number = 1; literals = 2 ∷ 4 ∷ [] } ∷ record { number = 2; literals = 2 ∷ 5 ∷ [] } ∷ []
+
+hints_show : IsShown two_numbered 3 100 (2 ∷ []) (0 ∷ 2 ∷ [])
+hints_show =
+    (named, (2 ∷ 4 ∷ [], omega arith, refl, inl (refl, refl), inr (1, omega arith, omega arith, but_one, second)))
+  where
+    named : (k : ℕ) → k < 1 → variable (get_or (2 ∷ []) k 0) < 3
+    named zero h = omega arith
+    named (suc k) h = absurd (omega (arith, h))
+
+    but_one : (j : ℕ) → j < 2 → j ≢ 1 → IsIn (3 ∷ []) (negation (get_or (2 ∷ 4 ∷ []) j 0))
+    but_one zero h ne = (0, omega arith, refl)
+    but_one (suc zero) h ne = absurd (ne refl)
+    but_one (suc (suc j)) h ne = absurd (omega (arith, h))
+
+    none_left : (j : ℕ) → j < 2 → j ≢ 2 → IsIn (4 ∷ 3 ∷ []) (negation (get_or (2 ∷ 5 ∷ []) j 0))
+    none_left zero h ne = (1, omega arith, refl)
+    none_left (suc zero) h ne = (0, omega arith, refl)
+    none_left (suc (suc j)) h ne = absurd (omega (arith, h))
+
+    second : Shows two_numbered 3 97 (4 ∷ 3 ∷ []) (2 ∷ [])
+    second = (2 ∷ 5 ∷ [], omega arith, refl, inr (inl (refl, refl)), inl none_left)
 
 -- a latch with the symbol `= 4` stands for literal 4
 abbrev certificate : Raw

@@ -1,6 +1,6 @@
 -- The examples of the definitions of `aig_values`.
 use Rattle.std.proofs.Common.{zero, inl, inr, List, subst, ◌≡◌, ℕ, suc, ◌+◌, ◌*◌, [], ◌∷◌, Some, slice_get, refl, arith}
-use Rattle.std.specs.Prelude.{None, codes, map, take}
+use Rattle.std.specs.Prelude.{None, codes, map}
 use Rattle.std.specs.Int.Bits.{bit_and}
 use Rattle.aig_parts.specs.Literal.{variable}
 use Rattle.aig_parts.specs.Ternary.{kleene_and}
@@ -23,7 +23,7 @@ use Rattle.aig_values.specs.TraceText.{fields_text, line_text}
 use Rattle.aig_values.specs.state.Frame.{HoldsAll}
 use Rattle.aig_values.specs.state.LiteralCodes.{by_literal}
 use Rattle.aig_values.specs.state.Padded.{IsPadded}
-use Rattle.aig_values.specs.state.Words.{bits_at, values_of}
+use Rattle.aig_values.specs.state.Words.{cell_in}
 use Rattle.aig_examples.proofs.TwoGates.{two_gates, row_11, first_in_11, second_in_11, eight_in_11, held_in_11}
 
 -- in the cells 0, 1, x literal 5 is x and literal 3 is 0; with a new cell they are 0, 1, x, x
@@ -186,8 +186,6 @@ cells_by_literal = refl
 padded_row : IsPadded 2 4 (Zero ∷ One ∷ X ∷ X ∷ [])
 padded_row = (omega arith, refl)
 
--- a word that ends in the bits 011100 begins with the cells 0, 1, x; a word has eight bits
-first_cells : map (λ high. take 3 (values_of (high * 64 + 28))) (0 ∷ 1 ∷ 2 ∷ 3 ∷ [])
-    ≡ (Zero ∷ One ∷ X ∷ []) ∷ (Zero ∷ One ∷ X ∷ []) ∷ (Zero ∷ One ∷ X ∷ []) ∷ (Zero ∷ One ∷ X ∷ []) ∷ []
-unfolding bits_at
+-- the planes 1 and 6 begin with the cells 1, 0, 0, x
+first_cells : map (cell_in (1 ∷ []) (6 ∷ [])) (0 ∷ 1 ∷ 2 ∷ 3 ∷ []) ≡ One ∷ Zero ∷ Zero ∷ X ∷ []
 first_cells = refl

@@ -56,7 +56,7 @@ module _ (raw : Raw) (sound : IsSound raw) (order : List ℕ) (canonical : IsCan
   role_bound t i latch (roles.latch p) lt le ins las below = let a = las p in omega arith
   role_bound t i latch (roles.gate q) lt le ins las below = omega arith
 
-  pub first_bound : (p : ℕ) (o : Option Latch) → slice_get raw.latches p ≡ o
+  first_bound : (p : ℕ) (o : Option Latch) → slice_get raw.latches p ≡ o
       → first_literal raw k p o ≤ 2 * input_count raw k + 1
   first_bound p None at = omega arith
   first_bound p (Some x) at = go (is_uninitialised x) refl

@@ -53,7 +53,7 @@ module _ (raw : Raw) (circuit : IsCircuit raw) (order : List ℕ) (canonical : I
   listed = all_listed raw circuit.formed circuit.sound order plan.numbers canonical is_plan.numbers
 
   -- each of its numbers is one of the renumbered circuit
-  pub numbers_within : All (λ n. n ≤ plan.inputs + plan.latches + plan.gates) plan.numbers
+  numbers_within : All (λ n. n ≤ plan.inputs + plan.latches + plan.gates) plan.numbers
   numbers_within v d below =
       omega (
         arith,
@@ -127,7 +127,7 @@ module _ (raw : Raw) (circuit : IsCircuit raw) (order : List ℕ) (canonical : I
               ∙ length-map raw.latches (λ (x : Latch). frame_literal raw order k t x.lit) ∙ sym is_plan.latches;
         }
 
-    pub same : (l : ℕ) → IsInTable plan.numbers l → literal_at plan frame l ≡ frame_literal raw order k t l
+    same : (l : ℕ) → IsInTable plan.numbers l → literal_at plan frame l ≡ frame_literal raw order k t l
     same = literal_same raw circuit.sound order canonical k t plan frame is_plan is_frame
 
     literals_same : (ls : List ℕ) → All (IsInTable plan.numbers) ls
@@ -150,7 +150,7 @@ module _ (raw : Raw) (circuit : IsCircuit raw) (order : List ℕ) (canonical : I
     variable_same : (n : ℕ) → table.variable_at plan frame.number n ≡ frame_gate_variable raw k t n
     variable_same n = rw (is_frame.number, is_plan.sources, is_plan.size) refl
 
-    pub gate_same : (g : Gate) → IsGateListed plan.numbers g
+    gate_same : (g : Gate) → IsGateListed plan.numbers g
         → table.plan_gate plan frame (numbered_gate plan.numbers g) ≡ frame_gate raw order k t g
     gate_same g (a, b, d) =
         let e0 = numbered_same plan frame g.lhs ∙ same g.lhs a in
@@ -168,7 +168,7 @@ module _ (raw : Raw) (circuit : IsCircuit raw) (order : List ℕ) (canonical : I
     link_same (suc c) lt = ap (λ n. 2 * table.variable_at plan frame.number (n + c)) is_plan.gates
         ∙ ap (λ n. 2 * n) (variable_same (length raw.gates + c))
 
-    pub chain_same : (c : ℕ) → c < chain_count raw
+    chain_same : (c : ℕ) → c < chain_count raw
         → table.plan_chain_gate plan frame raw.constraints c ≡ parts.chain_gate raw order k t c
     chain_same c lt =
         let on = guarded_by_chain raw c lt in
@@ -179,12 +179,12 @@ module _ (raw : Raw) (circuit : IsCircuit raw) (order : List ℕ) (canonical : I
         let e2 = link_same c lt in
         rw (e0, e1, e2) refl
 
-    pub guard_literal_same : (p : ℕ) → table.plan_guard_literal plan frame p ≡ parts.guard_literal raw k t p
+    guard_literal_same : (p : ℕ) → table.plan_guard_literal plan frame p ≡ parts.guard_literal raw k t p
     guard_literal_same p =
         ap₂ (λ (n m : ℕ). 2 * table.variable_at plan frame.number (n + m + p)) is_plan.gates is_plan.chain
         ∙ ap (λ n. 2 * n) (variable_same (length raw.gates + chain_count raw + p))
 
-    pub guard_same : (p : ℕ) → p < guard_count raw
+    guard_same : (p : ℕ) → p < guard_count raw
         → table.plan_guard_gate plan frame raw.bad p ≡ parts.guard_gate raw order k t p
     guard_same p lt =
         let on = guarded_by_guard raw p lt in

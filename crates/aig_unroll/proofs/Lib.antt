@@ -10,7 +10,6 @@ pub mod InputMapLines
 pub mod KeptLines
 pub mod NumberLemmas
 pub mod NumberedGates
-pub mod ReadFrames
 pub mod SymbolLemmas
 pub mod UnrolledCircuit
 pub mod UnrolledReady

@@ -3,6 +3,5 @@ pub mod FrameLiteral
 pub mod InputMap
 pub mod Unrollable
 pub mod Unrolled
-pub mod UnrolledPart
 pub mod UnrolledValues
 pub mod state

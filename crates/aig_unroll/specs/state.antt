@@ -2,4 +2,3 @@
 pub mod FrameTable
 pub mod MapLines
 pub mod Numbers
-pub mod ReadFrames

@@ -12,5 +12,4 @@ pub use symbol::write_symbol;
 pub use unrolling::laws::{law_of_frame_literals, law_of_guards, law_of_input_map};
 pub use unrolling::limits::fits_limits;
 pub use unrolling::plan::uninitialised;
-pub use unrolling::unroll;
-pub use unrolling::unrolled_part::{UnrolledPart, unrolled_part};
+pub use unrolling::{unroll, unrolled_circuit};

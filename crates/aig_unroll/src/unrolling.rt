@@ -16,7 +16,6 @@ mod numbers;
 mod parts;
 pub(crate) mod plan;
 mod sections;
-pub(crate) mod unrolled_part;
 
 use crate::fault::UnrollFault;
 use crate::unrolling::limits::{fits_limits, has_liveness};
@@ -70,9 +69,9 @@ fn unrolled_parts(
     })
 }
 
-// The circuit unrolled for this many frames, where that is within the limits. It leaves out justice and fairness, which
-// no other part depends on.
-fn unrolled_circuit(
+/// The circuit unrolled for this many frames, as `unroll` has it, where that is within the limits (`fits_limits`). It
+/// leaves out justice and fairness, which no other part depends on, and takes 0 frames too.
+pub fn unrolled_circuit(
     alloc: Global,
     circuit: &Circuit,
     levels: &Levels,

@@ -1,13 +1,10 @@
--- What stands in the way of a formula, and what it has of the unrolled circuit.
+-- What stands in the way of a formula.
 use Rattle.std.specs.Prelude.{◌≡◌, ℕ, ◌<◌, ◌≤◌, length, Result, Ok, Err}
 use Rattle.aig_parts.specs.declared.raw.Raw.{Raw}
 use Rattle.aig_cnf.specs.Query.{depth}
 use Rattle.aig_cnf.specs.declared.fault.CnfFault.{CnfFault}
 use Rattle.aig_cnf.specs.declared.fault.CnfFault.TheVariants as faults
 use Rattle.aig_cnf.specs.declared.query.Query.{Query}
-use Rattle.aig_cnf.specs.declared.formula.ReadPart.{ReadPart}
-use Rattle.aig_cnf.specs.Formula.{cone, goals}
-use Rattle.aig_unroll.specs.Answers.{IsUnrolled}
 use Rattle.aig_unroll.specs.Unrollable.{FitsLimits}
 
 -- a circuit that starts where the goal does can be unrolled for k frames, or the fault is the first that applies
@@ -19,11 +16,3 @@ IsAnswered raw query (Err faults.Property) = (0 < query.frames) × (length raw.b
 IsAnswered raw query (Err faults.Limit) =
     (0 < query.frames) × (query.property < length raw.bad) × (FitsLimits raw (depth query) → ⊥)
 IsAnswered raw query (Err faults.Memory) = ⊥
-
--- its greatest variable, bad literal p of each of k frames, and their cone
-pub record IsReadPart (raw : Raw) (k p : ℕ) (part : ReadPart) : Type 0 where
-  pub new : Raw
-  pub unrolled : IsUnrolled raw k new
-  pub max_var : part.max_var ≡ new.max_var
-  pub goals_are : part.goals.items ≡ goals new (length raw.bad) k p
-  pub gates_are : part.gates.items ≡ cone part.goals.items new.gates

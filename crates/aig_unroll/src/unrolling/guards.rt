@@ -1,5 +1,5 @@
 //! The gates that guard the bad literals of a frame.
-ghost use Rattle.std.specs.Prelude.{◌≡◌, ◌+◌, ◌*◌, [], ◌∷◌, ◌++◌, ◌≤◌, ◌<◌, OnOk, IfOk, All, length, map};
+ghost use Rattle.std.specs.Prelude.{◌≡◌, ◌+◌, ◌*◌, ◌++◌, ◌≤◌, ◌<◌, OnOk, IfOk, All, length, map};
 ghost use Rattle.std.specs.List.{range_with_len};
 ghost use Rattle.aig_base.specs.RenumberingTable.{IsInTable};
 ghost use Rattle.aig_unroll.specs.state.FrameTable as table;
@@ -73,29 +73,6 @@ pub(crate) fn push_guards(
         to.push(ready_gate(guard, literal_at(plan, frame, *literal), chain))?;
     }
     Ok(())
-}
-
-/// Adds the guard gate of the bad literal at a position, and returns its literal.
-pub(crate) fn push_guard(
-    to: &mut List<Gate>,
-    plan: &Plan,
-    frame: &Frame,
-    bad: &[Lit],
-    position: u32,
-) -> Result<Lit, Memory>
-    requires within { IsWithin plan.now frame.now }
-    requires chain { 0 < plan.now.chain }
-    requires size { plan.now.gates + plan.now.chain + length bad.now ≤ plan.now.size }
-    requires position { position < length bad.now }
-    requires listed { All (IsInTable plan.now.numbers) bad.now }
-    ensures gate { OnOk result (to.new ≡ to.old ++ table.plan_guard_gate plan.now frame.now bad.now position ∷ []) }
-    ensures literal { IfOk result (λ guard. guard ≡ table.plan_guard_literal plan.now frame.now position) }
-{
-    let chain = gate_literal(plan, frame, plan.gates + plan.chain - 1);
-    let guard = gate_literal(plan, frame, plan.gates + plan.chain + position);
-    let literal = literal_at(plan, frame, bad[position as usize]);
-    to.push(ready_gate(guard, literal, chain))?;
-    Ok(guard)
 }
 
 /// Adds the literals of this many guard gates.

@@ -94,8 +94,8 @@ fn push_frame(
     }
 }
 
-/// The gates of some variables, in their order, with the literals of the renumbered circuit.
-pub(crate) fn numbered_gates(
+// The gates in the order, with the literals of the renumbered circuit.
+fn numbered_gates(
     alloc: Global,
     circuit: &Circuit,
     order: &[u32],
@@ -114,13 +114,8 @@ pub(crate) fn numbered_gates(
     Ok(gates)
 }
 
-/// The frame after this one.
-pub(crate) fn next_frame(
-    alloc: Global,
-    plan: &Plan,
-    frame: &Frame,
-    circuit: &Circuit,
-) -> Result<Frame, Memory>
+// The frame after this one.
+fn next_frame(alloc: Global, plan: &Plan, frame: &Frame, circuit: &Circuit) -> Result<Frame, Memory>
     requires within { IsWithin plan.now frame.now }
     requires number { frame.now.number < frame_limit }
     requires listed { HasAllEntries circuit.now plan.now.numbers }

@@ -5,4 +5,4 @@ use Rattle.aig_cnf.proofs.FormulaText.{denied}
 use Rattle.aig_cnf.proofs.checked.add_first_reached.Given as goal
 
 abbrev pub invariant-loop-literal : goal.invariant-loop-literal
-invariant-loop-literal l = Adds (flat_map denied (take l.literal-index l.earlier)) l.initial.refutation l.refutation
+invariant-loop-literal l = Adds (flat_map denied (take l.literal-index l.earlier)) l.initial.refutation.clauses l.refutation.clauses

@@ -5,4 +5,4 @@ use Rattle.aig_cnf.specs.state.Added.{Adds}
 use Rattle.aig_cnf.proofs.checked.add_gates.Given as goal
 
 abbrev pub invariant-loop-gate : goal.invariant-loop-gate
-invariant-loop-gate l = Adds (flat_map gate_clauses (take l.gate-index l.gates)) l.initial.refutation l.refutation
+invariant-loop-gate l = Adds (flat_map gate_clauses (take l.gate-index l.gates)) l.initial.refutation.clauses l.refutation.clauses

@@ -6,4 +6,4 @@ use Rattle.aig_cnf.proofs.checked.add_implied.Given as goal
 
 abbrev pub invariant-loop-other : goal.invariant-loop-other
 invariant-loop-other l =
-    Adds (flat_map (implied l.literal) (take l.other-index l.implied)) l.initial.refutation l.refutation
+    Adds (flat_map (implied l.literal) (take l.other-index l.implied)) l.initial.refutation.clauses l.refutation.clauses

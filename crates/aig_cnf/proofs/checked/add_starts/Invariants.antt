@@ -6,4 +6,4 @@ use Rattle.aig_cnf.proofs.checked.add_starts.Given as goal
 
 abbrev pub invariant-loop-bad : goal.invariant-loop-bad
 invariant-loop-bad l =
-    Adds (flat_map (implies l.starts) (take l.bad-index l.earlier)) l.initial.refutation l.refutation
+    Adds (flat_map (implies l.starts) (take l.bad-index l.earlier)) l.initial.refutation.clauses l.refutation.clauses
