@@ -4,7 +4,9 @@ pub mod FieldLemmas
 pub mod GateOrders
 pub mod GatherLemmas
 pub mod LiteralLemmas
+pub mod MemoryBits
 pub mod PaddedRows
+pub mod PlaneGates
 pub mod PropertyLines
 pub mod SeenRows
 pub mod ShortLines

@@ -1,16 +1,15 @@
 -- Rows of cells by literal.
-use Rattle.std.proofs.Common.{◌≡◌, inl, inr, ℕ, zero, suc, ◌+◌, ◌-◌, ◌*◌, ◌/◌, ◌%◌, ◌^◌, ◌<◌, ◌≤◌, List, [], ◌∷◌, ◌++◌}
-use Rattle.std.proofs.Common.{length, map, All, fold, take, drop, get_or, set, refl, sym, ap, ap₂, ◌∙◌, subst, arith}
-use Rattle.std.proofs.Math.Nat.{div-one}
-use Rattle.std.proofs.lemmas.Nat.{and_mask}
+use Rattle.std.proofs.Common.{◌≡◌, inl, inr, ℕ, zero, suc, ◌+◌, ◌-◌, ◌*◌, ◌/◌, ◌%◌, ◌^◌, ◌<◌, ◌≤◌, List, [], ◌∷◌}
+use Rattle.std.proofs.Common.{length, map, fold, take, get_or, set, refl, sym, ap, ap₂, ◌∙◌, subst, arith}
 use Rattle.std.specs.Prelude.{nat_eq, if◌then◌else◌}
-use Rattle.std.proofs.lemmas.Bool.{cases_lt, cases_eq}
-use Rattle.std.proofs.lemmas.Grind.{get_or_default_zero}
-use Rattle.std.proofs.lemmas.List.{append_assoc, append-nil, take_more, take_more_set, take_all, get_or-take}
-use Rattle.std.proofs.lemmas.List.{get_or-drop, get_or_default, get_or-set_same, get_or-set_other, get_or-map}
-use Rattle.std.proofs.lemmas.List.{ext_get_or}
+use Rattle.std.proofs.lemmas.Bool.{cases_eq}
+use Rattle.std.proofs.Math.Nat.{pow-le-pow_right}
+use Rattle.std.proofs.lemmas.Nat.{pow-add}
+use Rattle.std.proofs.lemmas.Nat.Bits.{bit_at_cat_low, bit_at_cat_high, bit_at_lowest, bit_at-suc}
+use Rattle.std.proofs.lemmas.List.{get_or_default, get_or-set_same, get_or-set_other, ext_get_or}
+use Rattle.std.specs.Int.{bit_at, rotate_right, w64}
 use Rattle.std.specs.List.{range_with_len}
-use Rattle.std.proofs.lemmas.List.FromFn.{length-map-range_with_len, get_or-map-range_with_len}
+use Rattle.std.proofs.lemmas.List.FromFn.{get_or-map-range_with_len}
 use Rattle.aig_parts.specs.declared.gate.Gate.{Gate}
 use Rattle.aig_parts.specs.Literal.{variable}
 use Rattle.aig_parts.specs.declared.ternary.Tern.{Tern}
@@ -18,11 +17,12 @@ use Rattle.aig_parts.specs.declared.ternary.Tern.TheVariants.{X}
 use Rattle.aig_parts.specs.Ternary.{kleene_and, kleene_not}
 use Rattle.aig_values.specs.Cells.{literal_value, gate_value, with_gate_value}
 use Rattle.aig_values.specs.Codes.{bits_of, code_value, IsCode}
-use Rattle.aig_values.specs.state.LiteralCodes.{by_literal}
-use Rattle.aig_values.specs.state.Words.{bits_at, spelled, value_in, values_of, IsWhole}
+use Rattle.aig_values.specs.state.LiteralCodes.{by_literal, signed_value}
+use Rattle.aig_values.specs.state.Words.{ones, zeros, bit_in, cell_in, spelled, value_of, value_in, group_value, one_of, zero_of, AreWhole}
 use Rattle.aig_values.proofs.SweepLemmas.{row_more}
-use Rattle.aig_values.proofs.WordBits.{bits_small, byte_cells, cell_before, cells_after, is_code, value_back}
-use Rattle.aig_values.proofs.WordLemmas.{length-spelled, spelled_at}
+use Rattle.aig_values.proofs.WordBits.{value_back, bits_apart, one_small, zero_small, code_back, is_code_of, rotated_bit}
+use Rattle.aig_values.proofs.MemoryBits.{bit_of, one_there, zero_there}
+use Rattle.aig_values.proofs.WordLemmas.{spelled_at, length-spelled, spelled_row, are_whole}
 
 pub length-by_literal : (row : List Tern) → length (by_literal row) ≡ 2 * length row
 unfolding by_literal
@@ -70,109 +70,6 @@ set_codes (y ∷ row) (suc v) l m x e e' =
     let second : m ≡ suc (suc (2 * v + 1)) = omega arith in
     rw (first, second) (ap (λ (codes : List Tern). y ∷ kleene_not y ∷ codes) (set_codes row v (2 * v) (2 * v + 1) x refl refl))
 
-by_literal-append : (xs ys : List Tern) → by_literal (xs ++ ys) ≡ by_literal xs ++ by_literal ys
-unfolding by_literal
-by_literal-append [] ys = refl
-by_literal-append (x ∷ xs) ys = ap (λ (codes : List Tern). x ∷ kleene_not x ∷ codes) (by_literal-append xs ys)
-
-spelled-append : (xs ys : List ℕ) → spelled (xs ++ ys) ≡ spelled xs ++ spelled ys
-unfolding spelled
-spelled-append [] ys = refl
-spelled-append (x ∷ xs) ys =
-    ap (λ (row : List Tern). values_of x ++ row) (spelled-append xs ys)
-    ∙ sym (append_assoc (values_of x) (spelled xs) (spelled ys))
-
-spelled-one : (word : ℕ) → spelled (word ∷ []) ≡ values_of word
-unfolding spelled
-spelled-one word = append-nil (values_of word)
-
--- the codes of one word more
-pub codes_more : (words : List ℕ) (i : ℕ) → i < length words
-    → by_literal (spelled (take (i + 1) words)) ≡ by_literal (spelled (take i words)) ++ by_literal (values_of (get_or words i 0))
-codes_more words i lt =
-    let word : ℕ = get_or words i 0 in
-    ap (λ (ws : List ℕ). by_literal (spelled ws)) (take_more words i 0 lt)
-    ∙ ap by_literal (spelled-append (take i words) (word ∷ []) ∙ ap (λ (row : List Tern). spelled (take i words) ++ row) (spelled-one word))
-    ∙ by_literal-append (spelled (take i words)) (values_of word)
-
-pub length_word_codes : (word : ℕ) → length (by_literal (values_of word)) ≡ 8
-length_word_codes word =
-    length-by_literal (values_of word) ∙ ap (λ (k : ℕ). 2 * k) (length-map-range_with_len (value_in word) 0 4)
-
--- literals with the same sign, of cells with the same value
-same_literal : (row row' : List Tern) (l m : ℕ) → l % 2 ≡ m % 2 → get_or row (l / 2) X ≡ get_or row' (m / 2) X
-    → get_or (by_literal row) l X ≡ get_or (by_literal row') m X
-same_literal row row' l m sign cell =
-    literal_code row l ∙ ap₂ (λ (r : ℕ) (x : Tern). if nat_eq r 0 then x else kleene_not x) sign cell
-    ∙ sym (literal_code row' m)
-
--- a cell of a word
-value_at : (word place : ℕ) → place < 4 → get_or (values_of word) place X ≡ value_in word place
-value_at word place lt = get_or-map-range_with_len (value_in word) 0 4 place place X lt (omega arith)
-
--- the code of a cell of a word
-pub cell_code : (word place i : ℕ) → place < 4 → i ≡ 2 * place → get_or (by_literal (values_of word)) i X ≡ value_in word place
-cell_code word place i lt is = even_code (values_of word) place i is ∙ value_at word place lt
-
--- the code of a literal, by the word of its variable
-pub literal_of_word : (words : List ℕ) (l word : ℕ) (x : Tern) → l < 8 * length words → word ≡ get_or words (l / 8) word
-    → x ≡ get_or (by_literal (values_of word)) (l % 8) X → x ≡ literal_value (spelled words) l
-literal_of_word words l word x lt is x_is =
-    let at : l / 2 / 4 ≡ l / 8 = omega arith in
-    let place : l / 2 % 4 ≡ l % 8 / 2 = omega arith in
-    let cell : get_or (spelled words) (l / 2) X ≡ get_or (values_of word) (l % 8 / 2) X =
-    spelled_at words (l / 2) word (omega arith) ∙ ap (λ (i : ℕ). value_in (get_or words i word) (l / 2 % 4)) at
-    ∙ ap (λ (w : ℕ). value_in w (l / 2 % 4)) (sym is) ∙ ap (value_in word) place
-    ∙ sym (value_at word (l % 8 / 2) (omega arith)) in
-    x_is ∙ sym (same_literal (spelled words) (values_of word) l (l % 8) (omega arith) cell) ∙ literal_code (spelled words) l
-
--- a list that is filled up to what it is to be
-pub one_more : (xs ys : List Tern) (n m : ℕ) (y : Tern) → n < length xs → length xs ≡ length ys → m ≡ n + 1
-    → take n xs ≡ take n ys → y ≡ get_or ys n X → take m (set xs n y) ≡ take m ys
-one_more xs ys n m y lt size next e is =
-    rw next (take_more_set xs n y lt ∙ ap (λ (zs : List Tern). zs ++ y ∷ []) e ∙ ap (λ (z : Tern). take n ys ++ z ∷ []) is
-    ∙ sym (take_more ys n X (omega arith)))
-
--- the cells of all words, and a table of their codes
-abbrev cell_of : ℕ → Tern
-cell_of v = code_value (v / 4 / 2 ^ (2 * (v % 4)) % 4)
-
-unfoldable pub codes_of_words : List ℕ
-codes_of_words = map bits_of (by_literal (map cell_of (range_with_len 0 1024)))
-
-module _ (table : List ℕ) (is : table ≡ codes_of_words) where
-  abbrev cells : List Tern
-  cells = map cell_of (range_with_len 0 1024)
-
-  table_at : (i : ℕ) → i < 2048 → get_or table i 0 ≡ bits_of (get_or (by_literal cells) i X)
-  unfolding codes_of_words
-  table_at i lt =
-      let n : length (by_literal cells) ≡ 2048 =
-      length-by_literal cells ∙ ap (λ (k : ℕ). 2 * k) (length-map-range_with_len cell_of 0 1024) in
-      ap (λ (xs : List ℕ). get_or xs i 0) is ∙ get_or-map bits_of (by_literal cells) i X 0 (omega arith)
-
-  pub table_code : (i : ℕ) → i < 2048 → IsCode (get_or table i 0)
-  table_code i lt = subst IsCode (sym (table_at i lt)) (is_code (get_or (by_literal cells) i X))
-
-  module _ (word place : ℕ) (small : word < 256) (lt : place < 8) where
-    cell_is : get_or cells ((8 * word + place) / 2) X ≡ get_or (values_of word) (place / 2) X
-    unfolding bits_at
-    cell_is =
-        let v : ℕ = (8 * word + place) / 2 in
-        let word_is : v / 4 ≡ word = omega arith in
-        let place_is : v % 4 ≡ place / 2 = omega arith in
-        get_or-map-range_with_len cell_of 0 1024 v v X (omega arith) (omega arith)
-        ∙ ap₂ (λ (w p : ℕ). code_value (w / 2 ^ (2 * p) % 4)) word_is place_is
-        ∙ ap code_value (sym (and_mask (word / 2 ^ (2 * (place / 2))) 2))
-        ∙ sym (value_at word (place / 2) (omega arith))
-
-    pub code_in_table : (x : Tern) → x ≡ code_value (get_or table (8 * word + place) 0)
-        → x ≡ get_or (by_literal (values_of word)) place X
-    code_in_table x x_is =
-        x_is ∙ ap code_value (table_at (8 * word + place) (omega arith))
-        ∙ value_back (get_or (by_literal cells) (8 * word + place) X)
-        ∙ same_literal cells (values_of word) (8 * word + place) place (omega arith) cell_is
-
 -- the code that is read of a literal
 pub code_read : (codes row : List Tern) (l : ℕ) (x : Tern) → codes ≡ by_literal row → l < length codes → x ≡ get_or codes l x
     → x ≡ literal_value row l
@@ -192,96 +89,199 @@ codes_after row codes gates i g v x y z lt is e lt0 lt1 y_is z_is v_is x_is =
     ∙ set_codes now v (2 * v) (2 * v + 1) x refl refl
     ∙ ap by_literal (ap₂ (set now) v_is value ∙ row_more row gates i g lt is)
 
--- all codes of a word
-pub all_codes : (codes : List Tern) (word place : ℕ) → length codes ≡ 8 → 8 ≤ place
-    → take place codes ≡ take place (by_literal (values_of word)) → codes ≡ by_literal (values_of word)
-all_codes codes word place size le e =
-    let n : length (by_literal (values_of word)) ≡ 8 = length_word_codes word in
-    sym (take_all place codes (omega arith)) ∙ e ∙ take_all place (by_literal (values_of word)) (omega arith)
+-- the values of literals of cells with the same value
+pub signed_same : (x y : Tern) (l m : ℕ) → x ≡ y → l % 2 ≡ m % 2 → signed_value x l ≡ signed_value y m
+signed_same x y l m e sign = ap₂ (λ (z : Tern) (r : ℕ). if nat_eq r 0 then z else kleene_not z) e sign
 
--- the bits of one cell more, as words are put together from their last cell on
-pub packed_cell : (codes : List Tern) (bits place cells : ℕ) (x : Tern) → place < cells → 2 * cells ≤ length codes
-    → x ≡ get_or codes (2 * (cells - 1 - place)) x
-    → ((q : ℕ) → q < place → bits_at bits q ≡ bits_of (get_or codes (2 * (cells - place + q)) X))
-    → (q : ℕ) → q < place + 1 → bits_at (4 * bits + bits_of x) q ≡ bits_of (get_or codes (2 * (cells - (place + 1) + q)) X)
-packed_cell codes bits place cells x lt size is before zero last =
-    let i : 2 * (cells - 1 - place) ≡ 2 * (cells - (place + 1) + 0) = omega arith in
-    cell_before bits (bits_of x) (bits_small x)
-    ∙ ap bits_of (is ∙ get_or_default codes (2 * (cells - 1 - place)) x X (omega arith) ∙ ap (λ (j : ℕ). get_or codes j X) i)
-packed_cell codes bits place cells x lt size is before (suc q) last =
-    let i : 2 * (cells - place + q) ≡ 2 * (cells - (place + 1) + suc q) = omega arith in
-    cells_after bits (bits_of x) (bits_small x) q ∙ before q (omega arith) ∙ ap (λ (j : ℕ). bits_of (get_or codes j X)) i
+pub signed_unknown : (l : ℕ) → signed_value X l ≡ X
+signed_unknown l = elim (cases_eq (l % 2) 0) [
+  | inl e ↦ rw e refl
+  | inr ne ↦
+      let one : l % 2 ≡ 1 = omega arith in
+      rw one refl
+]
 
--- the cells of the words that were packed so far are those of the codes
-pub record ArePacked (words : List ℕ) (codes : List Tern) (n : ℕ) : Type 0 where
-  pub whole : (k : ℕ) → k < n → IsWhole (get_or words k 0)
-  pub cells : (k place : ℕ) → k < n → place < 4 → value_in (get_or words k 0) place ≡ get_or codes (8 * k + 2 * place) X
+-- a table of the codes of four cells, by four bits of ones and four of zeros
+unfoldable pub codes_of_groups : List ℕ
+codes_of_groups = map (λ (n : ℕ). bits_of (signed_value (group_value (n / 8) (n % 8 / 2)) (n % 8))) (range_with_len 0 2048)
 
--- some words more, which have the bits of the codes after those
-module _ (words new : List ℕ) (codes part : List Tern) (n count bits : ℕ) (h : ArePacked words codes n)
-    (there : (k : ℕ) → k < count → get_or new (n + k) 0 ≡ bits / 2 ^ (8 * k) % 256)
-    (before : (k : ℕ) → k < n → get_or new k 0 ≡ get_or words k 0)
-    (is : part ≡ take (8 * n + 8 * count - 8 * n) (drop (8 * n) codes)) (size : length part ≡ 8 * count)
-    (are : (q : ℕ) → q < length part / 2 → bits_at bits q ≡ bits_of (get_or part (2 * q) X)) where
-  bits_are : (k place : ℕ) → k < count → place < 4 → bits_at (get_or new (n + k) 0) place ≡ bits_of (get_or part (2 * (4 * k + place)) X)
-  bits_are k place lt small =
-      ap (λ (w : ℕ). bits_at w place) (there k lt) ∙ byte_cells bits k place small ∙ are (4 * k + place) (omega arith)
+module _ (table : List ℕ) (group place i : ℕ) (is : table ≡ codes_of_groups) (small : group < 256) (lt : place < 8)
+    (at : i ≡ 8 * group + place) where
+  group_bits : get_or table i 0 ≡ bits_of (signed_value (group_value group (place / 2)) place)
+  unfolding codes_of_groups
+  group_bits =
+      let g : i / 8 ≡ group = omega arith in
+      let p : i % 8 ≡ place = omega arith in
+      ap (λ (xs : List ℕ). get_or xs i 0) is
+      ∙ get_or-map-range_with_len (λ (n : ℕ). bits_of (signed_value (group_value (n / 8) (n % 8 / 2)) (n % 8))) 0 2048 i i 0
+      (omega arith) (omega arith)
+      ∙ ap₂ (λ (a b : ℕ). bits_of (signed_value (group_value a (b / 2)) b)) g p
 
-  code_is : (k place : ℕ) → k < count → place < 4
-      → get_or part (2 * (4 * k + place)) X ≡ get_or codes (8 * (n + k) + 2 * place) X
-  code_is k place lt small =
-      let i : 8 * n + 2 * (4 * k + place) ≡ 8 * (n + k) + 2 * place = omega arith in
-      ap (λ (xs : List Tern). get_or xs (2 * (4 * k + place)) X) is
-      ∙ get_or-take (8 * n + 8 * count - 8 * n) (drop (8 * n) codes) (2 * (4 * k + place)) X (omega arith)
-      ∙ get_or-drop (8 * n) codes (2 * (4 * k + place)) X ∙ ap (λ (j : ℕ). get_or codes j X) i
+  pub group_is_code : IsCode (get_or table i 0)
+  group_is_code = subst IsCode (sym group_bits) (is_code_of (signed_value (group_value group (place / 2)) place))
 
-  whole_there : (k : ℕ) → k < count → IsWhole (get_or new (n + k) 0)
-  whole_there k lt place small = subst IsCode (sym (bits_are k place lt small)) (is_code (get_or part (2 * (4 * k + place)) X))
+  pub group_code : code_value (get_or table i 0) ≡ signed_value (group_value group (place / 2)) place
+  group_code = ap code_value group_bits ∙ code_back (signed_value (group_value group (place / 2)) place)
 
-  cell_there : (k place : ℕ) → k < count → place < 4
-      → value_in (get_or new (n + k) 0) place ≡ get_or codes (8 * (n + k) + 2 * place) X
-  cell_there k place lt small =
-      ap code_value (bits_are k place lt small) ∙ value_back (get_or part (2 * (4 * k + place)) X) ∙ code_is k place lt small
+-- the codes of a row
+pub all_codes : (words : List ℕ) (codes : List Tern) → length codes ≡ 64 * length words
+    → ((l : ℕ) → l < 64 * length words → get_or codes l X ≡ literal_value (spelled words) l) → codes ≡ by_literal (spelled words)
+all_codes words codes size each =
+    ext_get_or X codes (by_literal (spelled words))
+    (omega (arith, size, length-by_literal (spelled words), length-spelled words)) (λ l lt.
+    each l (omega arith) ∙ sym (literal_code (spelled words) l))
 
-  pub packed_more : ArePacked new codes (n + count)
+-- the literals of the cells of a word
+pub word_literal : (words : List ℕ) (place bits k l : ℕ) → place < length words → k < 64 → l ≡ 64 * place + k
+    → ((j : ℕ) → 32 * place % 32 + j < 32 → bit_at bits j ≡ bit_in (ones words) (32 * place + j))
+    → ((j : ℕ) → 32 * place % 32 + j < 32 → bit_at bits (32 + j) ≡ bit_in (zeros words) (32 * place + j))
+    → signed_value (value_in bits (k / 2)) k ≡ literal_value (spelled words) l
+word_literal words place bits k l lt small is first second =
+    let near : 32 * place % 32 + k / 2 < 32 = omega arith in
+    let v : 32 * place + k / 2 ≡ l / 2 = omega arith in
+    signed_same (value_in bits (k / 2)) (get_or (spelled words) (l / 2) X) k l
+    (ap₂ value_of (first (k / 2) near) (second (k / 2) near) ∙ ap (cell_in (ones words) (zeros words)) v
+    ∙ sym (spelled_at words (l / 2) (omega arith))) (omega arith)
+
+-- bits of some cells that were put together from the last one on
+pub record ArePacked (codes : List Tern) (from place word : ℕ) : Type 0 where
+  pub first : ℕ
+  pub second : ℕ
+  pub is : word ≡ second * 2 ^ 32 + first
+  pub first_fits : first < 2 ^ place
+  pub second_fits : second < 2 ^ place
+  pub of_one : (k : ℕ) → k < place → bit_at first k ≡ one_of (get_or codes (from + 2 * (32 - place + k)) X)
+  pub of_zero : (k : ℕ) → k < place → bit_at second k ≡ zero_of (get_or codes (from + 2 * (32 - place + k)) X)
+
+-- a bit more before the others
+module _ (f : Tern → ℕ) (small : (x : Tern) → f x < 2) (codes : List Tern) (from place bits : ℕ) (x : Tern) (lt : place < 32)
+    (room : from + 64 ≤ length codes) (is : x ≡ get_or codes (from + 2 * (31 - place)) x)
+    (before : (k : ℕ) → k < place → bit_at bits k ≡ f (get_or codes (from + 2 * (32 - place + k)) X)) where
+  pub bit_before : (k : ℕ) → k < place + 1
+      → bit_at (2 * bits + f x) k ≡ f (get_or codes (from + 2 * (32 - (place + 1) + k)) X)
+  bit_before zero below =
+      let i : from + 2 * (31 - place) ≡ from + 2 * (32 - (place + 1) + 0) = omega arith in
+      let low : (2 * bits + f x) % 2 ≡ f x = omega (arith, small x) in
+      bit_at_lowest (2 * bits + f x) ∙ low
+      ∙ ap f (is ∙ get_or_default codes (from + 2 * (31 - place)) x X (omega arith) ∙ ap (λ (j : ℕ). get_or codes j X) i)
+  bit_before (suc k) below =
+      let i : from + 2 * (32 - place + k) ≡ from + 2 * (32 - (place + 1) + suc k) = omega arith in
+      let half : (2 * bits + f x) / 2 ≡ bits = omega (arith, small x) in
+      bit_at-suc (2 * bits + f x) k ∙ ap (λ (n : ℕ). bit_at n k) half ∙ before k (omega arith)
+      ∙ ap (λ (j : ℕ). f (get_or codes j X)) i
+
+twice : (k : ℕ) → 2 ^ (k + 1) ≡ 2 * 2 ^ k
+twice k = pow-add 2 k 1 ∙ omega arith
+
+pub none_packed : (codes : List Tern) (from : ℕ) → ArePacked codes from 0 0
+none_packed codes from = record {
+  first = 0;
+  second = 0;
+  is = refl;
+  first_fits = omega arith;
+  second_fits = omega arith;
+  of_one = λ k lt. absurd (omega arith);
+  of_zero = λ k lt. absurd (omega arith);
+}
+
+pub twice_fits : (codes : List Tern) (from place word : ℕ) → place < 32 → ArePacked codes from place word
+    → 2 * word + 4294967297 < 18446744073709551616
+twice_fits codes from place word lt h =
+    let most : 2 ^ place ≤ 2147483648 = pow-le-pow_right {n = 2} (omega arith) {i = place} {j = 31} (omega arith) in
+    let first : ℕ = h.first in
+    let second : ℕ = h.second in
+    let word_is : word ≡ second * 4294967296 + first = h.is in
+    let first_fits : first < 2147483648 = omega (arith, h.first_fits) in
+    let second_fits : second < 2147483648 = omega (arith, h.second_fits) in
+    omega arith
+
+module _ (codes : List Tern) (from place word : ℕ) (x : Tern) (lt : place < 32) (room : from + 64 ≤ length codes)
+    (is : x ≡ get_or codes (from + 2 * (31 - place)) x) (h : ArePacked codes from place word) (bits : ℕ)
+    (bits_is : bits ≡ zero_of x * 2 ^ 32 + one_of x) where
+  pub packed_fits : 2 * word + bits < 18446744073709551616
+  packed_fits = omega (arith, bits_is, one_small x, zero_small x, twice_fits codes from place word lt h)
+
+  pub packed_more : ArePacked codes from (place + 1) (2 * word + bits)
   packed_more = record {
-    whole = λ k below. elim (cases_lt k n) [
-      | inl lt ↦ subst (λ (w : ℕ). IsWhole w) (sym (before k lt)) (h.whole k lt)
-      | inr le ↦
-          let back : n + (k - n) ≡ k = omega arith in
-          subst (λ (i : ℕ). IsWhole (get_or new i 0)) back (whole_there (k - n) (omega arith))
-    ];
-    cells = λ k place below small. elim (cases_lt k n) [
-      | inl lt ↦ ap (λ (w : ℕ). value_in w place) (before k lt) ∙ h.cells k place lt small
-      | inr le ↦
-          let back : n + (k - n) ≡ k = omega arith in
-          subst (λ (i : ℕ). value_in (get_or new i 0) place ≡ get_or codes (8 * i + 2 * place) X) back
-          (cell_there (k - n) place (omega arith) small)
-    ];
+    first = 2 * h.first + one_of x;
+    second = 2 * h.second + zero_of x;
+    is = omega (arith, h.is, bits_is);
+    first_fits = omega (arith, h.first_fits, one_small x, twice place);
+    second_fits = omega (arith, h.second_fits, zero_small x, twice place);
+    of_one = bit_before one_of one_small codes from place h.first x lt room is h.of_one;
+    of_zero = bit_before zero_of zero_small codes from place h.second x lt room is h.of_zero;
   }
 
+module _ (codes : List Tern) (from place word : ℕ) (all : place ≡ 32) (h : ArePacked codes from place word) (k : ℕ) (lt : k < 32)
+  where
+    index_is : from + 2 * (32 - place + k) ≡ from + 2 * k
+    index_is = omega arith
+
+    first_fits : h.first < 2 ^ 32
+    first_fits = subst (λ (n : ℕ). h.first < 2 ^ n) all h.first_fits
+
+    pub packed_one : bit_at word k ≡ one_of (get_or codes (from + 2 * k) X)
+    packed_one =
+        ap (λ (n : ℕ). bit_at n k) h.is ∙ bit_at_cat_low h.second 32 h.first k lt ∙ h.of_one k (omega arith)
+        ∙ ap (λ (j : ℕ). one_of (get_or codes j X)) index_is
+
+    pub packed_zero : bit_at word (32 + k) ≡ zero_of (get_or codes (from + 2 * k) X)
+    packed_zero =
+        let back : 32 + k - 32 ≡ k = omega arith in
+        ap (λ (n : ℕ). bit_at n (32 + k)) h.is ∙ bit_at_cat_high h.second 32 h.first (32 + k) first_fits (omega arith)
+        ∙ ap (bit_at h.second) back ∙ h.of_zero k (omega arith) ∙ ap (λ (j : ℕ). zero_of (get_or codes j X)) index_is
+
+-- the cells of the words that were packed so far are those of the codes
+pub record HaveCells (words : List ℕ) (codes : List Tern) (n : ℕ) : Type 0 where
+  pub of_one : (v : ℕ) → v < 32 * n → bit_of 0 words v ≡ one_of (get_or codes (2 * v) X)
+  pub of_zero : (v : ℕ) → v < 32 * n → bit_of 32 words v ≡ zero_of (get_or codes (2 * v) X)
+
 -- one word more
-pub packed_word : (words : List ℕ) (codes part : List Tern) (n bits word : ℕ) → ArePacked words codes n → n < length words
-    → word ≡ bits % 256 → part ≡ take (8 * n + 8 * 1 - 8 * n) (drop (8 * n) codes) → length part ≡ 8 * 1
-    → ((q : ℕ) → q < length part / 2 → bits_at bits q ≡ bits_of (get_or part (2 * q) X)) → ArePacked (set words n word) codes (n + 1)
-packed_word words codes part n bits word h lt word_is is size are =
-    packed_more words (set words n word) codes part n 1 bits h
-    (λ k below.
-    let here : n + k ≡ n = omega arith in
-    let none : 8 * k ≡ 0 = omega arith in
-    ap (λ (i : ℕ). get_or (set words n word) i 0) here ∙ get_or-set_same words n word 0 lt ∙ word_is
-    ∙ ap (λ (m : ℕ). m % 256) (sym (div-one bits) ∙ ap (λ (j : ℕ). bits / 2 ^ j) (sym none)))
-    (λ k below. get_or-set_other words n k word 0 (λ e. omega arith)) is size are
+module _ (words : List ℕ) (codes : List Tern) (n word by : ℕ) (lt : n < length words) (fits : word < 2 ^ 64)
+    (by_is : by ≡ 32 * (n % 2)) where
+  abbrev turned : ℕ
+  turned = rotate_right w64 word by
 
-module _ (words : List ℕ) (codes : List Tern) (n : ℕ) (h : ArePacked words codes n) (all : length words ≤ n) where
-  pub packed_whole : All IsWhole words
-  packed_whole k d lt = subst (λ (w : ℕ). IsWhole w) (sym (get_or_default_zero words k d lt)) (h.whole k (omega arith))
+  side_more : (f : Tern → ℕ) (side : ℕ) → side % 32 ≡ 0 → side < 64
+      → ((k : ℕ) → k < 32 → bit_at word (side + k) ≡ f (get_or codes (64 * n + 2 * k) X))
+      → ((v : ℕ) → v < 32 * n → bit_of side words v ≡ f (get_or codes (2 * v) X))
+      → (v : ℕ) → v < 32 * (n + 1) → bit_of side (set words n turned) v ≡ f (get_or codes (2 * v) X)
+  side_more f side whole small are before v below = elim (cases_eq (v / 32) n) [
+    | inl e ↦
+        let k : ℕ = v - 32 * n in
+        let i : 64 * n + 2 * k ≡ 2 * v = omega arith in
+        let place : ℕ = (v + side) % 64 in
+        ap (λ (j : ℕ). bit_at (get_or (set words n turned) j 0) place) e
+        ∙ ap (λ (m : ℕ). bit_at m place) (get_or-set_same words n turned 0 lt)
+        ∙ rotated_bit word by place (side + k) fits (omega arith) (omega arith) ∙ are k (omega arith)
+        ∙ ap (λ (j : ℕ). f (get_or codes j X)) i
+    | inr ne ↦
+        ap (λ (m : ℕ). bit_at m ((v + side) % 64)) (get_or-set_other words n (v / 32) turned 0 ne) ∙ before v (omega arith)
+  ]
 
-  pub packed_row : (row : List Tern) → length codes ≡ 8 * length words → codes ≡ by_literal row → spelled words ≡ row
+  pub cells_more : HaveCells words codes n → ((k : ℕ) → k < 32 → bit_at word k ≡ one_of (get_or codes (64 * n + 2 * k) X))
+      → ((k : ℕ) → k < 32 → bit_at word (32 + k) ≡ zero_of (get_or codes (64 * n + 2 * k) X))
+      → HaveCells (set words n turned) codes (n + 1)
+  cells_more h first second = record {
+    of_one = side_more one_of 0 refl (omega arith)
+        (λ k small. let same : 0 + k ≡ k = omega arith in ap (bit_at word) same ∙ first k small) h.of_one;
+    of_zero = side_more zero_of 32 refl (omega arith) second h.of_zero;
+  }
+
+module _ (words : List ℕ) (codes : List Tern) (n : ℕ) (h : HaveCells words codes n) (all : length words ≤ n) where
+  pub packed_whole : AreWhole words
+  packed_whole = are_whole words (λ v lt.
+      omega (
+        arith,
+        one_there words v lt,
+        zero_there words v lt,
+        h.of_one v (omega arith),
+        h.of_zero v (omega arith),
+        bits_apart (get_or codes (2 * v) X),
+      ))
+
+  pub packed_row : (row : List Tern) → length codes ≡ 64 * length words → codes ≡ by_literal row → spelled words ≡ row
   packed_row row size e =
-      let wide : length row ≡ 4 * length words = omega (arith, length-by_literal row, ap length e) in
-      ext_get_or X (spelled words) row (length-spelled words ∙ sym wide) (λ v lt.
-      let within : v < 4 * length words = omega (arith, length-spelled words) in
-      let place : 8 * (v / 4) + 2 * (v % 4) ≡ 2 * v = omega arith in
-      spelled_at words v 0 within ∙ h.cells (v / 4) (v % 4) (omega arith) (omega arith)
-      ∙ ap (λ (i : ℕ). get_or codes i X) place ∙ ap (λ (cs : List Tern). get_or cs (2 * v) X) e ∙ even_code row v (2 * v) refl)
+      spelled_row words row (omega (arith, length-by_literal row, ap length e, size)) (λ v lt.
+      ap₂ value_of (one_there words v lt ∙ h.of_one v (omega arith)) (zero_there words v lt ∙ h.of_zero v (omega arith))
+      ∙ value_back (get_or codes (2 * v) X) ∙ ap (λ (cs : List Tern). get_or cs (2 * v) X) e ∙ even_code row v (2 * v) refl)

@@ -1,126 +1,150 @@
--- The two bits at a place of a word.
-use Rattle.std.proofs.Common.{◌≡◌, ◌≢◌, inl, inr, ℕ, zero, suc, ◌+◌, ◌-◌, ◌*◌, ◌/◌, ◌%◌, ◌^◌, ◌<◌, ◌≤◌, bit_xor, refl}
-use Rattle.std.proofs.Common.{sym, ap, ◌∙◌, subst, arith}
-use Rattle.std.proofs.Math.Nat.{div-one, div-div-eq-div-mul, pow-le-pow_right}
+-- The bits of words that are cut, put together and rotated.
+use Rattle.std.proofs.Common.{◌≡◌, ◌≢◌, inl, inr, ℕ, zero, suc, ◌+◌, ◌-◌, ◌*◌, ◌/◌, ◌%◌, ◌^◌, ◌<◌, ◌≤◌, min, max, refl}
+use Rattle.std.proofs.Common.{bit_or, sym, ap, ap₂, ◌∙◌, arith, add-zero}
 use Rattle.std.proofs.lemmas.Bool.{cases_lt, cases_eq}
-use Rattle.std.proofs.lemmas.Nat.{and_mask, shr-shr, pow_pos, pow-add, shl_whole, xor_lt}
-use Rattle.std.proofs.lemmas.Nat.Bits.{bit_at_xor, bit_at_cat_low, bit_at_cat_high, bit_at_above, bit_at-zero}
-use Rattle.std.proofs.lemmas.Nat.Bits.{bit_at-lt}
-use Rattle.std.specs.Int.{bit_at}
+use Rattle.std.proofs.lemmas.Nat.{or_comm, pow_pos, shr-shr, shr_split, mod_below}
+use Rattle.std.proofs.lemmas.Nat.Bits.{bit_at_or, bit_at_cat_low, bit_at_cat_high, bit_at_above}
+use Rattle.std.proofs.lemmas.Nat.Bits.{bit_at-zero, bit_at_lowest, same_from_bits}
+use Rattle.std.specs.Int.{bit_at, rotate_left, rotate_right, w64}
 use Rattle.aig_parts.specs.declared.ternary.Tern.{Tern}
 use Rattle.aig_parts.specs.declared.ternary.Tern.TheVariants.{Zero, One, X}
-use Rattle.aig_values.specs.Codes.{code_value, bits_of, IsCode}
-use Rattle.aig_values.specs.state.Words.{bits_at, IsWhole}
+use Rattle.aig_parts.specs.Ternary.{kleene_and, kleene_not}
+use Rattle.aig_values.specs.Codes.{bits_of, code_value, IsCode}
+use Rattle.aig_values.specs.state.Words.{value_of, value_in, group_value, one_of, zero_of}
 
-two_bits : (n place : ℕ) → bits_at n place ≡ bit_at n (2 * place) + 2 * bit_at n (2 * place + 1)
-unfolding bits_at
-two_bits n place = omega (arith, and_mask (n / 2 ^ (2 * place)) 2, ap (λ (m : ℕ). m % 2) (shr-shr n (2 * place) 1))
+-- a shift down, a cut and a shift up
+pub bit_div : (n k i : ℕ) → bit_at (n / 2 ^ k) i ≡ bit_at n (k + i)
+bit_div n k i = ap (λ (m : ℕ). m % 2) (shr-shr n k i)
 
-same_bits : (a b place : ℕ) → bit_at a (2 * place) ≡ bit_at b (2 * place) → bit_at a (2 * place + 1) ≡ bit_at b (2 * place + 1)
-    → bits_at a place ≡ bits_at b place
-same_bits a b place low high = omega (arith, two_bits a place, two_bits b place)
+pub bit_mod : (n k i : ℕ) → i < k → bit_at (n % 2 ^ k) i ≡ bit_at n i
+bit_mod n k i lt =
+    sym (bit_at_cat_low (n / 2 ^ k) k (n % 2 ^ k) i lt) ∙ ap (λ (m : ℕ). bit_at m i) (shr_split n k)
 
--- bits that were moved up to a place, in a byte
-abbrev moved : ℕ → ℕ → ℕ
-moved bits place = bits * 2 ^ (2 * place) % 256
+bit_mul_low : (n k i : ℕ) → i < k → bit_at (n * 2 ^ k) i ≡ 0
+bit_mul_low n k i lt =
+    ap (λ (m : ℕ). bit_at m i) (sym (add-zero (n * 2 ^ k))) ∙ bit_at_cat_low n k 0 i lt ∙ bit_at-zero i
 
-module _ (bits place : ℕ) (small : bits < 4) (within : place < 4) where
-  moved_is : moved bits place ≡ bits * 2 ^ (2 * place) + 0
-  moved_is = let whole = shl_whole bits 2 (2 * place) 8 small (omega arith) in omega (arith, whole)
+bit_mul_high : (n k i : ℕ) → k ≤ i → bit_at (n * 2 ^ k) i ≡ bit_at n (i - k)
+bit_mul_high n k i le =
+    ap (λ (m : ℕ). bit_at m i) (sym (add-zero (n * 2 ^ k))) ∙ bit_at_cat_high n k 0 i (pow_pos k) le
 
-  below : (i : ℕ) → i < 2 * place → bit_at (moved bits place) i ≡ 0
-  below i lt = ap (λ n. bit_at n i) moved_is ∙ bit_at_cat_low bits (2 * place) 0 i lt ∙ bit_at-zero i
+max_same : (x : ℕ) → max x x ≡ x
+max_same x = omega arith
 
-  from : (i k : ℕ) → i ≡ 2 * place + k → bit_at (moved bits place) i ≡ bit_at bits k
-  from i k e =
-      let back : i - 2 * place ≡ k = omega arith in
-      ap (λ n. bit_at n i) moved_is ∙ bit_at_cat_high bits (2 * place) 0 i (pow_pos (2 * place)) (omega arith)
-      ∙ ap (bit_at bits) back
+max_left : (x : ℕ) → max x 0 ≡ x
+max_left x = omega arith
 
-  above : (i : ℕ) → 2 * place + 2 ≤ i → bit_at (moved bits place) i ≡ 0
-  above i le = from i (i - 2 * place) (omega arith) ∙ bit_at_above bits 2 (i - 2 * place) small (omega arith)
+max_right : (x : ℕ) → max 0 x ≡ x
+max_right x = omega arith
 
-  apart : (i : ℕ) → i ≢ 2 * place → i ≢ 2 * place + 1 → bit_at (moved bits place) i ≡ 0
-  apart i ne ne' = elim (cases_lt i (2 * place)) [
-    | inl lt ↦ below i lt
-    | inr le ↦ above i (omega arith)
-  ]
+-- a word that is rotated
+module _ (n by i j : ℕ) (fits : n < 2 ^ 64) (small : i < 64) (is : (by % 64 + i) % 64 ≡ j) where
+  pub rotated_bit : bit_at (rotate_right w64 n by) i ≡ bit_at n j
+  rotated_bit =
+      let k : ℕ = by % 64 in
+      let up : ℕ = (64 - k) % 64 in
+      let both = bit_at_or (n / 2 ^ k) (n * 2 ^ up % 2 ^ 64) i in
+      let cut : bit_at (n * 2 ^ up % 2 ^ 64) i ≡ bit_at (n * 2 ^ up) i = bit_mod (n * 2 ^ up) 64 i small in
+      let down : bit_at (n / 2 ^ k) i ≡ bit_at n (k + i) = bit_div n k i in
+      elim (cases_eq k 0) [
+        | inl e ↦
+            let here : k + i ≡ j = omega arith in
+            let there : i - up ≡ j = omega arith in
+            both ∙ ap₂ max (down ∙ ap (bit_at n) here) (cut ∙ bit_mul_high n up i (omega arith) ∙ ap (bit_at n) there)
+            ∙ max_same (bit_at n j)
+        | inr ne ↦ elim (cases_lt (k + i) 64) [
+          | inl lt ↦
+              let here : k + i ≡ j = omega arith in
+              both ∙ ap₂ max (down ∙ ap (bit_at n) here) (cut ∙ bit_mul_low n up i (omega arith)) ∙ max_left (bit_at n j)
+          | inr le ↦
+              let there : i - up ≡ j = omega arith in
+              both
+              ∙ ap₂ max (down ∙ bit_at_above n 64 (k + i) fits le)
+              (cut ∙ bit_mul_high n up i (omega arith) ∙ ap (bit_at n) there) ∙ max_right (bit_at n j)
+        ]
+      ]
 
--- the word with bits changed at a place, as the code computes it
-abbrev changed : ℕ → ℕ → ℕ → ℕ → ℕ
-changed word place old bits = bit_xor word (moved (bit_xor old bits) place)
+pub rotated_left_bit : (n by i j : ℕ) → n < 2 ^ 64 → i < 64 → i ≡ (by % 64 + j) % 64 → j < 64
+    → bit_at (rotate_left w64 n by) i ≡ bit_at n j
+rotated_left_bit n by i j fits small is below =
+    let k : ℕ = by % 64 in
+    let down : (64 - k) % 64 ≡ (64 - k) % 64 % 64 = omega arith in
+    let up : k ≡ (64 - (64 - k) % 64) % 64 = omega arith in
+    ap (λ (m : ℕ). bit_at m i)
+    (or_comm (n * 2 ^ k % 2 ^ 64) (n / 2 ^ ((64 - k) % 64))
+    ∙ ap (λ (u : ℕ). bit_or (n / 2 ^ ((64 - k) % 64)) (n * 2 ^ u % 2 ^ 64)) up)
+    ∙ rotated_bit n (64 - k) i j fits small (omega arith)
 
-module _ (word place old bits : ℕ) (old_is : old ≡ bits_at word place) (small : bits < 4) (within : place < 4) where
-  old_small : old < 4
-  unfolding bits_at
-  old_small = omega (arith, old_is, and_mask (word / 2 ^ (2 * place)) 2)
+-- cells of a word that is shifted down
+pub value_later : (bits at k : ℕ) → value_in (bits / 2 ^ at) k ≡ value_in bits (at + k)
+value_later bits at k =
+    let i : at + (32 + k) ≡ 32 + (at + k) = omega arith in
+    ap₂ value_of (bit_div bits at k) (bit_div bits at (32 + k) ∙ ap (bit_at bits) i)
 
-  change_small : bit_xor old bits < 4
-  change_small = xor_lt 2 old bits old_small small
+pub rest_later : (bits at n m rest : ℕ) → rest ≡ bits / 2 ^ at → m ≡ at + n → rest / 2 ^ n ≡ bits / 2 ^ m
+rest_later bits at n m rest is sum =
+    ap (λ (r : ℕ). r / 2 ^ n) is ∙ shr-shr bits at n ∙ ap (λ (i : ℕ). bits / 2 ^ i) (sym sum)
 
-  changed_bit : (i : ℕ) → bit_at (changed word place old bits) i
-      ≡ (bit_at word i + bit_at (moved (bit_xor old bits) place) i) % 2
-  changed_bit i = bit_at_xor word (moved (bit_xor old bits) place) i
+-- cells of a group of a word that is shifted down
+pub group_later : (bits at k i group rest : ℕ) → rest ≡ bits / 2 ^ at → i ≡ at + k → bit_at group k ≡ bit_at rest k
+    → bit_at group (4 + k) ≡ bit_at rest (32 + k) → group_value group k ≡ value_in bits i
+group_later bits at k i group rest is sum first second =
+    ap₂ value_of first second ∙ ap (λ (r : ℕ). value_in r k) is ∙ value_later bits at k ∙ ap (value_in bits) (sym sum)
 
-  old_bit : (i k : ℕ) → i ≡ 2 * place + k → k < 2 → bit_at old k ≡ bit_at word i
-  old_bit i zero e lt =
-      let j : i ≡ 2 * place = omega arith in
-      omega (arith, old_is, two_bits word place, bit_at-lt word (2 * place), bit_at-lt word (2 * place + 1), ap (bit_at word) j)
-  old_bit i (suc zero) e lt =
-      let j : i ≡ 2 * place + 1 = omega arith in
-      omega (arith, old_is, two_bits word place, bit_at-lt word (2 * place), bit_at-lt word (2 * place + 1), ap (bit_at word) j)
-  old_bit i (suc (suc k)) e lt = absurd (omega arith)
-
-  new_bit : (i k : ℕ) → i ≡ 2 * place + k → k < 2 → bit_at (changed word place old bits) i ≡ bit_at bits k
-  new_bit i k e lt =
-      omega (
-        arith,
-        changed_bit i,
-        from (bit_xor old bits) place change_small within i k e,
-        bit_at_xor old bits k,
-        old_bit i k e lt,
-        bit_at-lt word i,
-        bit_at-lt bits k,
-      )
-
-  kept_bit : (i : ℕ) → i ≢ 2 * place → i ≢ 2 * place + 1 → bit_at (changed word place old bits) i ≡ bit_at word i
-  kept_bit i ne ne' =
-      omega (arith, changed_bit i, apart (bit_xor old bits) place change_small within i ne ne', bit_at-lt word i)
-
-  pub changed_there : bits_at (changed word place old bits) place ≡ bits
-  changed_there =
-      omega (
-        arith,
-        two_bits (changed word place old bits) place,
-        new_bit (2 * place) 0 (omega arith) (omega arith),
-        new_bit (2 * place + 1) 1 refl (omega arith),
-      )
-
-  pub changed_elsewhere : (other : ℕ) → other ≢ place → bits_at (changed word place old bits) other ≡ bits_at word other
-  changed_elsewhere other ne =
-      same_bits (changed word place old bits) word other (kept_bit (2 * other) (λ e. ne (omega arith)) (λ e. ne (omega arith)))
-      (kept_bit (2 * other + 1) (λ e. ne (omega arith)) (λ e. ne (omega arith)))
-
-  pub changed_whole : IsCode bits → IsWhole word → IsWhole (changed word place old bits)
-  changed_whole code whole other lt = elim (cases_eq other place) [
-    | inl e ↦ subst (λ (p : ℕ). IsCode (bits_at (changed word place old bits) p)) (sym e)
-        (subst IsCode (sym changed_there) code)
-    | inr ne ↦ subst IsCode (sym (changed_elsewhere other ne)) (whole other lt)
-  ]
+pub no_value : (k : ℕ) → value_in 0 k ≡ X
+no_value k = ap₂ value_of (bit_at-zero k) (bit_at-zero (32 + k))
 
 -- the bits of a value
-pub bits_small : (x : Tern) → bits_of x < 4
-bits_small Zero = omega arith
-bits_small One = omega arith
-bits_small X = omega arith
-
-pub value_back : (x : Tern) → code_value (bits_of x) ≡ x
+pub value_back : (x : Tern) → value_of (one_of x) (zero_of x) ≡ x
 value_back Zero = refl
 value_back One = refl
 value_back X = refl
 
-pub is_code : (x : Tern) → IsCode (bits_of x)
-is_code x = ap bits_of (value_back x)
+pub one_small : (x : Tern) → one_of x < 2
+one_small Zero = omega arith
+one_small One = omega arith
+one_small X = omega arith
+
+pub zero_small : (x : Tern) → zero_of x < 2
+zero_small Zero = omega arith
+zero_small One = omega arith
+zero_small X = omega arith
+
+pub bits_apart : (x : Tern) → one_of x + zero_of x < 2
+bits_apart Zero = omega arith
+bits_apart One = omega arith
+bits_apart X = omega arith
+
+-- the code of a value
+pub is_code_of : (x : Tern) → IsCode (bits_of x)
+is_code_of Zero = refl
+is_code_of One = refl
+is_code_of X = refl
+
+pub code_back : (x : Tern) → code_value (bits_of x) ≡ x
+code_back Zero = refl
+code_back One = refl
+code_back X = refl
+
+-- a negation swaps the bits, an AND has the lesser of ones and the greater of zeros
+pub swapped_value : (one nought : ℕ) → one + nought < 2 → value_of nought one ≡ kleene_not (value_of one nought)
+swapped_value zero zero lt = refl
+swapped_value zero (suc n) lt = refl
+swapped_value (suc n) zero lt = refl
+swapped_value (suc n) (suc m) lt = absurd (omega arith)
+
+pub and_value : (a b c d : ℕ) → a + b < 2 → c + d < 2
+    → value_of (min a c) (max b d) ≡ kleene_and (value_of a b) (value_of c d)
+and_value zero zero zero zero lt lt' = refl
+and_value zero zero zero (suc zero) lt lt' = refl
+and_value zero zero (suc zero) zero lt lt' = refl
+and_value zero (suc zero) zero zero lt lt' = refl
+and_value zero (suc zero) zero (suc zero) lt lt' = refl
+and_value zero (suc zero) (suc zero) zero lt lt' = refl
+and_value (suc zero) zero zero zero lt lt' = refl
+and_value (suc zero) zero zero (suc zero) lt lt' = refl
+and_value (suc zero) zero (suc zero) zero lt lt' = refl
+and_value a b c d lt lt' = absurd (omega arith)
 
 -- values that do not differ
 pub same_value : (x y : Tern) → (x ≢ y → ⊥) → x ≡ y
@@ -134,66 +158,71 @@ same_value X Zero same = absurd (same (λ e. omega (arith, ap bits_of e)))
 same_value X One same = absurd (same (λ e. omega (arith, ap bits_of e)))
 same_value X X same = refl
 
--- a word of 01 at each place is a third of all ones
-four_times : (k : ℕ) → 2 ^ (2 * suc k) ≡ 4 * 2 ^ (2 * k)
-four_times k = let e : 2 * suc k ≡ 2 + 2 * k = omega arith in ap (λ (i : ℕ). 2 ^ i) e ∙ pow-add 2 2 (2 * k)
+-- bits with the same value are the same
+pub same_bits : (a b c d : ℕ) → a + b < 2 → c + d < 2 → value_of a b ≡ value_of c d → (a ≡ c) × (b ≡ d)
+same_bits zero zero zero zero lt lt' e = (refl, refl)
+same_bits zero zero zero (suc n) lt lt' e = absurd (omega (arith, ap bits_of e))
+same_bits zero zero (suc n) m lt lt' e = absurd (omega (arith, ap bits_of e))
+same_bits zero (suc n) zero zero lt lt' e = absurd (omega (arith, ap bits_of e))
+same_bits zero (suc n) zero (suc m) lt lt' e = (refl, omega arith)
+same_bits zero (suc n) (suc m) k lt lt' e = absurd (omega (arith, ap bits_of e))
+same_bits (suc n) k zero zero lt lt' e = absurd (omega (arith, ap bits_of e))
+same_bits (suc n) k zero (suc m) lt lt' e = absurd (omega (arith, ap bits_of e))
+same_bits (suc n) k (suc m) j lt lt' e = (omega arith, omega arith)
 
-third : (n place k : ℕ) → place < k → 3 * n + 1 ≡ 2 ^ (2 * k) → n / 2 ^ (2 * place) % 4 ≡ 1
-third n place zero lt e = absurd (omega arith)
-third n zero (suc k) lt e = ap (λ (m : ℕ). m % 4) (div-one n) ∙ omega (arith, four_times k)
-third n (suc place) (suc k) lt e =
-    let less : 3 * (n / 4) + 1 ≡ 2 ^ (2 * k) = omega (arith, four_times k) in
-    ap (λ (d : ℕ). n / d % 4) (four_times place) ∙ ap (λ (m : ℕ). m % 4) (sym (div-div-eq-div-mul n 4 (2 ^ (2 * place))))
-    ∙ third (n / 4) place k (omega arith) less
+-- four bits of each plane
+module _ (bits k : ℕ) (lt : k < 4) where
+  abbrev group : ℕ
+  group = bits % 16 + 16 * (bits / 4294967296 % 16)
 
-pub unknown_bits : (place : ℕ) → place < 4 → bits_at 85 place ≡ 1
-unfolding bits_at
-unknown_bits place lt =
-    and_mask (85 / 2 ^ (2 * place)) 2 ∙ third 85 place 4 lt refl
+  group_is : group ≡ bits / 2 ^ 32 % 2 ^ 4 * 2 ^ 4 + bits % 2 ^ 4
+  group_is = omega arith
 
-low_cells : (n place : ℕ) → place < 4 → n % 256 / 2 ^ (2 * place) % 4 ≡ n / 2 ^ (2 * place) % 4
-low_cells n zero lt = omega (arith, div-one (n % 256), div-one n)
-low_cells n (suc zero) lt = omega arith
-low_cells n (suc (suc zero)) lt = omega arith
-low_cells n (suc (suc (suc zero))) lt = omega arith
-low_cells n (suc (suc (suc (suc k)))) lt = absurd (omega arith)
+  pub group_one : bit_at group k ≡ bit_at bits k
+  group_one =
+      ap (λ (n : ℕ). bit_at n k) group_is ∙ bit_at_cat_low (bits / 2 ^ 32 % 2 ^ 4) 4 (bits % 2 ^ 4) k lt
+      ∙ bit_mod bits 4 k lt
 
--- the cells of a byte of a word are those of the word from its own place on
-pub byte_cells : (bits k place : ℕ) → place < 4 → bits_at (bits / 2 ^ (8 * k) % 256) place ≡ bits_at bits (4 * k + place)
-unfolding bits_at
-byte_cells bits k place lt =
-    let rest : ℕ = bits / 2 ^ (8 * k) in
-    let more : 2 * (4 * k + place) ≡ 8 * k + 2 * place = omega arith in
-    and_mask (rest % 256 / 2 ^ (2 * place)) 2 ∙ low_cells rest place lt
-    ∙ ap (λ (n : ℕ). n % 4) (shr-shr bits (8 * k) (2 * place) ∙ ap (λ (j : ℕ). bits / 2 ^ j) (sym more))
-    ∙ sym (and_mask (bits / 2 ^ (2 * (4 * k + place))) 2)
+  pub group_zero : bit_at group (4 + k) ≡ bit_at bits (32 + k)
+  group_zero =
+      let back : 4 + k - 4 ≡ k = omega arith in
+      ap (λ (n : ℕ). bit_at n (4 + k)) group_is
+      ∙ bit_at_cat_high (bits / 2 ^ 32 % 2 ^ 4) 4 (bits % 2 ^ 4) (4 + k) (mod_below bits 16 (omega arith)) (omega arith)
+      ∙ ap (bit_at (bits / 2 ^ 32 % 2 ^ 4)) back ∙ bit_mod (bits / 2 ^ 32) 4 k lt ∙ bit_div bits 32 k
 
-pub rest_of_bytes : (bits k rest : ℕ) → rest ≡ bits / 2 ^ (8 * k) → rest / 256 ≡ bits / 2 ^ (8 * (k + 1))
-rest_of_bytes bits k rest is =
-    let more : 8 * (k + 1) ≡ 8 * k + 8 = omega arith in
-    omega (arith, ap (λ (j : ℕ). bits / 2 ^ j) more, shr-shr bits (8 * k) 8)
+-- two bits in one word, 32 places apart
+module _ (one nought : ℕ) (one_lt : one < 2) (nought_lt : nought < 2) where
+  abbrev pair : ℕ
+  pair = nought * 2 ^ 32 + one
 
--- a word with one cell more before the others
-module _ (word bits : ℕ) (small : bits < 4) where
-  pub cell_before : bits_at (4 * word + bits) 0 ≡ bits
-  unfolding bits_at
-  cell_before =
-      omega (arith, and_mask ((4 * word + bits) / 2 ^ (2 * 0)) 2, div-one (4 * word + bits))
+  bit_of_bit : (n : ℕ) → n < 2 → bit_at n 0 ≡ n
+  bit_of_bit n lt = bit_at_lowest n ∙ omega arith
 
-  pub cells_after : (place : ℕ) → bits_at (4 * word + bits) (suc place) ≡ bits_at word place
-  unfolding bits_at
-  cells_after place =
-      let less : (4 * word + bits) / 4 ≡ word = omega arith in
-      and_mask ((4 * word + bits) / 2 ^ (2 * suc place)) 2
-      ∙ ap (λ (m : ℕ). m % 4)
-      (ap (λ (d : ℕ). (4 * word + bits) / d) (four_times place)
-      ∙ sym (div-div-eq-div-mul (4 * word + bits) 4 (2 ^ (2 * place)))
-      ∙ ap (λ (m : ℕ). m / 2 ^ (2 * place)) less)
-      ∙ sym (and_mask (word / 2 ^ (2 * place)) 2)
+  pub pair_one : bit_at pair 0 ≡ one
+  pair_one = bit_at_cat_low nought 32 one 0 (omega arith) ∙ bit_of_bit one one_lt
 
-  pub longer_fits : (place : ℕ) → place < 32 → word < 2 ^ (2 * place)
-      → (4 * word + bits < 18446744073709551616) × (4 * word + bits < 2 ^ (2 * (place + 1)))
-  longer_fits place lt under =
-      let most : 2 ^ (2 * place) ≤ 4611686018427387904 = pow-le-pow_right {n = 2} (omega arith) {i = 2 * place} {j = 62} (omega arith) in
-      let next : place + 1 ≡ suc place = omega arith in
-      (omega arith, omega (arith, four_times place, ap (λ (k : ℕ). 2 ^ (2 * k)) next))
+  pub pair_zero : bit_at pair 32 ≡ nought
+  pair_zero = bit_at_cat_high nought 32 one 32 (omega arith) (omega arith) ∙ bit_of_bit nought nought_lt
+
+  pub pair_alone : (i : ℕ) → i ≢ 0 → i ≢ 32 → bit_at pair i ≡ 0
+  pair_alone i ne ne' = elim (cases_lt i 32) [
+    | inl lt ↦ bit_at_cat_low nought 32 one i lt ∙ bit_at_above one 1 i one_lt (omega arith)
+    | inr le ↦
+        bit_at_cat_high nought 32 one i (omega arith) le ∙ bit_at_above nought 1 (i - 32) nought_lt (omega arith)
+  ]
+
+-- a word with no bits at two places, and none elsewhere
+pub none_set : (n : ℕ) → bit_at n 0 ≡ 0 → bit_at n 32 ≡ 0 → ((i : ℕ) → i ≢ 0 → i ≢ 32 → bit_at n i ≡ 0) → n ≡ 0
+none_set n first second others =
+    same_from_bits n 0 (λ i. elim (cases_eq i 0) [
+      | inl e ↦ ap (bit_at n) e ∙ first ∙ sym (bit_at-zero i)
+      | inr ne ↦ elim (cases_eq i 32) [
+        | inl e ↦ ap (bit_at n) e ∙ second ∙ sym (bit_at-zero i)
+        | inr ne' ↦ others i ne ne' ∙ sym (bit_at-zero i)
+      ]
+    ])
+
+-- bits that changed where two differ
+pub flipped_is : (before after change new : ℕ) → before < 2 → after < 2 → change ≡ (after + before) % 2
+    → new ≡ (before + change) % 2 → new ≡ after
+flipped_is before after change new lt lt' e is = omega arith

@@ -10,6 +10,7 @@ pub(crate) mod byte_row;
 pub(crate) mod cell_row;
 mod literal_codes;
 pub(crate) mod plane_row;
+mod planes;
 
 use crate::grid::Grid;
 use aig_parts::{Lit, Tern};

@@ -1,6 +1,6 @@
 -- A row of cells by literal (our own choice).
 -- Example: the cells 0, x by literal are 0, 1, x, x.
-use Rattle.std.specs.Prelude.{List, [], ◌∷◌}
+use Rattle.std.specs.Prelude.{ℕ, ◌%◌, List, [], ◌∷◌, nat_eq, if◌then◌else◌}
 use Rattle.aig_parts.specs.declared.ternary.Tern.{Tern}
 use Rattle.aig_parts.specs.Ternary.{kleene_not}
 
@@ -8,3 +8,7 @@ use Rattle.aig_parts.specs.Ternary.{kleene_not}
 unfoldable pub by_literal : List Tern → List Tern
 by_literal [] = []
 by_literal (x ∷ row) = x ∷ kleene_not x ∷ by_literal row
+
+-- the value of a variable's literal
+abbrev pub signed_value : Tern → ℕ → Tern
+signed_value x l = if nat_eq (l % 2) 0 then x else kleene_not x

@@ -1,10 +1,8 @@
 //! Grids of rows, however these keep their cells.
-ghost use Rattle.std.specs.Prelude.{◌≡◌, ◌≢◌, ℕ, ◌+◌, ◌<◌, ◌≤◌, ◌↔◌, length, map, fold, All, IfOk, IsTrue, OnOk};
-ghost use Rattle.std.specs.Prelude.{slice_set, slice_index_or};
+ghost use Rattle.std.specs.Prelude.{◌≡◌, ℕ, ◌+◌, ◌<◌, ◌≤◌, length, map, fold, All, IfOk, OnOk};
 ghost use Rattle.aig_parts.specs.Formed.{limit};
-ghost use Rattle.aig_parts.specs.declared.ternary.Tern.TheVariants.{X};
 ghost use Rattle.aig_parts.specs.Literal.{variable};
-ghost use Rattle.aig_values.specs.Cells.{fresh_row, literal_value, gate_value, with_gate_value, HasVariablesBelow};
+ghost use Rattle.aig_values.specs.Cells.{fresh_row, literal_value, with_gate_value, HasVariablesBelow};
 ghost use Rattle.aig_values.specs.state.Padded.{AreLengthened};
 ghost use Rattle.aig_values.specs.TraceText.{literal_character};
 
@@ -52,7 +50,7 @@ impl<R: CellRow> Drop for RowGrid<R> {
 /// A grid that keeps a byte for each cell.
 pub type ByteGrid = RowGrid<ByteRow>;
 
-/// A grid that keeps two bits for each cell, side by side in one word rather than in two planes.
+/// A grid that keeps two bits for each cell, in two planes.
 pub type PlaneGrid = RowGrid<PlaneRow>;
 
 impl<R: CellRow> Model for RowGrid<R> {
@@ -89,33 +87,13 @@ fn character_in<R: CellRow>(row: &R, literal: Lit) -> u8
     row.get(literal.var() as usize).character(literal.is_neg())
 }
 
-// Writes the AND of the right sides' values to the gate's cell, and answers whether that changed.
-fn evaluate_in<R: CellRow>(row: &mut R, gate: Gate) -> bool
-    requires gate { variable gate.lhs < length (R.cells row.old) }
-    requires rhs0 { variable gate.rhs0 < length (R.cells row.old) }
-    requires rhs1 { variable gate.rhs1 < length (R.cells row.old) }
-    ensures cells { R.cells row.new
-        ≡ slice_set (R.cells row.old) (variable gate.lhs) (gate_value (R.cells row.old) gate) }
-    ensures changed { IsTrue result
-        ↔ (gate_value (R.cells row.old) gate ≢ slice_index_or (R.cells row.old) (variable gate.lhs) X) }
-{
-    let code = row.literal(gate.rhs0).and(row.literal(gate.rhs1));
-    let place = gate.lhs.var() as usize;
-    let changed = code.differs(row.get(place));
-    if changed {
-        row.set(place, code);
-    }
-    changed
-}
-
 // Evaluates gates one after the other, in the order of the slice.
 fn sweep_in<R: CellRow>(row: &mut R, gates: &[Gate])
     requires { All (HasVariablesBelow (length (R.cells row.old))) gates.now }
     ensures { R.cells row.new ≡ fold with_gate_value (R.cells row.old) gates.now }
 {
     for gate in gates {
-        let value = row.literal(gate.rhs0).and(row.literal(gate.rhs1));
-        row.set(gate.lhs.var() as usize, value);
+        let _changed = row.evaluate(*gate);
     }
 }
 
@@ -209,7 +187,7 @@ impl<R: CellRow> Grid for RowGrid<R> {
     }
 
     fn evaluate(&mut self, frame: u32, gate: Gate) -> bool {
-        let changed = evaluate_in(&mut self.rows[frame as usize], gate);
+        let changed = self.rows[frame as usize].evaluate(gate);
         self.evaluations = Count::one_more(&self.evaluations);
         changed
     }

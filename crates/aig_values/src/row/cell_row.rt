@@ -1,10 +1,11 @@
 //! Rows of cells, however they are kept.
-ghost use Rattle.std.specs.Prelude.{◌≡◌, ℕ, ◌+◌, ◌<◌, ◌≤◌, List, Some, length, map, fold, All, IfOk, OnOk, IsTrue};
-ghost use Rattle.std.specs.Prelude.{slice_get, slice_set};
+ghost use Rattle.std.specs.Prelude.{◌≡◌, ◌≢◌, ℕ, ◌+◌, ◌<◌, ◌≤◌, ◌↔◌, List, Some, length, map, fold, All, IfOk, OnOk};
+ghost use Rattle.std.specs.Prelude.{slice_get, slice_set, slice_index_or, IsTrue};
 ghost use Rattle.aig_parts.specs.Formed.{limit};
 ghost use Rattle.aig_parts.specs.declared.ternary.Tern.{Tern};
+ghost use Rattle.aig_parts.specs.declared.ternary.Tern.TheVariants.{X};
 ghost use Rattle.aig_parts.specs.Literal.{variable};
-ghost use Rattle.aig_values.specs.Cells.{fresh_row, literal_value, with_gate_value, HasVariablesBelow};
+ghost use Rattle.aig_values.specs.Cells.{fresh_row, gate_value, literal_value, with_gate_value, HasVariablesBelow};
 ghost use Rattle.aig_values.specs.TraceText.{literal_character};
 ghost use Rattle.aig_values.specs.state.Padded.{IsLengthened};
 
@@ -56,6 +57,22 @@ pub trait CellRow: Sized + Drop {
     fn set(&mut self, variable: usize, code: Code)
         requires { variable < length (cells self.old) }
         ensures { cells self.new ≡ slice_set (cells self.old) variable code };
+
+    /// Writes the AND of the right sides' values to the gate's cell, and answers whether that changed.
+    fn evaluate(&mut self, gate: Gate) -> bool
+        requires { HasVariablesBelow (length (cells self.old)) gate }
+        ensures cells { cells self.new ≡ with_gate_value (cells self.old) gate }
+        ensures changed { IsTrue result
+            ↔ (gate_value (cells self.old) gate ≢ slice_index_or (cells self.old) (variable gate.lhs) X) }
+    {
+        let code = self.literal(gate.rhs0).and(self.literal(gate.rhs1));
+        let place = gate.lhs.var() as usize;
+        let changed = code.differs(self.get(place));
+        if changed {
+            self.set(place, code);
+        }
+        changed
+    }
 
     /// Writes the characters of the values of literals.
     fn spell(&self, text: &mut [u8], literals: &[Lit])

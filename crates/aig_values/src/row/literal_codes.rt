@@ -1,118 +1,149 @@
 //! The codes of a row by literal, in which gates are evaluated without a look at a sign.
-ghost use Rattle.std.specs.Prelude.{◌≡◌, ℕ, ◌+◌, ◌*◌, ◌/◌, ◌%◌, ◌^◌, ◌<◌, ◌≤◌, List, length, fold, All};
-ghost use Rattle.std.specs.Prelude.{slice_index, slice_index_or};
+ghost use Rattle.std.specs.Prelude.{◌≡◌, ℕ, ◌+◌, ◌*◌, ◌/◌, ◌<◌, ◌≤◌, List, length, fold, All, slice_index_or};
+ghost use Rattle.std.specs.Int.{bit_at};
 ghost use Rattle.aig_parts.specs.declared.ternary.Tern.{Tern};
 ghost use Rattle.aig_parts.specs.declared.ternary.Tern.TheVariants.{X};
 ghost use Rattle.aig_values.specs.Cells.{with_gate_value, HasVariablesBelow};
-ghost use Rattle.aig_values.specs.Codes.{bits_of};
-ghost use Rattle.aig_values.specs.state.LiteralCodes.{by_literal};
-ghost use Rattle.aig_values.specs.state.Words.{bits_at, spelled, values_of, IsWhole};
+ghost use Rattle.aig_values.specs.state.LiteralCodes.{by_literal, signed_value};
+ghost use Rattle.aig_values.specs.state.Words.{spelled, value_in, group_value, one_of, zero_of, AreWhole};
 
 use crate::code::Code;
-use aig_parts::Gate;
-
-/// How many cells a word has.
-pub const CELLS: usize = 4;
+use crate::row::planes::{CELLS, bits_from, group_of, spread};
+use aig_parts::{Gate, Tern};
 
 /// How many codes a word has: of each cell its own and that of its negation.
-pub const CODES: usize = 8;
+pub const CODES: usize = 64;
 
-/// How many words a sweep packs at once.
+/// How many codes four cells have.
 const GROUP: usize = 8;
 
-/// The codes of each word: of each cell its own and that of its negation.
-const WORD_CODES: [u8; 2048] = [
-    0, 3, 0, 3, 0, 3, 0, 3, 1, 1, 0, 3, 0, 3, 0, 3, 3, 0, 0, 3, 0, 3, 0, 3, 3, 0, 0, 3, 0, 3, 0, 3,
-    0, 3, 1, 1, 0, 3, 0, 3, 1, 1, 1, 1, 0, 3, 0, 3, 3, 0, 1, 1, 0, 3, 0, 3, 3, 0, 1, 1, 0, 3, 0, 3,
-    0, 3, 3, 0, 0, 3, 0, 3, 1, 1, 3, 0, 0, 3, 0, 3, 3, 0, 3, 0, 0, 3, 0, 3, 3, 0, 3, 0, 0, 3, 0, 3,
-    0, 3, 3, 0, 0, 3, 0, 3, 1, 1, 3, 0, 0, 3, 0, 3, 3, 0, 3, 0, 0, 3, 0, 3, 3, 0, 3, 0, 0, 3, 0, 3,
-    0, 3, 0, 3, 1, 1, 0, 3, 1, 1, 0, 3, 1, 1, 0, 3, 3, 0, 0, 3, 1, 1, 0, 3, 3, 0, 0, 3, 1, 1, 0, 3,
-    0, 3, 1, 1, 1, 1, 0, 3, 1, 1, 1, 1, 1, 1, 0, 3, 3, 0, 1, 1, 1, 1, 0, 3, 3, 0, 1, 1, 1, 1, 0, 3,
-    0, 3, 3, 0, 1, 1, 0, 3, 1, 1, 3, 0, 1, 1, 0, 3, 3, 0, 3, 0, 1, 1, 0, 3, 3, 0, 3, 0, 1, 1, 0, 3,
-    0, 3, 3, 0, 1, 1, 0, 3, 1, 1, 3, 0, 1, 1, 0, 3, 3, 0, 3, 0, 1, 1, 0, 3, 3, 0, 3, 0, 1, 1, 0, 3,
-    0, 3, 0, 3, 3, 0, 0, 3, 1, 1, 0, 3, 3, 0, 0, 3, 3, 0, 0, 3, 3, 0, 0, 3, 3, 0, 0, 3, 3, 0, 0, 3,
-    0, 3, 1, 1, 3, 0, 0, 3, 1, 1, 1, 1, 3, 0, 0, 3, 3, 0, 1, 1, 3, 0, 0, 3, 3, 0, 1, 1, 3, 0, 0, 3,
-    0, 3, 3, 0, 3, 0, 0, 3, 1, 1, 3, 0, 3, 0, 0, 3, 3, 0, 3, 0, 3, 0, 0, 3, 3, 0, 3, 0, 3, 0, 0, 3,
-    0, 3, 3, 0, 3, 0, 0, 3, 1, 1, 3, 0, 3, 0, 0, 3, 3, 0, 3, 0, 3, 0, 0, 3, 3, 0, 3, 0, 3, 0, 0, 3,
-    0, 3, 0, 3, 3, 0, 0, 3, 1, 1, 0, 3, 3, 0, 0, 3, 3, 0, 0, 3, 3, 0, 0, 3, 3, 0, 0, 3, 3, 0, 0, 3,
-    0, 3, 1, 1, 3, 0, 0, 3, 1, 1, 1, 1, 3, 0, 0, 3, 3, 0, 1, 1, 3, 0, 0, 3, 3, 0, 1, 1, 3, 0, 0, 3,
-    0, 3, 3, 0, 3, 0, 0, 3, 1, 1, 3, 0, 3, 0, 0, 3, 3, 0, 3, 0, 3, 0, 0, 3, 3, 0, 3, 0, 3, 0, 0, 3,
-    0, 3, 3, 0, 3, 0, 0, 3, 1, 1, 3, 0, 3, 0, 0, 3, 3, 0, 3, 0, 3, 0, 0, 3, 3, 0, 3, 0, 3, 0, 0, 3,
-    0, 3, 0, 3, 0, 3, 1, 1, 1, 1, 0, 3, 0, 3, 1, 1, 3, 0, 0, 3, 0, 3, 1, 1, 3, 0, 0, 3, 0, 3, 1, 1,
-    0, 3, 1, 1, 0, 3, 1, 1, 1, 1, 1, 1, 0, 3, 1, 1, 3, 0, 1, 1, 0, 3, 1, 1, 3, 0, 1, 1, 0, 3, 1, 1,
-    0, 3, 3, 0, 0, 3, 1, 1, 1, 1, 3, 0, 0, 3, 1, 1, 3, 0, 3, 0, 0, 3, 1, 1, 3, 0, 3, 0, 0, 3, 1, 1,
-    0, 3, 3, 0, 0, 3, 1, 1, 1, 1, 3, 0, 0, 3, 1, 1, 3, 0, 3, 0, 0, 3, 1, 1, 3, 0, 3, 0, 0, 3, 1, 1,
-    0, 3, 0, 3, 1, 1, 1, 1, 1, 1, 0, 3, 1, 1, 1, 1, 3, 0, 0, 3, 1, 1, 1, 1, 3, 0, 0, 3, 1, 1, 1, 1,
-    0, 3, 1, 1, 1, 1, 1, 1, 1, 1, 1, 1, 1, 1, 1, 1, 3, 0, 1, 1, 1, 1, 1, 1, 3, 0, 1, 1, 1, 1, 1, 1,
-    0, 3, 3, 0, 1, 1, 1, 1, 1, 1, 3, 0, 1, 1, 1, 1, 3, 0, 3, 0, 1, 1, 1, 1, 3, 0, 3, 0, 1, 1, 1, 1,
-    0, 3, 3, 0, 1, 1, 1, 1, 1, 1, 3, 0, 1, 1, 1, 1, 3, 0, 3, 0, 1, 1, 1, 1, 3, 0, 3, 0, 1, 1, 1, 1,
-    0, 3, 0, 3, 3, 0, 1, 1, 1, 1, 0, 3, 3, 0, 1, 1, 3, 0, 0, 3, 3, 0, 1, 1, 3, 0, 0, 3, 3, 0, 1, 1,
-    0, 3, 1, 1, 3, 0, 1, 1, 1, 1, 1, 1, 3, 0, 1, 1, 3, 0, 1, 1, 3, 0, 1, 1, 3, 0, 1, 1, 3, 0, 1, 1,
-    0, 3, 3, 0, 3, 0, 1, 1, 1, 1, 3, 0, 3, 0, 1, 1, 3, 0, 3, 0, 3, 0, 1, 1, 3, 0, 3, 0, 3, 0, 1, 1,
-    0, 3, 3, 0, 3, 0, 1, 1, 1, 1, 3, 0, 3, 0, 1, 1, 3, 0, 3, 0, 3, 0, 1, 1, 3, 0, 3, 0, 3, 0, 1, 1,
-    0, 3, 0, 3, 3, 0, 1, 1, 1, 1, 0, 3, 3, 0, 1, 1, 3, 0, 0, 3, 3, 0, 1, 1, 3, 0, 0, 3, 3, 0, 1, 1,
-    0, 3, 1, 1, 3, 0, 1, 1, 1, 1, 1, 1, 3, 0, 1, 1, 3, 0, 1, 1, 3, 0, 1, 1, 3, 0, 1, 1, 3, 0, 1, 1,
-    0, 3, 3, 0, 3, 0, 1, 1, 1, 1, 3, 0, 3, 0, 1, 1, 3, 0, 3, 0, 3, 0, 1, 1, 3, 0, 3, 0, 3, 0, 1, 1,
-    0, 3, 3, 0, 3, 0, 1, 1, 1, 1, 3, 0, 3, 0, 1, 1, 3, 0, 3, 0, 3, 0, 1, 1, 3, 0, 3, 0, 3, 0, 1, 1,
-    0, 3, 0, 3, 0, 3, 3, 0, 1, 1, 0, 3, 0, 3, 3, 0, 3, 0, 0, 3, 0, 3, 3, 0, 3, 0, 0, 3, 0, 3, 3, 0,
-    0, 3, 1, 1, 0, 3, 3, 0, 1, 1, 1, 1, 0, 3, 3, 0, 3, 0, 1, 1, 0, 3, 3, 0, 3, 0, 1, 1, 0, 3, 3, 0,
-    0, 3, 3, 0, 0, 3, 3, 0, 1, 1, 3, 0, 0, 3, 3, 0, 3, 0, 3, 0, 0, 3, 3, 0, 3, 0, 3, 0, 0, 3, 3, 0,
-    0, 3, 3, 0, 0, 3, 3, 0, 1, 1, 3, 0, 0, 3, 3, 0, 3, 0, 3, 0, 0, 3, 3, 0, 3, 0, 3, 0, 0, 3, 3, 0,
-    0, 3, 0, 3, 1, 1, 3, 0, 1, 1, 0, 3, 1, 1, 3, 0, 3, 0, 0, 3, 1, 1, 3, 0, 3, 0, 0, 3, 1, 1, 3, 0,
-    0, 3, 1, 1, 1, 1, 3, 0, 1, 1, 1, 1, 1, 1, 3, 0, 3, 0, 1, 1, 1, 1, 3, 0, 3, 0, 1, 1, 1, 1, 3, 0,
-    0, 3, 3, 0, 1, 1, 3, 0, 1, 1, 3, 0, 1, 1, 3, 0, 3, 0, 3, 0, 1, 1, 3, 0, 3, 0, 3, 0, 1, 1, 3, 0,
-    0, 3, 3, 0, 1, 1, 3, 0, 1, 1, 3, 0, 1, 1, 3, 0, 3, 0, 3, 0, 1, 1, 3, 0, 3, 0, 3, 0, 1, 1, 3, 0,
-    0, 3, 0, 3, 3, 0, 3, 0, 1, 1, 0, 3, 3, 0, 3, 0, 3, 0, 0, 3, 3, 0, 3, 0, 3, 0, 0, 3, 3, 0, 3, 0,
-    0, 3, 1, 1, 3, 0, 3, 0, 1, 1, 1, 1, 3, 0, 3, 0, 3, 0, 1, 1, 3, 0, 3, 0, 3, 0, 1, 1, 3, 0, 3, 0,
-    0, 3, 3, 0, 3, 0, 3, 0, 1, 1, 3, 0, 3, 0, 3, 0, 3, 0, 3, 0, 3, 0, 3, 0, 3, 0, 3, 0, 3, 0, 3, 0,
-    0, 3, 3, 0, 3, 0, 3, 0, 1, 1, 3, 0, 3, 0, 3, 0, 3, 0, 3, 0, 3, 0, 3, 0, 3, 0, 3, 0, 3, 0, 3, 0,
-    0, 3, 0, 3, 3, 0, 3, 0, 1, 1, 0, 3, 3, 0, 3, 0, 3, 0, 0, 3, 3, 0, 3, 0, 3, 0, 0, 3, 3, 0, 3, 0,
-    0, 3, 1, 1, 3, 0, 3, 0, 1, 1, 1, 1, 3, 0, 3, 0, 3, 0, 1, 1, 3, 0, 3, 0, 3, 0, 1, 1, 3, 0, 3, 0,
-    0, 3, 3, 0, 3, 0, 3, 0, 1, 1, 3, 0, 3, 0, 3, 0, 3, 0, 3, 0, 3, 0, 3, 0, 3, 0, 3, 0, 3, 0, 3, 0,
-    0, 3, 3, 0, 3, 0, 3, 0, 1, 1, 3, 0, 3, 0, 3, 0, 3, 0, 3, 0, 3, 0, 3, 0, 3, 0, 3, 0, 3, 0, 3, 0,
-    0, 3, 0, 3, 0, 3, 3, 0, 1, 1, 0, 3, 0, 3, 3, 0, 3, 0, 0, 3, 0, 3, 3, 0, 3, 0, 0, 3, 0, 3, 3, 0,
-    0, 3, 1, 1, 0, 3, 3, 0, 1, 1, 1, 1, 0, 3, 3, 0, 3, 0, 1, 1, 0, 3, 3, 0, 3, 0, 1, 1, 0, 3, 3, 0,
-    0, 3, 3, 0, 0, 3, 3, 0, 1, 1, 3, 0, 0, 3, 3, 0, 3, 0, 3, 0, 0, 3, 3, 0, 3, 0, 3, 0, 0, 3, 3, 0,
-    0, 3, 3, 0, 0, 3, 3, 0, 1, 1, 3, 0, 0, 3, 3, 0, 3, 0, 3, 0, 0, 3, 3, 0, 3, 0, 3, 0, 0, 3, 3, 0,
-    0, 3, 0, 3, 1, 1, 3, 0, 1, 1, 0, 3, 1, 1, 3, 0, 3, 0, 0, 3, 1, 1, 3, 0, 3, 0, 0, 3, 1, 1, 3, 0,
-    0, 3, 1, 1, 1, 1, 3, 0, 1, 1, 1, 1, 1, 1, 3, 0, 3, 0, 1, 1, 1, 1, 3, 0, 3, 0, 1, 1, 1, 1, 3, 0,
-    0, 3, 3, 0, 1, 1, 3, 0, 1, 1, 3, 0, 1, 1, 3, 0, 3, 0, 3, 0, 1, 1, 3, 0, 3, 0, 3, 0, 1, 1, 3, 0,
-    0, 3, 3, 0, 1, 1, 3, 0, 1, 1, 3, 0, 1, 1, 3, 0, 3, 0, 3, 0, 1, 1, 3, 0, 3, 0, 3, 0, 1, 1, 3, 0,
-    0, 3, 0, 3, 3, 0, 3, 0, 1, 1, 0, 3, 3, 0, 3, 0, 3, 0, 0, 3, 3, 0, 3, 0, 3, 0, 0, 3, 3, 0, 3, 0,
-    0, 3, 1, 1, 3, 0, 3, 0, 1, 1, 1, 1, 3, 0, 3, 0, 3, 0, 1, 1, 3, 0, 3, 0, 3, 0, 1, 1, 3, 0, 3, 0,
-    0, 3, 3, 0, 3, 0, 3, 0, 1, 1, 3, 0, 3, 0, 3, 0, 3, 0, 3, 0, 3, 0, 3, 0, 3, 0, 3, 0, 3, 0, 3, 0,
-    0, 3, 3, 0, 3, 0, 3, 0, 1, 1, 3, 0, 3, 0, 3, 0, 3, 0, 3, 0, 3, 0, 3, 0, 3, 0, 3, 0, 3, 0, 3, 0,
-    0, 3, 0, 3, 3, 0, 3, 0, 1, 1, 0, 3, 3, 0, 3, 0, 3, 0, 0, 3, 3, 0, 3, 0, 3, 0, 0, 3, 3, 0, 3, 0,
-    0, 3, 1, 1, 3, 0, 3, 0, 1, 1, 1, 1, 3, 0, 3, 0, 3, 0, 1, 1, 3, 0, 3, 0, 3, 0, 1, 1, 3, 0, 3, 0,
-    0, 3, 3, 0, 3, 0, 3, 0, 1, 1, 3, 0, 3, 0, 3, 0, 3, 0, 3, 0, 3, 0, 3, 0, 3, 0, 3, 0, 3, 0, 3, 0,
-    0, 3, 3, 0, 3, 0, 3, 0, 1, 1, 3, 0, 3, 0, 3, 0, 3, 0, 3, 0, 3, 0, 3, 0, 3, 0, 3, 0, 3, 0, 3, 0,
+/// The codes of four cells by four bits of ones and four of zeros: of each cell its own and that of its negation.
+const GROUP_CODES: [u8; 2048] = [
+    1, 1, 1, 1, 1, 1, 1, 1, 3, 0, 1, 1, 1, 1, 1, 1, 1, 1, 3, 0, 1, 1, 1, 1, 3, 0, 3, 0, 1, 1, 1, 1,
+    1, 1, 1, 1, 3, 0, 1, 1, 3, 0, 1, 1, 3, 0, 1, 1, 1, 1, 3, 0, 3, 0, 1, 1, 3, 0, 3, 0, 3, 0, 1, 1,
+    1, 1, 1, 1, 1, 1, 3, 0, 3, 0, 1, 1, 1, 1, 3, 0, 1, 1, 3, 0, 1, 1, 3, 0, 3, 0, 3, 0, 1, 1, 3, 0,
+    1, 1, 1, 1, 3, 0, 3, 0, 3, 0, 1, 1, 3, 0, 3, 0, 1, 1, 3, 0, 3, 0, 3, 0, 3, 0, 3, 0, 3, 0, 3, 0,
+    0, 3, 1, 1, 1, 1, 1, 1, 3, 0, 1, 1, 1, 1, 1, 1, 0, 3, 3, 0, 1, 1, 1, 1, 3, 0, 3, 0, 1, 1, 1, 1,
+    0, 3, 1, 1, 3, 0, 1, 1, 3, 0, 1, 1, 3, 0, 1, 1, 0, 3, 3, 0, 3, 0, 1, 1, 3, 0, 3, 0, 3, 0, 1, 1,
+    0, 3, 1, 1, 1, 1, 3, 0, 3, 0, 1, 1, 1, 1, 3, 0, 0, 3, 3, 0, 1, 1, 3, 0, 3, 0, 3, 0, 1, 1, 3, 0,
+    0, 3, 1, 1, 3, 0, 3, 0, 3, 0, 1, 1, 3, 0, 3, 0, 0, 3, 3, 0, 3, 0, 3, 0, 3, 0, 3, 0, 3, 0, 3, 0,
+    1, 1, 0, 3, 1, 1, 1, 1, 3, 0, 0, 3, 1, 1, 1, 1, 1, 1, 3, 0, 1, 1, 1, 1, 3, 0, 3, 0, 1, 1, 1, 1,
+    1, 1, 0, 3, 3, 0, 1, 1, 3, 0, 0, 3, 3, 0, 1, 1, 1, 1, 3, 0, 3, 0, 1, 1, 3, 0, 3, 0, 3, 0, 1, 1,
+    1, 1, 0, 3, 1, 1, 3, 0, 3, 0, 0, 3, 1, 1, 3, 0, 1, 1, 3, 0, 1, 1, 3, 0, 3, 0, 3, 0, 1, 1, 3, 0,
+    1, 1, 0, 3, 3, 0, 3, 0, 3, 0, 0, 3, 3, 0, 3, 0, 1, 1, 3, 0, 3, 0, 3, 0, 3, 0, 3, 0, 3, 0, 3, 0,
+    0, 3, 0, 3, 1, 1, 1, 1, 3, 0, 0, 3, 1, 1, 1, 1, 0, 3, 3, 0, 1, 1, 1, 1, 3, 0, 3, 0, 1, 1, 1, 1,
+    0, 3, 0, 3, 3, 0, 1, 1, 3, 0, 0, 3, 3, 0, 1, 1, 0, 3, 3, 0, 3, 0, 1, 1, 3, 0, 3, 0, 3, 0, 1, 1,
+    0, 3, 0, 3, 1, 1, 3, 0, 3, 0, 0, 3, 1, 1, 3, 0, 0, 3, 3, 0, 1, 1, 3, 0, 3, 0, 3, 0, 1, 1, 3, 0,
+    0, 3, 0, 3, 3, 0, 3, 0, 3, 0, 0, 3, 3, 0, 3, 0, 0, 3, 3, 0, 3, 0, 3, 0, 3, 0, 3, 0, 3, 0, 3, 0,
+    1, 1, 1, 1, 0, 3, 1, 1, 3, 0, 1, 1, 0, 3, 1, 1, 1, 1, 3, 0, 0, 3, 1, 1, 3, 0, 3, 0, 0, 3, 1, 1,
+    1, 1, 1, 1, 3, 0, 1, 1, 3, 0, 1, 1, 3, 0, 1, 1, 1, 1, 3, 0, 3, 0, 1, 1, 3, 0, 3, 0, 3, 0, 1, 1,
+    1, 1, 1, 1, 0, 3, 3, 0, 3, 0, 1, 1, 0, 3, 3, 0, 1, 1, 3, 0, 0, 3, 3, 0, 3, 0, 3, 0, 0, 3, 3, 0,
+    1, 1, 1, 1, 3, 0, 3, 0, 3, 0, 1, 1, 3, 0, 3, 0, 1, 1, 3, 0, 3, 0, 3, 0, 3, 0, 3, 0, 3, 0, 3, 0,
+    0, 3, 1, 1, 0, 3, 1, 1, 3, 0, 1, 1, 0, 3, 1, 1, 0, 3, 3, 0, 0, 3, 1, 1, 3, 0, 3, 0, 0, 3, 1, 1,
+    0, 3, 1, 1, 3, 0, 1, 1, 3, 0, 1, 1, 3, 0, 1, 1, 0, 3, 3, 0, 3, 0, 1, 1, 3, 0, 3, 0, 3, 0, 1, 1,
+    0, 3, 1, 1, 0, 3, 3, 0, 3, 0, 1, 1, 0, 3, 3, 0, 0, 3, 3, 0, 0, 3, 3, 0, 3, 0, 3, 0, 0, 3, 3, 0,
+    0, 3, 1, 1, 3, 0, 3, 0, 3, 0, 1, 1, 3, 0, 3, 0, 0, 3, 3, 0, 3, 0, 3, 0, 3, 0, 3, 0, 3, 0, 3, 0,
+    1, 1, 0, 3, 0, 3, 1, 1, 3, 0, 0, 3, 0, 3, 1, 1, 1, 1, 3, 0, 0, 3, 1, 1, 3, 0, 3, 0, 0, 3, 1, 1,
+    1, 1, 0, 3, 3, 0, 1, 1, 3, 0, 0, 3, 3, 0, 1, 1, 1, 1, 3, 0, 3, 0, 1, 1, 3, 0, 3, 0, 3, 0, 1, 1,
+    1, 1, 0, 3, 0, 3, 3, 0, 3, 0, 0, 3, 0, 3, 3, 0, 1, 1, 3, 0, 0, 3, 3, 0, 3, 0, 3, 0, 0, 3, 3, 0,
+    1, 1, 0, 3, 3, 0, 3, 0, 3, 0, 0, 3, 3, 0, 3, 0, 1, 1, 3, 0, 3, 0, 3, 0, 3, 0, 3, 0, 3, 0, 3, 0,
+    0, 3, 0, 3, 0, 3, 1, 1, 3, 0, 0, 3, 0, 3, 1, 1, 0, 3, 3, 0, 0, 3, 1, 1, 3, 0, 3, 0, 0, 3, 1, 1,
+    0, 3, 0, 3, 3, 0, 1, 1, 3, 0, 0, 3, 3, 0, 1, 1, 0, 3, 3, 0, 3, 0, 1, 1, 3, 0, 3, 0, 3, 0, 1, 1,
+    0, 3, 0, 3, 0, 3, 3, 0, 3, 0, 0, 3, 0, 3, 3, 0, 0, 3, 3, 0, 0, 3, 3, 0, 3, 0, 3, 0, 0, 3, 3, 0,
+    0, 3, 0, 3, 3, 0, 3, 0, 3, 0, 0, 3, 3, 0, 3, 0, 0, 3, 3, 0, 3, 0, 3, 0, 3, 0, 3, 0, 3, 0, 3, 0,
+    1, 1, 1, 1, 1, 1, 0, 3, 3, 0, 1, 1, 1, 1, 0, 3, 1, 1, 3, 0, 1, 1, 0, 3, 3, 0, 3, 0, 1, 1, 0, 3,
+    1, 1, 1, 1, 3, 0, 0, 3, 3, 0, 1, 1, 3, 0, 0, 3, 1, 1, 3, 0, 3, 0, 0, 3, 3, 0, 3, 0, 3, 0, 0, 3,
+    1, 1, 1, 1, 1, 1, 3, 0, 3, 0, 1, 1, 1, 1, 3, 0, 1, 1, 3, 0, 1, 1, 3, 0, 3, 0, 3, 0, 1, 1, 3, 0,
+    1, 1, 1, 1, 3, 0, 3, 0, 3, 0, 1, 1, 3, 0, 3, 0, 1, 1, 3, 0, 3, 0, 3, 0, 3, 0, 3, 0, 3, 0, 3, 0,
+    0, 3, 1, 1, 1, 1, 0, 3, 3, 0, 1, 1, 1, 1, 0, 3, 0, 3, 3, 0, 1, 1, 0, 3, 3, 0, 3, 0, 1, 1, 0, 3,
+    0, 3, 1, 1, 3, 0, 0, 3, 3, 0, 1, 1, 3, 0, 0, 3, 0, 3, 3, 0, 3, 0, 0, 3, 3, 0, 3, 0, 3, 0, 0, 3,
+    0, 3, 1, 1, 1, 1, 3, 0, 3, 0, 1, 1, 1, 1, 3, 0, 0, 3, 3, 0, 1, 1, 3, 0, 3, 0, 3, 0, 1, 1, 3, 0,
+    0, 3, 1, 1, 3, 0, 3, 0, 3, 0, 1, 1, 3, 0, 3, 0, 0, 3, 3, 0, 3, 0, 3, 0, 3, 0, 3, 0, 3, 0, 3, 0,
+    1, 1, 0, 3, 1, 1, 0, 3, 3, 0, 0, 3, 1, 1, 0, 3, 1, 1, 3, 0, 1, 1, 0, 3, 3, 0, 3, 0, 1, 1, 0, 3,
+    1, 1, 0, 3, 3, 0, 0, 3, 3, 0, 0, 3, 3, 0, 0, 3, 1, 1, 3, 0, 3, 0, 0, 3, 3, 0, 3, 0, 3, 0, 0, 3,
+    1, 1, 0, 3, 1, 1, 3, 0, 3, 0, 0, 3, 1, 1, 3, 0, 1, 1, 3, 0, 1, 1, 3, 0, 3, 0, 3, 0, 1, 1, 3, 0,
+    1, 1, 0, 3, 3, 0, 3, 0, 3, 0, 0, 3, 3, 0, 3, 0, 1, 1, 3, 0, 3, 0, 3, 0, 3, 0, 3, 0, 3, 0, 3, 0,
+    0, 3, 0, 3, 1, 1, 0, 3, 3, 0, 0, 3, 1, 1, 0, 3, 0, 3, 3, 0, 1, 1, 0, 3, 3, 0, 3, 0, 1, 1, 0, 3,
+    0, 3, 0, 3, 3, 0, 0, 3, 3, 0, 0, 3, 3, 0, 0, 3, 0, 3, 3, 0, 3, 0, 0, 3, 3, 0, 3, 0, 3, 0, 0, 3,
+    0, 3, 0, 3, 1, 1, 3, 0, 3, 0, 0, 3, 1, 1, 3, 0, 0, 3, 3, 0, 1, 1, 3, 0, 3, 0, 3, 0, 1, 1, 3, 0,
+    0, 3, 0, 3, 3, 0, 3, 0, 3, 0, 0, 3, 3, 0, 3, 0, 0, 3, 3, 0, 3, 0, 3, 0, 3, 0, 3, 0, 3, 0, 3, 0,
+    1, 1, 1, 1, 0, 3, 0, 3, 3, 0, 1, 1, 0, 3, 0, 3, 1, 1, 3, 0, 0, 3, 0, 3, 3, 0, 3, 0, 0, 3, 0, 3,
+    1, 1, 1, 1, 3, 0, 0, 3, 3, 0, 1, 1, 3, 0, 0, 3, 1, 1, 3, 0, 3, 0, 0, 3, 3, 0, 3, 0, 3, 0, 0, 3,
+    1, 1, 1, 1, 0, 3, 3, 0, 3, 0, 1, 1, 0, 3, 3, 0, 1, 1, 3, 0, 0, 3, 3, 0, 3, 0, 3, 0, 0, 3, 3, 0,
+    1, 1, 1, 1, 3, 0, 3, 0, 3, 0, 1, 1, 3, 0, 3, 0, 1, 1, 3, 0, 3, 0, 3, 0, 3, 0, 3, 0, 3, 0, 3, 0,
+    0, 3, 1, 1, 0, 3, 0, 3, 3, 0, 1, 1, 0, 3, 0, 3, 0, 3, 3, 0, 0, 3, 0, 3, 3, 0, 3, 0, 0, 3, 0, 3,
+    0, 3, 1, 1, 3, 0, 0, 3, 3, 0, 1, 1, 3, 0, 0, 3, 0, 3, 3, 0, 3, 0, 0, 3, 3, 0, 3, 0, 3, 0, 0, 3,
+    0, 3, 1, 1, 0, 3, 3, 0, 3, 0, 1, 1, 0, 3, 3, 0, 0, 3, 3, 0, 0, 3, 3, 0, 3, 0, 3, 0, 0, 3, 3, 0,
+    0, 3, 1, 1, 3, 0, 3, 0, 3, 0, 1, 1, 3, 0, 3, 0, 0, 3, 3, 0, 3, 0, 3, 0, 3, 0, 3, 0, 3, 0, 3, 0,
+    1, 1, 0, 3, 0, 3, 0, 3, 3, 0, 0, 3, 0, 3, 0, 3, 1, 1, 3, 0, 0, 3, 0, 3, 3, 0, 3, 0, 0, 3, 0, 3,
+    1, 1, 0, 3, 3, 0, 0, 3, 3, 0, 0, 3, 3, 0, 0, 3, 1, 1, 3, 0, 3, 0, 0, 3, 3, 0, 3, 0, 3, 0, 0, 3,
+    1, 1, 0, 3, 0, 3, 3, 0, 3, 0, 0, 3, 0, 3, 3, 0, 1, 1, 3, 0, 0, 3, 3, 0, 3, 0, 3, 0, 0, 3, 3, 0,
+    1, 1, 0, 3, 3, 0, 3, 0, 3, 0, 0, 3, 3, 0, 3, 0, 1, 1, 3, 0, 3, 0, 3, 0, 3, 0, 3, 0, 3, 0, 3, 0,
+    0, 3, 0, 3, 0, 3, 0, 3, 3, 0, 0, 3, 0, 3, 0, 3, 0, 3, 3, 0, 0, 3, 0, 3, 3, 0, 3, 0, 0, 3, 0, 3,
+    0, 3, 0, 3, 3, 0, 0, 3, 3, 0, 0, 3, 3, 0, 0, 3, 0, 3, 3, 0, 3, 0, 0, 3, 3, 0, 3, 0, 3, 0, 0, 3,
+    0, 3, 0, 3, 0, 3, 3, 0, 3, 0, 0, 3, 0, 3, 3, 0, 0, 3, 3, 0, 0, 3, 3, 0, 3, 0, 3, 0, 0, 3, 3, 0,
+    0, 3, 0, 3, 3, 0, 3, 0, 3, 0, 0, 3, 3, 0, 3, 0, 0, 3, 3, 0, 3, 0, 3, 0, 3, 0, 3, 0, 3, 0, 3, 0,
 ];
 
-/// A code of a word: at an even place that of a cell, and after it that of its negation.
-pub fn code_in(word: u8, place: usize) -> Code
-    requires { place < 8 }
-    ensures { result ≡ slice_index_or (by_literal (values_of word)) place X }
+// Writes the codes of four cells from a place on.
+fn unpack_group(codes: &mut [Code], from: usize, group: usize)
+    requires group { group < 256 }
+    requires room { from + 8 ≤ length codes.old }
+    ensures there { (k : ℕ) → k < 8
+        → slice_index_or codes.new (from + k) X ≡ signed_value (group_value group (k / 2)) k }
+    ensures before { (k : ℕ) → k < from → slice_index_or codes.new k X ≡ slice_index_or codes.old k X }
 {
-    Code::of_bits(WORD_CODES[CODES * word as usize + place])
+    for place in 0..GROUP {
+        codes[from + place] = Code::of_bits(GROUP_CODES[GROUP * group + place]);
+    }
 }
 
-// Writes the codes of a word.
-fn unpack_word(codes: &mut [Code], word: u8)
-    requires { length codes.old ≡ 8 }
-    ensures { codes.new ≡ by_literal (values_of word) }
+// Writes the codes of 32 cells from a place on, four cells at a time.
+fn unpack_known(codes: &mut [Code], from: usize, bits: u64)
+    requires { from + 64 ≤ length codes.old }
+    ensures there { (k : ℕ) → k < 64
+        → slice_index_or codes.new (from + k) X ≡ signed_value (value_in bits (k / 2)) k }
+    ensures before { (k : ℕ) → k < from → slice_index_or codes.new k X ≡ slice_index_or codes.old k X }
+{
+    let mut rest = bits;
+    for group in 0..GROUP {
+        unpack_group(codes, from + GROUP * group, group_of(rest));
+        rest /= 16;
+    }
+}
+
+// Writes the codes of 32 cells of x from a place on.
+fn unpack_unknown(codes: &mut [Code], from: usize)
+    requires { from + 64 ≤ length codes.old }
+    ensures there { (k : ℕ) → k < 64 → slice_index_or codes.new (from + k) X ≡ X }
+    ensures before { (k : ℕ) → k < from → slice_index_or codes.new k X ≡ slice_index_or codes.old k X }
 {
     for place in 0..CODES {
-        codes[place] = code_in(word, place);
+        codes[from + place] = Code::of(Tern::X);
+    }
+}
+
+// Writes the codes of 32 cells from a place on. In a new frame most words have x alone.
+fn unpack_word(codes: &mut [Code], from: usize, bits: u64)
+    requires { from + 64 ≤ length codes.old }
+    ensures there { (k : ℕ) → k < 64
+        → slice_index_or codes.new (from + k) X ≡ signed_value (value_in bits (k / 2)) k }
+    ensures before { (k : ℕ) → k < from → slice_index_or codes.new k X ≡ slice_index_or codes.old k X }
+{
+    if bits == 0 {
+        unpack_unknown(codes, from);
+    } else {
+        unpack_known(codes, from, bits);
     }
 }
 
 // Writes the codes of words.
-fn unpack(codes: &mut [Code], words: &[u8])
-    requires { length codes.old ≡ 8 * length words.now }
+fn unpack(codes: &mut [Code], words: &[u64])
+    requires { length codes.old ≡ 64 * length words.now }
     ensures { codes.new ≡ by_literal (spelled words.now) }
 {
-    for (place, word) in words.iter().enumerate() {
-        unpack_word(&mut codes[CODES * place..CODES * place + CODES], *word);
+    for place in 0..words.len() {
+        unpack_word(codes, CODES * place, bits_from(words, CELLS * place));
     }
 }
 
@@ -130,56 +161,35 @@ fn sweep_codes(codes: &mut [Code], gates: &[Gate])
     }
 }
 
-// The bits of the cells of codes, those of the first cell lowest.
-fn packed(codes: &[Code]) -> u64
-    requires { length codes.now ≤ 64 }
-    ensures { (place : ℕ) → place < length codes.now / 2
-        → bits_at result place ≡ bits_of (slice_index_or codes.now (2 * place) X) }
+// The bits of 32 cells by their codes from a place on.
+fn packed(codes: &[Code], from: usize) -> u64
+    requires { from + 64 ≤ length codes.now }
+    ensures one { (k : ℕ) → k < 32 → bit_at result k ≡ one_of (slice_index_or codes.now (from + 2 * k) X) }
+    ensures zero { (k : ℕ) → k < 32 → bit_at result (32 + k) ≡ zero_of (slice_index_or codes.now (from + 2 * k) X) }
 {
-    let cells = codes.len() / 2;
     let mut word = 0;
-    for place in 0..cells {
-        word = 4 * word + codes[2 * (cells - 1 - place)].bits() as u64;
+    for place in 0..CELLS {
+        word = 2 * word + spread(codes[from + 2 * (CELLS - 1 - place)]);
     }
     word
 }
 
-// Writes the words that have these bits, from a place on.
-fn put_group(words: &mut [u8], first: usize, bits: u64)
-    requires { first + 8 ≤ length words.old }
-    ensures there { (k : ℕ) → k < 8 → slice_index words.new (first + k) ≡ bits / 2 ^ (8 * k) % 256 }
-    ensures before { (k : ℕ) → k < first → slice_index words.new k ≡ slice_index words.old k }
-{
-    let mut rest = bits;
-    for place in 0..GROUP {
-        words[first + place] = (rest % 256) as u8;
-        rest /= 256;
-    }
-}
-
-// Writes the words of codes: eight at once, which is faster, and the last ones one by one.
-fn pack(words: &mut [u8], codes: &[Code])
-    requires { length codes.now ≡ 8 * length words.old }
-    ensures whole { All IsWhole words.new }
+// Writes the words of codes.
+fn pack(words: &mut [u64], codes: &[Code])
+    requires { length codes.now ≡ 64 * length words.old }
+    ensures whole { AreWhole words.new }
     ensures cells { (row : List Tern) → codes.now ≡ by_literal row → spelled words.new ≡ row }
 {
-    let groups = words.len() / GROUP;
-    for group in 0..groups {
-        let first = GROUP * group;
-        let bits = packed(&codes[CODES * first..CODES * first + 64]);
-        put_group(words, first, bits);
-    }
-    for place in GROUP * groups..words.len() {
-        let bits = packed(&codes[CODES * place..CODES * place + CODES]);
-        words[place] = (bits % 256) as u8;
+    for place in 0..words.len() {
+        words[place] = packed(codes, CODES * place).rotate_right((CELLS * (place % 2)) as u32);
     }
 }
 
 /// Evaluates gates one after the other, in the order of the slice: in codes by literal, which are memory to work in.
-pub fn sweep_words(words: &mut [u8], codes: &mut [Code], gates: &[Gate])
-    requires room { length codes.old ≡ 8 * length words.old }
-    requires gates { All (HasVariablesBelow (4 * length words.old)) gates.now }
-    ensures whole { All IsWhole words.new }
+pub fn sweep_words(words: &mut [u64], codes: &mut [Code], gates: &[Gate])
+    requires room { length codes.old ≡ 64 * length words.old }
+    requires gates { All (HasVariablesBelow (32 * length words.old)) gates.now }
+    ensures whole { AreWhole words.new }
     ensures cells { spelled words.new ≡ fold with_gate_value (spelled words.old) gates.now }
 {
     unpack(codes, words);

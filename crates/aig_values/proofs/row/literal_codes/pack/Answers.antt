@@ -1,36 +1,19 @@
-use Rattle.std.proofs.Common.{◌≡◌, ◌+◌, ◌-◌, ◌*◌, ◌%◌, ◌≤◌, List, length, take, drop, refl, subst, arith}
-use Rattle.std.proofs.lemmas.List.{length-drop, length-take-le}
-use Rattle.aig_parts.specs.declared.ternary.Tern.{Tern}
-use Rattle.aig_values.proofs.LiteralLemmas.{ArePacked, packed_more, packed_row, packed_whole, packed_word}
+use Rattle.std.proofs.Common.{◌+◌, ◌*◌, ◌%◌, set, refl, sym, subst, arith}
+use Rattle.aig_values.proofs.LiteralLemmas.{HaveCells, cells_more, packed_row, packed_whole}
 use Rattle.aig_values.proofs.row.literal_codes.pack.Goals as goal
 
-pub loop-group-preserved : goal.loop-group-preserved
-loop-group-preserved c =
-    let codes = c.args.codes.now in
-    let first = 8 * c.loop-group.group in
-    let part : List Tern = take (8 * first + 64 - 8 * first) (drop (8 * first) codes) in
-    let rest = length-drop (8 * first) codes in
-    let within : 8 * first + 64 ≤ length codes = omega (arith, c.requires, c.loop-group-test.true) in
-    let size : length part ≡ 64 =
-    omega (arith, length-take-le (8 * first + 64 - 8 * first) (drop (8 * first) codes) (omega (arith, rest, within))) in
-    let next : first + 8 ≡ 8 * (c.loop-group.group + 1) = omega arith in
-    subst (ArePacked c.put_group.new.words codes) next
-    (packed_more c.loop-group.words c.put_group.new.words codes part first 8 c.packed-bits.result c.loop-group.invariant
-    c.put_group.ensures.there c.put_group.ensures.before refl size c.packed-bits.ensures)
+pub loop-place-init : goal.loop-place-init
+loop-place-init c = record { of_one = λ v lt. absurd (omega arith); of_zero = λ v lt. absurd (omega arith) }
 
 pub loop-place-preserved : goal.loop-place-preserved
 loop-place-preserved c =
-    let codes = c.args.codes.now in
-    let n = c.loop-place.place in
     let words = c.loop-place.words in
-    let part : List Tern = take (8 * n + 8 - 8 * n) (drop (8 * n) codes) in
-    let rest = length-drop (8 * n) codes in
-    let within : 8 * n + 8 ≤ length codes = omega (arith, c.requires, c.loop-place-test.true) in
-    let size : length part ≡ 8 =
-    omega (arith, length-take-le (8 * n + 8 - 8 * n) (drop (8 * n) codes) (omega (arith, rest, within))) in
-    packed_word words codes part n c.packed-bits-in-loop-place.result (c.packed-bits-in-loop-place.result % 256)
-    c.loop-place.invariant (omega (arith, c.loop-place.auto.words, c.loop-place-test.true)) refl refl size
-    c.packed-bits-in-loop-place.ensures
+    let codes = c.args.codes.now in
+    let place = c.loop-place.place in
+    subst (λ word. HaveCells (set words place word) codes (place + 1)) (sym c.rotate_right.ensures)
+    (cells_more words codes place c.packed.result (32 * (place % 2))
+    (omega (arith, c.loop-place-test.true, c.loop-place.auto.words)) c.packed.type_inv refl c.loop-place.invariant
+    c.packed.ensures.one c.packed.ensures.zero)
 
 pub returns-clause-whole : goal.returns-clause-whole
 returns-clause-whole c =

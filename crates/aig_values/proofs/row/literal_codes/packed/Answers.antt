@@ -1,44 +1,33 @@
-use Rattle.std.proofs.Common.{◌≡◌, ◌+◌, ◌-◌, ◌*◌, ◌/◌, ◌<◌, get_or, length, sym, ap, ◌∙◌, subst, arith}
-use Rattle.aig_parts.specs.declared.ternary.Tern.TheVariants.{X}
-use Rattle.aig_values.specs.Codes.{bits_of}
-use Rattle.aig_values.specs.state.Words.{bits_at}
-use Rattle.aig_values.proofs.LiteralLemmas.{packed_cell}
-use Rattle.aig_values.proofs.WordBits.{bits_small, longer_fits}
+use Rattle.std.proofs.Common.{arith}
+use Rattle.aig_values.proofs.LiteralLemmas.{none_packed, packed_fits, packed_more, packed_one, packed_zero, twice_fits}
 use Rattle.aig_values.proofs.row.literal_codes.packed.Goals as goal
+
+pub loop-place-init : goal.loop-place-init
+loop-place-init c = none_packed c.args.codes.now c.args.from
 
 pub overflow_mul-word : goal.overflow_mul-word
 overflow_mul-word c =
-    let h = longer_fits c.loop-place.word 0 (omega arith) c.loop-place.place (omega (arith, c.requires, c.loop-place-test.true))
-    c.loop-place.invariant.fits in
-    omega (arith, h.0)
+    let h = twice_fits c.args.codes.now c.args.from c.loop-place.place c.loop-place.word c.loop-place-test.true
+    c.loop-place.invariant in
+    omega (arith, h)
 
 pub overflow_add-word : goal.overflow_add-word
 overflow_add-word c =
-    let small = subst (λ b. b < 4) (sym c.bits.ensures) (bits_small c.index-codes-cells.result) in
-    let h = longer_fits c.loop-place.word c.bits.result small c.loop-place.place (omega (arith, c.requires, c.loop-place-test.true))
-    c.loop-place.invariant.fits in
-    omega (arith, h.0)
+    let h = packed_fits c.args.codes.now c.args.from c.loop-place.place c.loop-place.word c.index-codes-from.result
+    c.loop-place-test.true c.requires c.index-codes-from.is c.loop-place.invariant c.spread.result c.spread.ensures in
+    omega (arith, h)
 
 pub loop-place-preserved : goal.loop-place-preserved
 loop-place-preserved c =
-    let word = c.loop-place.word in
-    let place = c.loop-place.place in
-    let codes = c.args.codes.now in
-    let cells = length codes / 2 in
-    let x = c.index-codes-cells.result in
-    let small = subst (λ b. b < 4) (sym c.bits.ensures) (bits_small x) in
-    let h = longer_fits word c.bits.result small place (omega (arith, c.requires, c.loop-place-test.true)) c.loop-place.invariant.fits in
-    record {
-      fits = h.1;
-      cells = λ q below. subst (λ b. bits_at (4 * word + b) q ≡ bits_of (get_or codes (2 * (cells - (place + 1) + q)) X)) (sym c.bits.ensures)
-          (packed_cell codes word place cells x (omega (arith, c.loop-place-test.true)) (omega arith) c.index-codes-cells.is
-          c.loop-place.invariant.cells q below);
-    }
+    packed_more c.args.codes.now c.args.from c.loop-place.place c.loop-place.word c.index-codes-from.result
+    c.loop-place-test.true c.requires c.index-codes-from.is c.loop-place.invariant c.spread.result c.spread.ensures
 
-pub returns : goal.returns
-returns c place lt =
-    let codes = c.args.codes.now in
-    let i : 2 * (length codes / 2 - c.loop-place.place + place) ≡ 2 * place =
-    omega (arith, c.loop-place-test.false, c.loop-place.auto.place-end) in
-    c.loop-place.invariant.cells place (omega (arith, lt, c.loop-place-test.false))
-    ∙ ap (λ j. bits_of (get_or codes j X)) i
+pub returns-clause-one : goal.returns-clause-one
+returns-clause-one c k lt =
+    packed_one c.args.codes.now c.args.from c.loop-place.place c.loop-place.word
+    (omega (arith, c.loop-place-test.false, c.loop-place.auto.place-end)) c.loop-place.invariant k lt
+
+pub returns-clause-zero : goal.returns-clause-zero
+returns-clause-zero c k lt =
+    packed_zero c.args.codes.now c.args.from c.loop-place.place c.loop-place.word
+    (omega (arith, c.loop-place-test.false, c.loop-place.auto.place-end)) c.loop-place.invariant k lt

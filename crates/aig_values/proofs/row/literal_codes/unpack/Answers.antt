@@ -1,29 +1,24 @@
-use Rattle.std.proofs.Common.{◌≡◌, ◌+◌, ◌*◌, ◌++◌, get_or, length, refl, sym, ap, ap₂, ◌∙◌, arith}
-use Rattle.std.proofs.lemmas.List.{take_all}
-use Rattle.std.proofs.lemmas.Slice.{take-put_mid}
-use Rattle.aig_values.specs.state.LiteralCodes.{by_literal}
+use Rattle.std.proofs.Common.{◌+◌, ◌*◌, refl, ◌∙◌, arith}
+use Rattle.aig_parts.specs.declared.ternary.Tern.TheVariants.{X}
+use Rattle.aig_values.specs.Cells.{literal_value}
 use Rattle.aig_values.specs.state.Words.{spelled}
-use Rattle.aig_values.proofs.LiteralLemmas.{codes_more, length_word_codes}
+use Rattle.aig_values.proofs.LiteralLemmas.{all_codes, word_literal}
+use Rattle.aig_values.proofs.WordText.{piece_next}
 use Rattle.aig_values.proofs.row.literal_codes.unpack.Goals as goal
-
-pub loop-place-init : goal.loop-place-init
-unfolding by_literal spelled
-loop-place-init c = refl
 
 pub loop-place-preserved : goal.loop-place-preserved
 loop-place-preserved c =
     let words = c.args.words.now in
     let i = c.loop-place.place in
-    let size : length c.unpack_word.new.codes ≡ 8 =
-    ap length c.unpack_word.ensures ∙ length_word_codes (get_or words i 0) in
-    take-put_mid (8 * i) _ c.loop-place.codes c.unpack_word.new.codes (8 * (i + 1)) (omega (arith, size))
-    (omega (arith, c.loop-place.auto.codes, c.requires, c.loop-place-test.true))
-    ∙ ap₂ ◌++◌ c.loop-place.invariant c.unpack_word.ensures
-    ∙ sym (codes_more words i c.loop-place-test.true)
+    piece_next X (literal_value (spelled words)) c.loop-place.codes c.unpack_word.new.codes (64 * i) 64 (64 * (i + 1))
+    (omega arith) c.loop-place.invariant
+    (λ k lt. c.unpack_word.ensures.there k lt
+    ∙ word_literal words i c.bits_from.result k (64 * i + k) c.loop-place-test.true lt refl c.bits_from.ensures.one
+    c.bits_from.ensures.zero)
+    c.unpack_word.ensures.before
 
 pub returns : goal.returns
 returns c =
     let words = c.args.words.now in
-    let i = c.loop-place.place in
-    sym (take_all (8 * i) c.loop-place.codes (omega (arith, c.loop-place.auto.codes, c.requires, c.loop-place-test.false)))
-    ∙ c.loop-place.invariant ∙ ap (λ ws. by_literal (spelled ws)) (take_all i words (omega (arith, c.loop-place-test.false)))
+    all_codes words c.loop-place.codes (omega (arith, c.loop-place.auto.codes, c.requires))
+    (λ l lt. c.loop-place.invariant l (omega (arith, c.loop-place-test.false)))

@@ -1,7 +1,8 @@
-use Rattle.std.proofs.Common.{◌≡◌, ◌*◌, take}
-use Rattle.aig_values.specs.state.LiteralCodes.{by_literal}
+use Rattle.std.proofs.Common.{◌≡◌, ℕ, ◌*◌, ◌<◌, get_or}
+use Rattle.aig_parts.specs.declared.ternary.Tern.TheVariants.{X}
+use Rattle.aig_values.specs.Cells.{literal_value}
 use Rattle.aig_values.specs.state.Words.{spelled}
 use Rattle.aig_values.proofs.row.literal_codes.unpack.Given as goal
 
 abbrev pub invariant-loop-place : goal.invariant-loop-place
-invariant-loop-place l = take (8 * l.place) l.codes ≡ by_literal (spelled (take l.place l.words))
+invariant-loop-place l = (k : ℕ) → k < 64 * l.place → get_or l.codes k X ≡ literal_value (spelled l.words) k

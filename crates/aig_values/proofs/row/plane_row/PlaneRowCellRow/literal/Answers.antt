@@ -1,23 +1,34 @@
-use Rattle.std.proofs.Common.{◌≡◌, ◌*◌, ◌/◌, ◌%◌, ◌<◌, length, get_or, ap, ◌∙◌, subst, arith}
-use Rattle.aig_parts.specs.declared.ternary.Tern.TheVariants.{X}
+use Rattle.std.proofs.Common.{◌≡◌, ap, ap₂, sym, ◌∙◌, subst, arith}
+use Rattle.aig_parts.specs.Literal.{variable}
 use Rattle.aig_values.specs.Cells.{literal_value}
-use Rattle.aig_values.specs.state.LiteralCodes.{by_literal}
-use Rattle.aig_values.specs.state.Words.{values_of}
-use Rattle.aig_values.proofs.LiteralLemmas.{literal_of_word}
-use Rattle.aig_values.proofs.WordLemmas.{length-spelled}
+use Rattle.aig_values.specs.state.Words.{spelled, value_of, AreWhole}
+use Rattle.aig_values.proofs.WordLemmas.{cell_within, literal_apart, literal_cell}
 use Rattle.aig_values.proofs.row.plane_row.PlaneRowCellRow.literal.Goals as goal
 
-pub index-requires : goal.index-requires
-index-requires c =
-    omega (arith, c.value-value.ensures, c.requires, ap length c.self.view_is, length-spelled c.self.inside.words.items)
+pub literal_bits-requires : goal.literal_bits-requires
+literal_bits-requires c =
+    cell_within c.deref.result.now c.args.self.now (ap spelled c.deref.ensures.value ∙ c.self.view_is) (variable c.args.literal)
+    c.requires
+
+pub code_of-requires : goal.code_of-requires
+code_of-requires c =
+    let words = c.deref.result.now in
+    let l = c.args.literal in
+    let are : spelled words ≡ c.args.self.now = ap spelled c.deref.ensures.value ∙ c.self.view_is in
+    let whole : AreWhole words = subst AreWhole (sym c.deref.ensures.value) c.self.invariant in
+    omega (
+      arith,
+      c.literal_bits.ensures.one,
+      c.literal_bits.ensures.zero,
+      literal_apart words l whole (cell_within words c.args.self.now are (variable l) c.requires),
+    )
 
 pub returns : goal.returns
 returns c =
-    let words = c.self.inside.words.items in
-    let word = c.index.result.now in
+    let words = c.deref.result.now in
     let l = c.args.literal in
-    let lt : l < 8 * length words = omega (arith, c.requires, ap length c.self.view_is, length-spelled words) in
-    let is : word ≡ get_or words (l / 8) word = subst (λ v. word ≡ get_or words (v / 8) word) c.value-value.ensures c.index.ensures in
-    let code : c.code_in.result ≡ get_or (by_literal (values_of word)) (l % 8) X =
-    subst (λ v. c.code_in.result ≡ get_or (by_literal (values_of word)) (v % 8) X) c.value-value.ensures c.code_in.ensures in
-    literal_of_word words l word c.code_in.result lt is code ∙ ap (λ row. literal_value row l) c.self.view_is
+    let are : spelled words ≡ c.args.self.now = ap spelled c.deref.ensures.value ∙ c.self.view_is in
+    let whole : AreWhole words = subst AreWhole (sym c.deref.ensures.value) c.self.invariant in
+    c.code_of.ensures ∙ ap₂ value_of c.literal_bits.ensures.one c.literal_bits.ensures.zero
+    ∙ literal_cell words l whole (cell_within words c.args.self.now are (variable l) c.requires)
+    ∙ ap (λ row. literal_value row l) are

@@ -1,16 +1,19 @@
-use Rattle.std.proofs.Common.{◌++◌, replicate, List, ap, ◌∙◌, length, arith}
+use Rattle.std.proofs.Common.{◌++◌, replicate, List, ap, ◌∙◌, length, sym, subst, arith}
 use Rattle.aig_parts.specs.declared.ternary.Tern.{Tern}
 use Rattle.aig_parts.specs.declared.ternary.Tern.TheVariants.{X}
-use Rattle.aig_values.specs.state.Words.{spelled}
-use Rattle.aig_values.proofs.WordLemmas.{length-spelled, spelled_more}
+use Rattle.aig_values.specs.state.Words.{spelled, AreWhole}
+use Rattle.aig_values.proofs.WordLemmas.{length-spelled, spelled_more, whole_more}
 use Rattle.aig_values.proofs.row.plane_row.PlaneRowCellRow.make_room.Goals as goal
 
 pub returns-in_ok-push-clause-cells : goal.returns-in_ok-push-clause-cells
 returns-in_ok-push-clause-cells c = (
-  4,
-  ap spelled c.in_ok-push.ensures.items ∙ spelled_more c.self.inside.words.items c.unknown.result c.unknown.ensures.x
-      ∙ ap (λ (row : List Tern). row ++ replicate 4 X) c.self.view_is,
+  32,
+  ap spelled c.in_ok-push.ensures.items ∙ spelled_more c.self.inside.words.items
+      ∙ ap (λ (row : List Tern). row ++ replicate 32 X) c.self.view_is,
 )
+
+pub invariant_of-self : goal.invariant_of-self
+invariant_of-self c = subst AreWhole (sym c.in_ok-push.ensures.items) (whole_more c.self.inside.words.items c.self.invariant)
 
 pub returns-in_ok-push-clause-ok : goal.returns-in_ok-push-clause-ok
 returns-in_ok-push-clause-ok c =

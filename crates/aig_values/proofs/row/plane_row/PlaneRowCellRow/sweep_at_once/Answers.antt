@@ -7,4 +7,4 @@ pub sweep_words-requires-clause-gates : goal.sweep_words-requires-clause-gates
 sweep_words-requires-clause-gates c =
     subst (λ (n : ℕ). All (HasVariablesBelow n) c.args.gates.now)
     (ap length (sym c.self.view_is) ∙ length-spelled c.self.inside.words.items
-    ∙ ap (λ (words : List ℕ). 4 * length words) (sym c.deref_mut.ensures.value)) c.requires
+    ∙ ap (λ (words : List ℕ). 32 * length words) (sym c.deref_mut.ensures.value)) c.requires
