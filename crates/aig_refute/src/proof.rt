@@ -18,7 +18,7 @@ fn add_clause(
     steps: &ProofReader,
     is_hinted: bool,
 ) -> Result<bool, Memory>
-    ensures { KeepsSatisfiable refutation.old refutation.new }
+    ensures { KeepsSatisfiable refutation.old.clauses refutation.new.clauses }
 {
     if is_hinted && !refutation.number_next(steps.number()) {
         return Ok(false);
@@ -32,7 +32,7 @@ fn add_clause(
 
 // Deletes the clause of the step that was read last, or with hints the clauses with its numbers.
 fn delete_clauses(refutation: &mut Refutation, steps: &ProofReader, is_hinted: bool)
-    ensures { Follows refutation.old refutation.new }
+    ensures { Follows refutation.old.clauses refutation.new.clauses }
 {
     if !is_hinted {
         refutation.delete(steps.clause());
@@ -51,7 +51,7 @@ fn take_step(
     is_hinted: bool,
     number: u64,
 ) -> Result<(), ProofFault>
-    ensures keeps { KeepsSatisfiable refutation.old refutation.new }
+    ensures keeps { KeepsSatisfiable refutation.old.clauses refutation.new.clauses }
     ensures count { check_reads_failed result ≡ 0 }
     ensures whole { result ≢ Err ProofFault.NoRefutation }
     ensures adds { (n : ℕ) → result ≡ Err (ProofFault.Step n) → kind ≡ StepKind.Add }
@@ -95,7 +95,7 @@ fn check_steps<R: Read>(
     is_hinted: bool,
 ) -> Result<(), ProofFault>
     requires { steps.old.spelling ≡ None }
-    ensures refuted { OnOk result (IsUnsatisfiable refutation.old) }
+    ensures refuted { OnOk result (IsUnsatisfiable refutation.old.clauses) }
     ensures count { R.failures proof.new ≡ R.failures proof.old + check_reads_failed result }
     ensures whole { (whole : Option (List ℕ)) → BeginsAll steps.old.block whole (R.left proof.old) →
         result ≡ Err ProofFault.NoRefutation → IfSome whole IsProof }

@@ -12,3 +12,6 @@ pub mod StartLemmas
 pub mod ListingLemmas
 pub mod PlacesLemmas
 pub mod RefutationLemmas
+pub mod HintLemmas
+pub mod IdLemmas
+pub mod NumberLemmas

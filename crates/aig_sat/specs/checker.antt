@@ -1,11 +1,15 @@
 pub mod Agreement
+pub mod Basis
 pub mod Clause
 pub mod Consequence
 pub mod Distinct
+pub mod Entries
 pub mod First
+pub mod Hints
 pub mod Holding
 pub mod Knowledge
 pub mod Listing
+pub mod Numbers
 pub mod Standing
 pub mod Visits
 pub mod Words

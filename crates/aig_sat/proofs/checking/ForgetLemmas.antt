@@ -4,7 +4,7 @@ use Rattle.std.proofs.Common.{◌∷◌, ◌++◌}
 use Rattle.std.proofs.Common.{length, get_or, set, refl}
 use Rattle.std.proofs.Common.{sym, ap, ◌∙◌, arith}
 use Rattle.std.proofs.lemmas.Bool.{false≢true, cases_eq, cases_lt}
-use Rattle.std.proofs.lemmas.List.{get_or-set_same, get_or-set_other, get_or_past, get_or_append_left}
+use Rattle.std.proofs.lemmas.List.{get_or-set_same, get_or-set_other, get_or_past, get_or_append_left, length-set}
 use Rattle.std.proofs.lemmas.List.{get_or-append_right}
 use Rattle.std.specs.Prelude.{nat_eq}
 use Rattle.std.proofs.lemmas.Bool.Decides.{nat_tests}
@@ -17,6 +17,7 @@ use Rattle.aig_sat.specs.checker.Knowledge.{IsIn, IsKnown}
 pub record AreForgotten (old new : List Bool) (list : List ℕ) (n : ℕ) : Type 0 where
   pub known : (m : ℕ) → IsKnown new m → IsKnown old m
   pub none : (m j : ℕ) → IsKnown new m → j < n → get_or list j 0 ≡ m → ⊥
+  pub len : length new ≡ length old
 
 -- one more of the list
 pub forgotten_more : (old truths new : List Bool) (list : List ℕ) (n : ℕ) → AreForgotten old truths list n
@@ -28,6 +29,10 @@ forgotten_more old truths new list n before step = record {
   none = λ m j h within is. elim (cases_eq j n) [
     | inr other ↦ before.none m j (kept m h) (omega arith) is
     | inl e ↦ apart m h (sym is ∙ ap (λ i. get_or list i 0) e)
+  ];
+  len = elim step [
+    | inl s ↦ ap length s.1 ∙ length-set truths (get_or list n 0) false ∙ before.len
+    | inr s ↦ ap length s.1 ∙ before.len
   ];
 }
   where

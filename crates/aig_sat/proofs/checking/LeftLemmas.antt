@@ -1,10 +1,11 @@
 -- What the literals of a clause leave.
-use Rattle.std.proofs.Common.{◌≡◌, ◌⊎◌, inl, inr, ℕ, ◌+◌, ◌<◌, Bool, List, get_or, sym, ap, subst, ◌∙◌, arith}
-use Rattle.std.proofs.lemmas.Bool.{cases_eq}
+use Rattle.std.proofs.Common.{◌≡◌, ◌⊎◌, inl, inr, ℕ, ◌+◌, ◌<◌, Bool, false, List, length, get_or, refl, sym, ap, subst}
+use Rattle.std.proofs.Common.{◌∙◌, arith}
+use Rattle.std.proofs.lemmas.Bool.{cases_eq, false≢true}
 use Rattle.aig_parts.specs.Literal.{negation}
 use Rattle.aig_sat.specs.declared.checker.known.Left.{Left}
 use Rattle.aig_sat.specs.declared.checker.known.Left.TheVariants.{Nothing, One, More}
-use Rattle.aig_sat.specs.checker.Knowledge.{IsKnown}
+use Rattle.aig_sat.specs.checker.Knowledge.{AreFalseBut, IsKnown}
 
 -- what the first n literals leave
 abbrev pub Leaves : List Bool → List ℕ → ℕ → Left → Type 0
@@ -33,3 +34,15 @@ leaves_one truths literals n l before is k below = elim (cases_eq k n) [
   | inl e ↦ inl (ap (λ i. get_or literals i 0) e ∙ is)
   | inr ne ↦ inr (before k (omega (arith, ne, below)))
 ]
+
+-- the one that is left is one of the first n, and not known to be false
+abbrev pub IsLeft : List Bool → List ℕ → ℕ → Left → Type 0
+IsLeft truths literals n (One l) =
+    (k : ℕ) × (k < n) × (get_or literals k 0 ≡ l) × (IsKnown truths (negation (get_or literals k 0)) → ⊥)
+IsLeft truths literals n _ = Unit {0}
+
+pub left_later : (truths : List Bool) (literals : List ℕ) (n : ℕ) (left : Left) → IsLeft truths literals n left
+    → IsLeft truths literals (n + 1) left
+left_later truths literals n (One l) (k, below, is, free) = (k, omega (arith, below), is, free)
+left_later truths literals n Nothing h = tt
+left_later truths literals n More h = tt

@@ -1,5 +1,5 @@
 -- Clauses that are added.
-use Rattle.std.proofs.Common.{◌≡◌, inl, inr, ℕ, ◌+◌, ◌-◌, ◌<◌, ◌≤◌, Bool, true, List, [], ◌∷◌, ◌++◌, length}
+use Rattle.std.proofs.Common.{◌≡◌, inl, inr, ℕ, ◌+◌, ◌-◌, ◌%◌, ◌<◌, ◌≤◌, Bool, true, List, [], ◌∷◌, ◌++◌, length}
 use Rattle.std.proofs.Common.{get_or, set, refl, sym, ap, ◌∙◌, arith, length-append}
 use Rattle.std.proofs.lemmas.List.{length-set, get_or-set_same, get_or-set_other, get_or_append_left}
 use Rattle.std.proofs.lemmas.List.{get_or-append_right, get_or_past}
@@ -7,7 +7,7 @@ use Rattle.std.proofs.lemmas.List.Folds.{Any-from_list_any}
 use Rattle.std.proofs.lemmas.Grind.{get_or_default_zero}
 use Rattle.std.proofs.lemmas.Bool.{cases_eq, cases_lt}
 use Rattle.aig_sat.specs.checker.Clause.{is_true, meets}
-use Rattle.aig_sat.specs.checker.Words.{AreLiterals, IsLaidOut, IsLast, IsPut, KeepsMet, MeetsAll, Shrinks, StandsAt}
+use Rattle.aig_sat.specs.checker.Words.{AreLiterals, IsAdded, IsLaidOut, IsLast, IsPut, KeepsMet, MeetsAll, Shrinks, StandsAt}
 use Rattle.aig_sat.proofs.checking.WordLemmas.{met_then, same_shrinks}
 
 -- a literal that meets a clause
@@ -124,3 +124,24 @@ stand_keeps words literals n is items values meets_it met p now =
             ap (is_true values) (get_or-set_other words n (p + (3 + k)) x 0 (omega (arith, is.ends p stands, k_in))) ∙ k_true,
           )
     ]
+
+-- a clause that was put, and stands
+pub put_added : (old literals words : List ℕ) (number place : ℕ) → place ≡ length old → IsPut old literals words
+    → get_or words (length old + 1) 0 ≡ number % 0x8000_0000
+    → IsAdded old number literals (set words place (0x8000_0000 + length literals)) place
+put_added old literals words number place at put named =
+    let x = 0x8000_0000 + length literals in
+    let inside : place < length words = omega (arith, at, put.len) in
+    let head : get_or (set words place x) place 0 ≡ x = get_or-set_same words place x 0 inside in
+    record {
+      place_is = at;
+      before = λ q q_in. get_or-set_other words place q x 0 (omega (arith, at, q_in)) ∙ put.before q q_in;
+      clause = record {
+        stands = omega (arith, head);
+        size = omega (arith, head);
+        items = λ k k_in.
+            sym (get_or-set_other words place (place + (3 + k)) x 0 (omega arith)
+            ∙ ap (λ (n : ℕ). get_or words (n + (3 + k)) 0) at ∙ put.items k k_in);
+      };
+      number_is = get_or-set_other words place (place + 1) x 0 (omega arith) ∙ ap (λ (n : ℕ). get_or words (n + 1) 0) at ∙ named;
+    }

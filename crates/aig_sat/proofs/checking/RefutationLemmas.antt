@@ -5,11 +5,15 @@ use Rattle.std.specs.Prelude.{IsTrue, IfOk, Result, Ok, Err}
 use Rattle.std.proofs.lemmas.Bool.{false≢true, and_parts, and_from}
 use Rattle.aig_bytes.specs.declared.fault.Memory.{Memory}
 use Rattle.aig_sat.specs.declared.checker.checker.Checker.{Checker}
+use Rattle.aig_sat.specs.checker.Basis.{Basis}
 use Rattle.aig_sat.specs.checker.Consequence.{Follows, IsUnsatisfiable, KeepsSatisfiable}
 use Rattle.aig_sat.specs.checker.Clause.{meets, Satisfies}
 use Rattle.aig_sat.specs.checker.Holding.{Holds, KeepsHolding, KeepsMeeting, KeepsSomeHolding}
 use Rattle.aig_sat.specs.checker.Standing.{standing}
 use Rattle.aig_sat.proofs.checking.StandingLemmas.{holds_state, state_holds}
+
+abbrev pub clauses_of : Basis → List (List ℕ)
+clauses_of b = b.clauses
 
 -- the formula of a checker
 abbrev pub formula : Checker → List (List ℕ)

@@ -39,3 +39,8 @@ AreFalseBeside truths literals other =
 -- all literals are known to be false
 abbrev pub AreFalse : List Bool → List ℕ → Type 0
 AreFalse truths literals = (k : ℕ) → k < length literals → IsKnown truths (negation (slice_index literals k))
+
+-- all literals but the one at k are known to be false
+abbrev pub AreFalseBut : List Bool → List ℕ → ℕ → Type 0
+AreFalseBut truths literals k =
+    (j : ℕ) → j < length literals → j ≢ k → IsKnown truths (negation (slice_index literals j))

@@ -1,6 +1,7 @@
 -- The clauses that stand, as words. A clause has a first word that says that it stands and how many literals it has, two
 -- other words, and its literals.
-use Rattle.std.specs.Prelude.{◌≡◌, ℕ, ◌+◌, ◌-◌, ◌<◌, ◌≤◌, Bool, true, List, length, slice_index}
+use Rattle.std.specs.Prelude.{◌≡◌, ◌⊎◌, ℕ, ◌+◌, ◌-◌, ◌%◌, ◌<◌, ◌≤◌, Bool, true, List, length, slice_index}
+use Rattle.std.specs.Prelude.{slice_set}
 use Rattle.aig_parts.specs.Literal.{variable}
 use Rattle.aig_sat.specs.checker.Clause.{is_true}
 
@@ -77,3 +78,16 @@ pub record IsLast (words : List ℕ) (place size : ℕ) : Type 0 where
   pub len : length words ≡ place + (3 + size)
   pub small : (q : ℕ) → place ≤ q → slice_index words q < 0x8000_0000
   pub ends : (p : ℕ) → StandsAt words p → p + (3 + size_at words p) ≤ place
+
+-- a clause with a number stands behind the words from now on
+pub record IsAdded (old : List ℕ) (number : ℕ) (literals new : List ℕ) (place : ℕ) : Type 0 where
+  pub place_is : place ≡ length old
+  pub before : (q : ℕ) → q < length old → slice_index new q ≡ slice_index old q
+  pub clause : IsClauseAt new place literals
+  pub number_is : slice_index new (place + 1) ≡ number % 0x8000_0000
+
+-- no word is written but the first one of the clause at a place, if that has the number
+abbrev pub RemovesNamed : List ℕ → (place number : ℕ) → List ℕ → Type 0
+RemovesNamed old place number new =
+    (new ≡ old)
+    ⊎ (StandsAt old place × (slice_index old (place + 1) ≡ number) × (new ≡ slice_set old place 0))

@@ -1,12 +1,15 @@
 //! Checking clause by clause.
-ghost use Rattle.std.specs.Prelude.{◌≡◌, ℕ, Bool, true, IsTrue, IfOk};
-ghost use Rattle.aig_sat.specs.checker.Agreement.{Agrees};
+ghost use Rattle.std.specs.Prelude.{◌≡◌, ℕ, ◌+◌, Bool, true, IsTrue, IfOk, IfSome, OnOk};
+ghost use Rattle.aig_parts.specs.Literal.{variable};
+ghost use Rattle.aig_sat.specs.checker.Agreement.{Agrees, Implies, Narrows};
+ghost use Rattle.aig_sat.specs.checker.Basis.{KeepsNumbers, KeepsOthers, NumbersStep, TakesNumber, basis};
 ghost use Rattle.aig_sat.specs.checker.Clause.{is_true, meets};
 ghost use Rattle.aig_sat.specs.checker.Holding.{Holds, KeepsHolding, KeepsMeeting};
+ghost use Rattle.aig_sat.specs.checker.Numbers.{IsShownBy, variables};
 
 use crate::checker::credit::Credit;
 use crate::checker::finder::Finder;
-use crate::checker::hints::{Groups, id_of};
+use crate::checker::hints::{Groups, Way, id_of};
 use crate::checker::known::Free;
 use crate::checker::marks::Marks;
 use crate::checker::propagator::Propagator;
@@ -37,7 +40,8 @@ pub(crate) struct Checker {
 impl Checker {
     /// No clauses over so many variables.
     pub(crate) fn new(alloc: Global, variables: u32, is_hinted: bool) -> Result<Checker, Memory>
-        ensures { IfOk result (λ checker. (values : ℕ → Bool) → Holds values checker) }
+        ensures holds { IfOk result (λ checker. (values : ℕ → Bool) → Holds values checker) }
+        ensures begins { IfOk result (λ checker. (checker.is_hinted ≡ is_hinted) × (checker.next ≡ 1)) }
     {
         Ok(Checker {
             propagator: Propagator::new(alloc, variables)?,
@@ -55,7 +59,8 @@ impl Checker {
 
     // Adds a variable that no clause has.
     fn add_variable(&mut self) -> Result<(), Memory>
-        ensures { KeepsHolding self.old self.new }
+        ensures holding { KeepsHolding self.old self.new }
+        ensures numbered { KeepsNumbers (basis self.old) (basis self.new) }
     {
         self.marks.add_variable()?;
         self.propagator.add_variable()
@@ -63,7 +68,8 @@ impl Checker {
 
     /// Adds variables until there are so many.
     pub(crate) fn add_variables(&mut self, variables: usize) -> Result<(), Memory>
-        ensures { KeepsHolding self.old self.new }
+        ensures holding { KeepsHolding self.old self.new }
+        ensures numbered { KeepsNumbers (basis self.old) (basis self.new) }
     {
         for _ in self.propagator.known.len() / 2..variables {
             self.add_variable()?;
@@ -106,7 +112,8 @@ impl Checker {
     // Stores the clause of the marks with its id.
     #[tactic(none)]
     fn store_named(&mut self) -> Result<(), Memory>
-        ensures { KeepsMeeting self.old.marks.literals.items self.old self.new }
+        ensures meeting { KeepsMeeting self.old.marks.literals.items self.old self.new }
+        ensures numbered { OnOk result (TakesNumber self.old.marks.literals.items (basis self.old) (basis self.new)) }
     {
         let Some(_first) = self.propagator.known.free(&self.marks.literals) else {
             self.refuted = true;
@@ -121,7 +128,9 @@ impl Checker {
     // Adds the clause of the marks.
     #[tactic(none)]
     fn stand(&mut self) -> Result<(), Memory>
-        ensures { KeepsMeeting self.old.marks.literals.items self.old self.new }
+        ensures meeting { KeepsMeeting self.old.marks.literals.items self.old self.new }
+        ensures numbered { IsTrue self.old.is_hinted
+            → OnOk result (TakesNumber self.old.marks.literals.items (basis self.old) (basis self.new)) }
     {
         if self.is_hinted {
             return self.store_named();
@@ -146,7 +155,9 @@ impl Checker {
 
     /// Adds a clause.
     pub(crate) fn add_clause(&mut self, clause: &[Lit]) -> Result<(), Memory>
-        ensures { KeepsMeeting clause.now self.old self.new }
+        ensures meeting { KeepsMeeting clause.now self.old self.new }
+        ensures numbered { IsTrue self.old.is_hinted
+            → OnOk result (TakesNumber clause.now (basis self.old) (basis self.new)) }
     {
         if self.refuted {
             return Ok(());
@@ -156,17 +167,40 @@ impl Checker {
         self.stand()
     }
 
+    // Whether a clause follows by unit propagation, with hints as they show.
+    fn follows(&mut self, clause: &[Lit], hints: Option<&[Lit]>) -> Result<bool, Memory>
+        ensures same { self.new.refuted ≡ self.old.refuted }
+        ensures hinted { self.new.is_hinted ≡ self.old.is_hinted }
+        ensures next { self.new.next ≡ self.old.next }
+        ensures stays { IfSome hints.entry (λ _. (self.new.propagator.clauses ≡ self.old.propagator.clauses)
+            × (self.new.propagator.ids ≡ self.old.propagator.ids)
+            × (variables self.new.propagator ≡ variables self.old.propagator)) }
+        ensures narrows { Narrows self.old.propagator self.new.propagator }
+        ensures implied { IfOk result (λ follows. IsTrue follows → Implies self.old.propagator clause.now) }
+        ensures shown { IfSome hints.entry
+            (λ hints. IsShownBy self.old.propagator clause.now hints.now → IfOk result IsTrue) }
+    {
+        match hints {
+            None => self.propagator.follows(clause, Way::Search),
+            Some(hints) => self.propagator.follows_by(clause, hints),
+        }
+    }
+
     /// Adds a clause that follows by unit propagation, and answers whether it does.
     pub(crate) fn add_step(&mut self, clause: &[Lit], hints: Option<&[Lit]>) -> Result<bool, Memory>
         ensures stands { KeepsHolding self.old self.new }
         ensures follows { IfOk result (λ taken. IsTrue taken
             → (values : ℕ → Bool) → Holds values self.old → meets values clause.now ≡ true) }
+        ensures shown { IfSome hints.entry
+            (λ hints. IsShownBy self.old.propagator clause.now hints.now → IfOk result IsTrue) }
+        ensures numbered { IsTrue self.old.is_hinted → IfSome hints.entry
+            (λ _. IfOk result (NumbersStep clause.now (basis self.old) (basis self.new))) }
     {
         if self.refuted {
             return Ok(true);
         }
         self.credit.add_step(clause, hints);
-        if self.propagator.follows_by(clause, hints)? {
+        if self.follows(clause, hints)? {
             self.add_clause(clause)?;
             return Ok(true);
         }
@@ -175,10 +209,12 @@ impl Checker {
 
     /// Deletes a clause by its id, if it stands.
     pub(crate) fn delete_named(&mut self, id: Lit)
-        ensures { KeepsHolding self.old self.new }
+        ensures holding { KeepsHolding self.old self.new }
+        ensures others { KeepsOthers (λ number. number ≡ variable id + 1) (basis self.old) (basis self.new) }
     {
-        let place = self.propagator.ids.forget(id_of(id));
-        self.propagator.clauses.remove(place);
+        let number = id_of(id);
+        let place = self.propagator.ids.forget(number);
+        self.propagator.clauses.remove_named(place, number);
     }
 
     /// Deletes a clause, if it stands.

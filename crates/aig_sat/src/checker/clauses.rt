@@ -1,12 +1,13 @@
 //! The clauses that stand, in one list of words.
-ghost use Rattle.std.specs.Prelude.{◌≡◌, ◌≢◌, ℕ, ◌+◌, ◌<◌, ◌≤◌, length, slice_set};
+ghost use Rattle.std.specs.Prelude.{◌≡◌, ◌≢◌, ◌⊎◌, ℕ, ◌+◌, ◌%◌, ◌<◌, ◌≤◌, length, slice_set};
 ghost use Rattle.aig_parts.specs.Literal.{variable};
 ghost use Rattle.std.specs.Prelude.{Bool, true, false, IsTrue, IfNone, IfSome, IfOk, OnOk, slice_index};
 ghost use Rattle.aig_sat.specs.checker.Clause.{meets};
 ghost use Rattle.aig_sat.specs.checker.Knowledge.{IsIn, IsWithout};
 ghost use Rattle.aig_sat.specs.checker.Listing.{FindsAll, ListsAll};
-ghost use Rattle.aig_sat.specs.checker.Words.{AreLiterals, AreNamed, Begins, IsClauseAt, IsLaidOut, IsLast, IsPut};
-ghost use Rattle.aig_sat.specs.checker.Words.{KeepsMet, MeetsAll, Shrinks, StandsAt, literal_at, size_at};
+ghost use Rattle.aig_sat.specs.checker.Words.{AreLiterals, AreNamed, Begins, IsAdded, IsClauseAt, IsLaidOut, IsLast};
+ghost use Rattle.aig_sat.specs.checker.Words.{IsPut, KeepsMet, MeetsAll, RemovesNamed, Shrinks, StandsAt};
+ghost use Rattle.aig_sat.specs.checker.Words.{literal_at, size_at};
 
 use crate::checker::places::Places;
 use aig_bytes::Memory;
@@ -184,7 +185,9 @@ impl Clauses {
     }
 
     /// The number of the clause at a place, where steps have hints.
-    pub(crate) fn number(&self, place: usize) -> u32 {
+    pub(crate) fn number(&self, place: usize) -> u32
+        ensures { place < 0x1_0000_0000 → result ≡ slice_index self.now.words.items (place + 1) }
+    {
         self.word(place.saturating_add(1))
     }
 
@@ -220,6 +223,8 @@ impl Clauses {
         ensures named { self.new.named ≡ self.old.named }
         ensures listed { self.new.listed ≡ self.old.listed }
         ensures ok { OnOk result (IsPut self.old.words.items literals.now self.new.words.items) }
+        ensures number { OnOk result
+            (slice_index self.new.words.items (length self.old.words.items + 1) ≡ next % 0x8000_0000) }
     {
         let before = [0, next % HEAD, 0];
         self.words.extend_from_slice(&before)?;
@@ -249,8 +254,9 @@ impl Clauses {
 
     /// Adds a clause and returns its place.
     pub(crate) fn add(&mut self, next: u32, literals: &[u32]) -> Result<u32, Memory>
-        ensures { (values : ℕ → Bool) → meets values literals.now ≡ true → MeetsAll values self.old.words.items
+        ensures met { (values : ℕ → Bool) → meets values literals.now ≡ true → MeetsAll values self.old.words.items
             → MeetsAll values self.new.words.items }
+        ensures added { IfOk result (IsAdded self.old.words.items next literals.now self.new.words.items) }
     {
         if !self.has_room(literals) {
             return Err(Memory);
@@ -345,10 +351,22 @@ impl Clauses {
 
     /// Deletes a clause.
     pub(crate) fn remove(&mut self, place: u32)
-        ensures { KeepsMet self.old.words.items self.new.words.items }
+        ensures met { KeepsMet self.old.words.items self.new.words.items }
+        ensures removed { (self.new.words.items ≡ self.old.words.items) ⊎ (StandsAt self.old.words.items place
+            × (self.new.words.items ≡ slice_set self.old.words.items place 0)) }
     {
         if self.word(place as usize) >= HEAD {
             self.words[place as usize] = 0;
+        }
+    }
+
+    /// Deletes a clause with a number.
+    pub(crate) fn remove_named(&mut self, place: u32, id: u32)
+        ensures met { KeepsMet self.old.words.items self.new.words.items }
+        ensures named { RemovesNamed self.old.words.items place id self.new.words.items }
+    {
+        if self.number(place as usize) == id {
+            self.remove(place);
         }
     }
 }

@@ -1,5 +1,8 @@
-//! The hints of a step: the ids of the clauses that it follows from. Nothing is proved of them: a clause is looked at
+//! The hints of a step: the ids of the clauses that it follows from. Nothing is proved of groups: a clause is looked at
 //! before anything is taken from it.
+
+ghost use Rattle.std.specs.Prelude.{◌≡◌, ◌+◌};
+ghost use Rattle.aig_parts.specs.Literal.{variable};
 
 use aig_bytes::Memory;
 use aig_parts::Lit;
@@ -15,7 +18,9 @@ pub(crate) enum Way<'a> {
 }
 
 /// The id that a hint names.
-pub(crate) fn id_of(hint: Lit) -> u32 {
+pub(crate) fn id_of(hint: Lit) -> u32
+    ensures { result ≡ variable hint + 1 }
+{
     hint.var().saturating_add(1)
 }
 

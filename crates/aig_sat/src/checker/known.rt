@@ -1,7 +1,8 @@
 //! The literals that are known to be true.
-ghost use Rattle.std.specs.Prelude.{◌≡◌, ℕ, ◌<◌, List, Bool, false, IfNone, IfSome, IfOk, length, slice_index_or};
+ghost use Rattle.std.specs.Prelude.{◌≡◌, ◌⊎◌, ℕ, ◌<◌, ◌≤◌, List, Bool, false, IfNone, IfSome, IfOk, OnOk, length};
+ghost use Rattle.std.specs.Prelude.{slice_index, slice_index_or};
 ghost use Rattle.aig_parts.specs.Literal.{negation};
-ghost use Rattle.aig_sat.specs.checker.Knowledge.{AreFalse, AreFalseBeside, IsFound, IsIn, IsKnown, Takes};
+ghost use Rattle.aig_sat.specs.checker.Knowledge.{AreFalse, AreFalseBeside, AreFalseBut, IsFound, IsIn, IsKnown, Takes};
 
 use aig_bytes::Memory;
 use std::alloc::Global;
@@ -41,6 +42,7 @@ pub(crate) fn negated(literal: u32) -> u32
 pub(crate) fn forget(truths: &mut Vec<bool>, list: &[u32])
     ensures known { (l : ℕ) → IsKnown truths.new.items l → IsKnown truths.old.items l }
     ensures forgotten { (l : ℕ) → IsKnown truths.new.items l → IsIn list.now l → ⊥ }
+    ensures len { length truths.new.items ≡ length truths.old.items }
 {
     for literal in list {
         if (*literal as usize) < truths.len() {
@@ -62,7 +64,8 @@ impl Known {
 
     /// Adds a variable of which nothing is known.
     pub(crate) fn add_variable(&mut self) -> Result<(), Memory>
-        ensures { (l : ℕ) → IsKnown self.new.truths.items l → IsKnown self.old.truths.items l }
+        ensures fewer { (l : ℕ) → IsKnown self.new.truths.items l → IsKnown self.old.truths.items l }
+        ensures more { length self.old.truths.items ≤ length self.new.truths.items }
     {
         self.truths.extend_from_slice(&[false, false])?;
         Ok(())
@@ -149,6 +152,8 @@ impl Known {
     pub(crate) fn left(&self, literals: &[u32]) -> Left
         ensures none { result ≡ Left.Nothing → AreFalse self.now.truths.items literals.now }
         ensures one { (l : ℕ) → result ≡ Left.One l → AreFalseBeside self.now.truths.items literals.now l }
+        ensures but { (k : ℕ) → AreFalseBut self.now.truths.items literals.now k → (result ≡ Left.Nothing)
+            ⊎ ((k < length literals.now) × (result ≡ Left.One (slice_index literals.now k))) }
     {
         let mut left = Left::Nothing;
         for literal in literals {
@@ -171,7 +176,8 @@ impl Known {
     /// Takes a literal to be true, unless that is known.
     #[inline]
     pub(crate) fn take(&mut self, literal: u32) -> Result<(), Memory>
-        ensures { Takes literal self.old self.new }
+        ensures takes { Takes literal self.old self.new }
+        ensures known { OnOk result (literal < length self.old.truths.items → IsKnown self.new.truths.items literal) }
     {
         if (literal as usize) < self.truths.len() && !self.truths[literal as usize] {
             self.trail.push(literal)?;
@@ -182,8 +188,9 @@ impl Known {
 
     /// Takes back all literals of the trail.
     pub(crate) fn undo(&mut self)
-        ensures { (before : List Bool) → IsFound before self.old
+        ensures forgotten { (before : List Bool) → IsFound before self.old
             → (l : ℕ) → IsKnown self.new.truths.items l → IsKnown before l }
+        ensures len { length self.new.truths.items ≡ length self.old.truths.items }
     {
         forget(&mut self.truths, &self.trail);
         self.trail.clear();

@@ -1,9 +1,13 @@
 //! Unit propagation.
-ghost use Rattle.std.specs.Prelude.{◌≡◌, ℕ, ◌<◌, Bool, true, IsTrue, IfOk, length};
+ghost use Rattle.std.specs.Prelude.{◌≡◌, ℕ, ◌+◌, ◌-◌, ◌<◌, ◌≤◌, Bool, true, false, IsTrue, IfOk, List, length, map};
+ghost use Rattle.aig_parts.specs.Literal.{negation};
 ghost use Rattle.aig_sat.specs.checker.Agreement.{Agrees, Assumes, Contradicts, Implies, Narrows, Propagates};
 ghost use Rattle.aig_sat.specs.checker.Clause.{is_true};
+ghost use Rattle.aig_sat.specs.checker.Hints.{IsShown, Shows};
+ghost use Rattle.aig_sat.specs.checker.Numbers.{AreKnown, IsKnownBut, IsShownBy, Leaves, Walks, numbered};
+ghost use Rattle.aig_sat.specs.checker.Numbers.{variables};
 ghost use Rattle.aig_sat.specs.checker.Visits.{OnConflict};
-ghost use Rattle.aig_sat.specs.checker.Words.{Shrinks};
+ghost use Rattle.aig_sat.specs.checker.Words.{AreNamed, Shrinks, StandsAt, size_at};
 
 use crate::checker::clauses::Clauses;
 use crate::checker::hints::{Way, id_of};
@@ -65,7 +69,10 @@ impl Propagator {
 
     /// Adds a variable that no clause has.
     pub(crate) fn add_variable(&mut self) -> Result<(), Memory>
-        ensures { Narrows self.old self.new }
+        ensures narrows { Narrows self.old self.new }
+        ensures words { self.new.clauses.words.items ≡ self.old.clauses.words.items }
+        ensures ids { self.new.ids ≡ self.old.ids }
+        ensures more { length self.old.known.truths.items ≤ length self.new.known.truths.items }
     {
         self.watches.add_variable()?;
         self.clauses.add_variable()?;
@@ -208,6 +215,12 @@ impl Propagator {
     fn look_at(&mut self, place: u32) -> Result<bool, Memory>
         ensures propagates { Propagates self.old self.new }
         ensures conflict { IfOk result (λ conflict. IsTrue conflict → Contradicts self.old) }
+        ensures walks { Walks self.old self.new }
+        ensures looks { StandsAt self.old.clauses.words.items place
+            → self.new.looks ≡ self.old.looks - (1 + size_at self.old.clauses.words.items place) }
+        ensures left { (k : ℕ) → StandsAt self.old.clauses.words.items place
+            → IsKnownBut self.old.clauses.words.items self.old.known.truths.items place k
+            → IfOk result (Leaves self.old self.new place k) }
     {
         self.looks = self.looks.saturating_sub(1);
         let Some(literals) = self.clauses.literals(place as usize) else {
@@ -231,6 +244,9 @@ impl Propagator {
     fn walk(&mut self, hints: &[Lit]) -> Result<bool, Memory>
         ensures propagates { Propagates self.old self.new }
         ensures conflict { IfOk result (λ conflict. IsTrue conflict → Contradicts self.old) }
+        ensures walks { Walks self.old self.new }
+        ensures shown { (truths : List ℕ) → AreKnown self.old.known.truths.items truths
+            → Shows (numbered self.old) (variables self.old) self.old.looks truths hints.now → IfOk result IsTrue }
     {
         for hint in hints {
             if hint.is_neg() || self.looks == 0 {
@@ -270,6 +286,11 @@ impl Propagator {
     fn assume(&mut self, clause: &[Lit]) -> Result<bool, Memory>
         ensures assumes { Assumes clause.now self.old self.new }
         ensures implied { IfOk result (λ conflict. IsTrue conflict → Implies self.old clause.now) }
+        ensures walks { Walks self.old self.new }
+        ensures looks { self.new.looks ≡ self.old.looks }
+        ensures known { AreNamed clause.now (variables self.old)
+            → IfOk result (λ conflict. conflict ≡ false
+            → AreKnown self.new.known.truths.items (map negation clause.now)) }
     {
         for literal in clause {
             if self.known.is_true(literal.value()) {
@@ -302,28 +323,40 @@ impl Propagator {
     }
 
     // How many looks a step may take to follow by its hints.
-    fn limit(&self) -> u64 {
+    fn limit(&self) -> u64
+        ensures { result ≡ 65536 + length self.now.clauses.words.items }
+    {
         MORE_LOOKS + self.clauses.len() as u64
     }
 
-    /// Whether a clause follows by unit propagation. With hints it takes a limited number of looks.
-    pub(crate) fn follows_by(
-        &mut self,
-        clause: &[Lit],
-        hints: Option<&[Lit]>,
-    ) -> Result<bool, Memory>
+    // Whether there is a conflict where the literals of a clause are false, as hints show.
+    fn try_hints(&mut self, clause: &[Lit], hints: &[Lit]) -> Result<bool, Memory>
+        ensures assumes { Assumes clause.now self.old self.new }
+        ensures implied { IfOk result (λ conflict. IsTrue conflict → Implies self.old clause.now) }
+        ensures walks { Walks self.old self.new }
+        ensures shown { IsShown (numbered self.old) (variables self.old) self.old.looks clause.now hints.now
+            → IfOk result IsTrue }
+    {
+        if self.assume(clause)? {
+            return Ok(true);
+        }
+        self.walk(hints)
+    }
+
+    /// Whether a clause follows by hints. It takes a limited number of looks.
+    pub(crate) fn follows_by(&mut self, clause: &[Lit], hints: &[Lit]) -> Result<bool, Memory>
         ensures narrows { Narrows self.old self.new }
         ensures implied { IfOk result (λ follows. IsTrue follows → Implies self.old clause.now) }
+        ensures clauses { self.new.clauses ≡ self.old.clauses }
+        ensures ids { self.new.ids ≡ self.old.ids }
+        ensures variables { variables self.new ≡ variables self.old }
+        ensures shown { IsShownBy self.old clause.now hints.now → IfOk result IsTrue }
     {
-        match hints {
-            None => self.follows(clause, Way::Search),
-            Some(hints) => {
-                self.looks = self.limit();
-                let follows = self.follows(clause, Way::Named(hints, &[]));
-                self.looks = u64::MAX;
-                follows
-            }
-        }
+        self.looks = self.limit();
+        let follows = self.try_hints(clause, hints);
+        self.looks = u64::MAX;
+        self.known.undo();
+        follows
     }
 
     /// Whether a clause follows by unit propagation, as the looks that are left show.

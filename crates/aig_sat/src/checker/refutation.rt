@@ -1,5 +1,7 @@
 //! Checking a refutation, clause by clause.
-ghost use Rattle.std.specs.Prelude.{◌≡◌, IsTrue, IfOk, false, [], ◌∷◌};
+ghost use Rattle.std.specs.Prelude.{◌≡◌, ◌+◌, ◌≤◌, IsTrue, IfOk, IfSome, OnOk, true, false, [], ◌∷◌};
+ghost use Rattle.aig_parts.specs.Literal.{variable};
+ghost use Rattle.aig_sat.specs.checker.Basis.{IsShownByHints, KeepsNumbers, KeepsOthers, NumbersStep, TakesNumber};
 ghost use Rattle.aig_sat.specs.checker.Consequence.{Follows, IsUnsatisfiable, KeepsSatisfiable};
 
 use crate::checker::checker::Checker;
@@ -8,8 +10,9 @@ use aig_parts::Lit;
 use std::alloc::Global;
 use std::marker::Model;
 
-/// A formula that is being refuted. A contract sees it as a list of clauses: those that stand, and each literal that
-/// was found to be true as a clause of its own; where there is a contradiction, the empty clause is one of them.
+/// A formula that is being refuted. A contract sees its clauses: those that stand, and each literal that was found to be
+/// true as a clause of its own; where there is a contradiction, the empty clause is one of them. With hints it sees the
+/// number of each clause, too.
 /// Clauses are sets: a literal counts once. A clause of both signs of a variable stands until it is deleted, and
 /// nothing follows from it. Literals of variables that it does not have are kept in the clauses, and never found to
 /// be true.
@@ -25,19 +28,19 @@ impl Drop for Refutation {
 }
 
 impl Model for Refutation {
-    ghost use Rattle.std.specs.Prelude.{ℕ, List};
+    ghost use Rattle.aig_sat.specs.checker.Basis.{Basis};
 
-    ghost Value = { List (List ℕ) };
+    ghost Value = { Basis };
 
-    ghost use Rattle.aig_sat.specs.checker.Standing.{standing};
+    ghost use Rattle.aig_sat.specs.checker.Basis.{basis};
 
-    ghost view = { λ a. standing a.checker.refuted a.checker.propagator };
+    ghost view = { λ a. basis a.checker };
 }
 
 impl Refutation {
     /// A formula without clauses over so many variables. It takes memory for each of them.
     pub fn new(alloc: Global, variables: u32) -> Result<Refutation, Memory>
-        ensures { IfOk result (Follows []) }
+        ensures { IfOk result (λ refutation. Follows [] refutation.clauses) }
     {
         Ok(Refutation {
             checker: Checker::new(alloc, variables, false)?,
@@ -47,7 +50,8 @@ impl Refutation {
     /// The same, for steps with hints. Its clauses are numbered from 1 in the order in which they are added, and
     /// nothing is found to be true between steps.
     pub fn with_hints(alloc: Global, variables: u32) -> Result<Refutation, Memory>
-        ensures { IfOk result (Follows []) }
+        ensures follows { IfOk result (λ refutation. Follows [] refutation.clauses) }
+        ensures begins { IfOk result (λ refutation. (refutation.is_hinted ≡ true) × (refutation.next ≡ 1)) }
     {
         Ok(Refutation {
             checker: Checker::new(alloc, variables, true)?,
@@ -56,7 +60,10 @@ impl Refutation {
 
     /// Gives the next clause a number, if that is over all numbers before it, and returns whether it is.
     pub fn number_next(&mut self, id: u32) -> bool
-        ensures { Follows self.old self.new }
+        ensures follows { Follows self.old.clauses self.new.clauses }
+        ensures numbered { KeepsNumbers self.old self.new }
+        ensures taken { self.old.next ≤ id → result ≡ true }
+        ensures next { IsTrue result → self.new.next ≡ id }
     {
         if id < self.checker.next {
             return false;
@@ -67,21 +74,24 @@ impl Refutation {
 
     /// Deletes the clause with the number that a hint names, if it stands.
     pub fn delete_named(&mut self, id: Lit)
-        ensures { Follows self.old self.new }
+        ensures follows { Follows self.old.clauses self.new.clauses }
+        ensures others { KeepsOthers (λ number. number ≡ variable id + 1) self.old self.new }
     {
         self.checker.delete_named(id)
     }
 
     /// Adds variables until there are so many. It takes memory for each of them.
     pub fn add_variables(&mut self, variables: u32) -> Result<(), Memory>
-        ensures { Follows self.old self.new }
+        ensures follows { Follows self.old.clauses self.new.clauses }
+        ensures numbered { KeepsNumbers self.old self.new }
     {
         self.checker.add_variables(variables as usize)
     }
 
     /// Adds a clause to the formula. If no memory was found, the clause may be missing.
     pub fn add_clause(&mut self, clause: &[Lit]) -> Result<(), Memory>
-        ensures { Follows (clause.now ∷ self.old) self.new }
+        ensures follows { Follows (clause.now ∷ self.old.clauses) self.new.clauses }
+        ensures numbered { IsTrue self.old.is_hinted → OnOk result (TakesNumber clause.now self.old self.new) }
     {
         self.checker.add_clause(clause)
     }
@@ -91,8 +101,11 @@ impl Refutation {
     /// up to the first negative one; a hint that gives nothing is passed over. They may take as many looks as the clauses
     /// have words, and 65,536 more.
     pub fn add_step(&mut self, clause: &[Lit], hints: Option<&[Lit]>) -> Result<bool, Memory>
-        ensures stands { Follows self.old self.new }
-        ensures follows { IfOk result (λ taken. IsTrue taken → Follows self.old (clause.now ∷ [])) }
+        ensures stands { Follows self.old.clauses self.new.clauses }
+        ensures follows { IfOk result (λ taken. IsTrue taken → Follows self.old.clauses (clause.now ∷ [])) }
+        ensures accepted { IfSome hints.entry (λ hints. IsShownByHints self.old clause.now hints.now → IfOk result IsTrue) }
+        ensures numbered { IsTrue self.old.is_hinted → IfSome hints.entry
+            (λ _. IfOk result (NumbersStep clause.now self.old self.new)) }
     {
         self.checker.add_step(clause, hints)
     }
@@ -105,9 +118,9 @@ impl Refutation {
     /// may take 16,777,216 looks at clauses, watches, literals and hints, one more for each word of the formula, and 256
     /// more for each literal and each hint of all steps so far.
     pub fn add_on_first(&mut self, clause: &[Lit], hints: Option<&[Lit]>) -> Result<bool, Memory>
-        ensures keeps { KeepsSatisfiable self.old self.new }
-        ensures stands { Follows (clause.now ∷ self.old) self.new }
-        ensures refused { IfOk result (λ taken. taken ≡ false → Follows self.old self.new) }
+        ensures keeps { KeepsSatisfiable self.old.clauses self.new.clauses }
+        ensures stands { Follows (clause.now ∷ self.old.clauses) self.new.clauses }
+        ensures refused { IfOk result (λ taken. taken ≡ false → Follows self.old.clauses self.new.clauses) }
     {
         self.checker.add_on_first(clause, hints)
     }
@@ -115,14 +128,14 @@ impl Refutation {
     /// Deletes a clause of these literals, in any order, if one stands. Of equal ones it deletes one. What was found to
     /// be true stays so. It looks at 1,024 clauses at most: one that is not found among them stays.
     pub fn delete(&mut self, clause: &[Lit])
-        ensures { Follows self.old self.new }
+        ensures { Follows self.old.clauses self.new.clauses }
     {
         self.checker.delete(clause)
     }
 
     /// Whether unit propagation has found a contradiction.
     pub fn is_refuted(&self) -> bool
-        ensures { IsTrue result → IsUnsatisfiable self.now }
+        ensures { IsTrue result → IsUnsatisfiable self.now.clauses }
     {
         self.checker.refuted
     }

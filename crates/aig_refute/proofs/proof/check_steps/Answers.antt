@@ -27,7 +27,7 @@ loop-number-preserved g c =
     record {
       keeps = λ values s.
           let (others, met) = c.loop-number.invariant.keeps values s in
-          c.in_ok-take_step.ensures.keeps others (c.add_variables.ensures others met);
+          c.in_ok-take_step.ensures.keeps others (c.add_variables.ensures.follows others met);
       count = omega (arith, c.in_ok-kind.ensures.count);
       steps = λ whole begun.
           more_before h old new whole l m c.loop-number.number c.in-Some.kind (c.loop-number.invariant.steps whole begun)

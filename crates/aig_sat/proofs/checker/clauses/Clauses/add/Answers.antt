@@ -1,7 +1,7 @@
-use Rattle.std.proofs.Common.{◌≡◌, ℕ, ◌+◌, ◌<◌, length, get_or, sym, ap, subst, ◌∙◌, arith}
+use Rattle.std.proofs.Common.{◌≡◌, List, ℕ, ◌+◌, ◌<◌, length, get_or, sym, ap, subst, ◌∙◌, arith}
 use Rattle.aig_parts.specs.Literal.{variable}
-use Rattle.aig_sat.specs.checker.Words.{IsLast, MeetsAll}
-use Rattle.aig_sat.proofs.checking.PutLemmas.{put_last, stand_keeps}
+use Rattle.aig_sat.specs.checker.Words.{IsAdded, IsLast, MeetsAll}
+use Rattle.aig_sat.proofs.checking.PutLemmas.{put_added, put_last, stand_keeps}
 use Rattle.aig_sat.proofs.checker.clauses.Clauses.add.Goals as goal
 
 pub stand-requires : goal.stand-requires
@@ -24,8 +24,8 @@ stand-requires c =
           omega (arith, name, c.above-self.ensures.all k inside, c.in_ok-put.ensures.named);
     }
 
-pub returns : goal.returns
-returns c = λ values meets_it met.
+pub returns-clause-met : goal.returns-clause-met
+returns-clause-met c = λ values meets_it met.
     let words = c.put.new.self.words.items in
     let literals = c.args.literals.now in
     let place_is : c.len-place.result ≡ length c.args.self.now.words.items = omega (arith, c.len-place.ensures, c.args.self.now.words.ok.0) in
@@ -36,3 +36,10 @@ returns c = λ values meets_it met.
     subst (λ (n : ℕ). (k : ℕ) → k < length literals → get_or words (n + (3 + k)) 0 ≡ get_or literals k 0) (sym place_is) put.items in
     subst (MeetsAll values) (sym c.stand.ensures)
     (stand_keeps words literals c.len-place.result last items values meets_it (c.in_ok-put.ensures.met values met))
+
+pub returns-clause-added : goal.returns-clause-added
+returns-clause-added c =
+    subst (λ (x : List ℕ). IsAdded c.args.self.now.words.items c.args.next c.args.literals.now x c.len-place.result)
+    (sym c.stand.ensures)
+    (put_added _ _ _ c.args.next _ (omega (arith, c.len-place.ensures, c.args.self.now.words.ok.0)) c.in_ok-put.ensures.ok
+    c.in_ok-put.ensures.number)

@@ -12,4 +12,4 @@ returns-then-are c = λ v m.
       | else-before-eq0 w ↦
           subst (λ (x : Clauses). MeetsAll v x.words.items) (sym w.clauses-is) (w.set_next.ensures v (c.loop.invariant.met v m))
     ] in
-    c.remove.ensures v linked
+    c.remove.ensures.met v linked

@@ -1,6 +1,8 @@
-use Rattle.std.proofs.Common.{◌≡◌, ℕ, ◌<◌, length, get_or, refl, subst, ◌∙◌, arith}
+use Rattle.std.proofs.Common.{◌≡◌, ℕ, ◌<◌, length, get_or, refl, ap, subst, ◌+◌, ◌∙◌, arith}
 use Rattle.std.proofs.lemmas.Grind.{get_or_default_zero}
 use Rattle.aig_sat.specs.checker.Knowledge.{Takes}
+use Rattle.aig_parts.specs.Literal.{negation}
+use Rattle.aig_sat.proofs.checking.HintLemmas.{all_assumed, assumed_more, walks_by, walks_then}
 use Rattle.aig_sat.proofs.checking.PropagationLemmas.{assume_more}
 use Rattle.aig_sat.proofs.checker.propagator.Propagator.assume.Goals as goal
 
@@ -12,8 +14,8 @@ returns-in_err-take-clause-assumes c =
     let is : c.value-in-loop-literal.result ≡ get_or c.args.clause.now k 0 =
     c.value-in-loop-literal.ensures ∙ c.literal-item.is ∙ get_or_default_zero _ _ _ inside in
     assume_more c.args.clause.now k c.value-in-loop-literal.result c.args.self.now c.loop-literal.self _ inside is
-    c.loop-literal.invariant refl
-    (subst (λ (n : ℕ). Takes n c.loop-literal.self.known c.take.new.self) c.negated.ensures c.take.ensures)
+    c.loop-literal.invariant.assumes refl
+    (subst (λ (n : ℕ). Takes n c.loop-literal.self.known c.take.new.self) c.negated.ensures c.take.ensures.takes)
 
 -- src/propagator.rt:163:9
 pub loop-literal-preserved : goal.loop-literal-preserved
@@ -22,6 +24,19 @@ loop-literal-preserved c =
     let inside : k < length c.args.clause.now = omega (arith, c.loop-literal-test.true) in
     let is : c.value-in-loop-literal.result ≡ get_or c.args.clause.now k 0 =
     c.value-in-loop-literal.ensures ∙ c.literal-item.is ∙ get_or_default_zero _ _ _ inside in
-    assume_more c.args.clause.now k c.value-in-loop-literal.result c.args.self.now c.loop-literal.self _ inside is
-    c.loop-literal.invariant refl
-    (subst (λ (n : ℕ). Takes n c.loop-literal.self.known c.take.new.self) c.negated.ensures c.take.ensures)
+    record {
+      assumes = assume_more c.args.clause.now k c.value-in-loop-literal.result c.args.self.now c.loop-literal.self _ inside is
+          c.loop-literal.invariant.assumes refl
+          (subst (λ (n : ℕ). Takes n c.loop-literal.self.known c.take.new.self) c.negated.ensures c.take.ensures.takes);
+      walks = walks_then _ _ _ c.loop-literal.invariant.walks
+          (walks_by c.negated.result c.loop-literal.self _ refl refl c.take.ensures.takes);
+      looks = c.loop-literal.invariant.looks;
+      known = assumed_more c.args.self.now c.loop-literal.self c.take.new.self c.args.clause.now k c.negated.result inside
+          (c.negated.ensures ∙ ap negation is) c.loop-literal.invariant.walks c.take.ensures.takes
+          c.loop-literal.invariant.known c.in_ok-take.ensures.known;
+    }
+
+pub returns-clause-known : goal.returns-clause-known
+returns-clause-known c = λ named none.
+    all_assumed c.args.self.now c.loop-literal.self.known.truths.items c.args.clause.now c.loop-literal.literal-index
+    (omega arith) c.loop-literal.invariant.known named

@@ -13,7 +13,7 @@ returns-then-is_false-clause-conflict c =
 
 pub returns-in_err-take-clause-propagates : goal.returns-in_err-take-clause-propagates
 returns-in_err-take-clause-propagates c =
-    by_taking _ c.args.self.now _ refl c.take.ensures
+    by_taking _ c.args.self.now _ refl c.take.ensures.takes
     (unit_true c.args.self.now c.args.watch.clause _ _ c.in-Some.ensures.some
     (false_beside c.args.self.now.known.truths.items c.in-Some.clause.literals.now c.split_at.result.1.now
     c.place_of-lost.result c.place_of-lost.ensures (sym c.is_false.ensures ∙ c.if-not-is_false.false)
@@ -21,7 +21,7 @@ returns-in_err-take-clause-propagates c =
 
 pub returns : goal.returns
 returns c = record {
-  propagates = by_taking _ c.args.self.now _ refl c.take.ensures
+  propagates = by_taking _ c.args.self.now _ refl c.take.ensures.takes
       (unit_true c.args.self.now c.args.watch.clause _ _ c.in-Some.ensures.some
       (false_beside c.args.self.now.known.truths.items c.in-Some.clause.literals.now c.split_at.result.1.now
       c.place_of-lost.result c.place_of-lost.ensures (sym c.is_false.ensures ∙ c.if-not-is_false.false)
