@@ -151,6 +151,18 @@ class Sessions:
         self.tally.compare("shell: answers that are not written", (done.returncode, done.stderr),
                            (3, b"aig: shell: input or output\n"))
 
+    def conditions(self):
+        """Without a name the property is that of the witness that was opened, though its condition is reached first."""
+        write("if.aag", "aag 2 1 1 0 0 3\n2\n4 2\n4\n2\n0\ni0 a\nl0 q\nb0 ok\nb1 if:ok\nb2 late\n")
+        write("if.wit", "1\nb0\n0\n1\n0\n.\n")
+        lines = "why\nwitness f\nwitness f if:ok\nset 0 a 0\nwhy\nwitness f\n"
+        ended = self.run(lines, "--witness", "if.aag", "if.wit")
+        self.tally.compare("shell: the property of the witness", ended, Ended(
+            0, b"q=1 at 1, by 0: a=1\nb0 at 1: f\nb1 at 0: f\nno: b0 ok is not reached; check says why\n"
+            b"no: b0 ok is not reached; check says why\nunsaved: run\n", b""))
+        self.tally.compare("shell: conditions come last", self.run("check\n", "--witness", "if.aag", "if.wit"), Ended(
+            0, b"b0 ok: reached at 1\nb2 late: not reached\nb1 if:ok: reached at 0\n", b""))
+
     def helps(self):
         lines = self.run("help\n").out.decode().splitlines()
         self.tally.compare("shell: lines of the help over 79 columns", [line for line in lines if len(line) > 79], [])
@@ -191,6 +203,7 @@ def shell(program, tally, _):
     sessions.transcripts()
     sessions.keeps()
     sessions.ends()
+    sessions.conditions()
     sessions.helps()
     sessions.terminal()
     sessions.escapes()

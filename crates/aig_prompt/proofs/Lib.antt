@@ -1,4 +1,5 @@
 pub mod FoldLemmas
 pub mod QuoteLemmas
 pub mod TableLemmas
+pub mod TextLemmas
 pub mod ValueLemmas

@@ -13,7 +13,7 @@ pub record TableRow : Type 0 where
 
 -- what a row of a program holds
 abbrev pub row_of : Row → TableRow
-row_of row = record { name = row.name.items; cells = map (λ cell. cell.items) row.cells.items }
+row_of row = record { name = row.name.items; cells = row.cells }
 
 -- the text of a cell; no bytes where there is none
 abbrev pub cell_at : TableRow → ℕ → List ℕ

@@ -6,6 +6,7 @@ mod fold;
 mod near;
 mod shown;
 mod table;
+mod texts;
 mod value;
 mod words;
 
@@ -13,5 +14,6 @@ pub use fold::{Folding, push_folded};
 pub use near::Near;
 pub use shown::push_shown;
 pub use table::{Row, Table};
+pub use texts::Texts;
 pub use value::{ValueFault, is_binary, value_of};
 pub use words::{spaced, words_of};

@@ -5,6 +5,7 @@ ghost use Rattle.std.specs.List.{range_with_len};
 ghost use Rattle.aig_prompt.specs.Table as spec;
 ghost use Rattle.aig_prompt.specs.Table.{IsTable, block_text, cell_at, cell_text, line_text, name_text, row_of, spaces};
 
+use crate::texts::Texts;
 use aig_bytes::Memory;
 use itoa::Buffer;
 use std::alloc::Global;
@@ -19,25 +20,15 @@ const LONGEST: usize = 30;
 #[derive(Drop)]
 pub struct Row {
     pub name: Vec<u8>,
-    pub cells: Vec<Vec<u8>>,
+    pub cells: Texts,
 }
 
 impl Row {
-    /// The text of a cell; no bytes where there is none.
-    fn cell(&self, place: usize) -> &[u8]
-        ensures { result.now ≡ cell_at (row_of self.now) place }
-    {
-        match self.cells.get(place) {
-            Some(cell) => cell.as_slice(),
-            None => b"",
-        }
-    }
-
     /// The width of the widest cell.
     fn widest(&self) -> usize {
         let mut widest = 0;
-        for cell in self.cells.iter() {
-            widest = widest.max(cell.len());
+        for place in 0..self.cells.len() {
+            widest = widest.max(self.cells.get(place).len());
         }
         widest
     }
@@ -148,7 +139,7 @@ fn push_row(
 {
     push_name(text, row.name.as_slice(), layout.name)?;
     for place in begin..end {
-        push_cell(text, row.cell(place), layout.cell)?;
+        push_cell(text, row.cells.get(place), layout.cell)?;
     }
     text.push(b'\n')?;
     Ok(())

@@ -1,7 +1,8 @@
 -- What a line does to a session, what is answered, and which files are written or refused (our own choice).
 -- Example: after `no: ` all is as before.
-use Rattle.std.specs.Prelude.{◌≡◌, ◌≢◌, ◌⊎◌, ◌+◌, ◌-◌, ◌*◌, ◌≤◌, ℕ, max, if◌then◌else◌, Bool, true, false, IsTrue, List}
+use Rattle.std.specs.Prelude.{◌≡◌, ◌≢◌, ◌⊎◌, ◌+◌, ◌-◌, ◌*◌, ◌≤◌, ℕ, nat_eq, max, if◌then◌else◌, Bool, true, false, IsTrue, List}
 use Rattle.std.specs.Prelude.{[], ◌∷◌, ◌++◌, length, map, codes, decimal, Option, None, Some, slice_get}
+use Rattle.std.specs.List.{starts_with}
 use Rattle.std.specs.Str.{bytes_eq}
 use Rattle.aig_parts.specs.declared.raw.Raw.{Raw}
 use Rattle.aig_parts.specs.declared.symbols.Kind.TheVariants.{Bad}
@@ -63,22 +64,37 @@ property_name raw k =
     if bytes_eq (first_name raw Bad k) (position_name Bad k) then position_name Bad k
     else position_name Bad k ++ 32 ∷ first_name raw Bad k
 
-unfoldable pub standings_text : Raw → ℕ → List Standing → List ℕ
-standings_text raw k [] = []
-standings_text raw k (standing ∷ more) =
-    property_name raw k ++ (codes ": " ++ (standing_text standing ++ 10 ∷ standings_text raw (k + 1) more))
+-- whether a property is the condition of an assertion, `if:NAME`
+abbrev pub is_condition : Raw → ℕ → Bool
+is_condition raw k = starts_with nat_eq (first_name raw Bad k) (codes "if:")
+
+-- the line of a condition if those are asked for, and of any other property if the others are
+abbrev pub line_if : Bool → Bool → List ℕ → List ℕ
+line_if true true line = line
+line_if false false line = line
+line_if _ _ line = []
+
+abbrev pub standing_line : Raw → ℕ → Standing → List ℕ
+standing_line raw k standing = property_name raw k ++ (codes ": " ++ (standing_text standing ++ 10 ∷ []))
+
+-- the lines of the conditions, or of the others, from property k on
+unfoldable pub standings_text : Raw → Bool → ℕ → List Standing → List ℕ
+standings_text raw conditions k [] = []
+standings_text raw conditions k (standing ∷ more) =
+    line_if conditions (is_condition raw k) (standing_line raw k standing) ++ standings_text raw conditions (k + 1) more
 
 -- why the run is none of the circuit: a constraint that is not 1, and a start that a reset does not allow
 abbrev pub reasons_text : Raw → Option Broken → Option (ℕ × Tern) → List ℕ
 reasons_text raw broken wrong = no_property_text raw.bad ++ (broken_text raw broken ++ start_text raw wrong)
 
--- a line for each property, or one that there is none; after them come the reasons
+-- a line for each property, the conditions last, or one that there is none; after them come the reasons
 abbrev pub IsChecked : SessionState → List ℕ → Type 0
 IsChecked s text =
     (standings : List Standing) × (broken : Option Broken) × (wrong : Option (ℕ × Tern))
     × AreStandings (circuit_of s) s.pair 0 s.pair.circuit.bad standings × AreConstraints s.pair broken
     × AreStarts (circuit_of s) (start_of s.pair.circuit) wrong
-    × (text ≡ standings_text s.pair.circuit 0 standings ++ reasons_text s.pair.circuit broken wrong)
+    × (text ≡ standings_text s.pair.circuit false 0 standings
+    ++ (standings_text s.pair.circuit true 0 standings ++ reasons_text s.pair.circuit broken wrong))
 
 -- ---- what a line does
 
@@ -116,7 +132,7 @@ Answers s (show names frames) text texts after =
     × ShowsFrames frames (length s.pair.rows) first last × IsShown s.pair first (last + 1 - first) names rows
     × IsTable first (last + 1 - first) rows table × (text ≡ note ++ table) × (texts ≡ []) × (after ≡ calm s)
 Answers s why_first text texts after =
-    (t : ℕ) × (k : ℕ) × (l : ℕ) × IsFirstReached (circuit_of s) (start_of s.pair.circuit) s.pair.rows None t k
+    (t : ℕ) × (k : ℕ) × (l : ℕ) × IsFirstReached (circuit_of s) (start_of s.pair.circuit) s.pair.rows s.property t k
     × (slice_get s.pair.circuit.bad k ≡ Some l)
     × Explains (circuit_of s) (run_of s.pair) (first_name s.pair.circuit Bad k) (alone l) t text × (texts ≡ [])
     × (after ≡ calm s)

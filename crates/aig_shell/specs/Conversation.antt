@@ -209,23 +209,23 @@ pub record OnlyFails {Y X Z : Type 0} (passes : Passes Y X Z) : Type 0 where
   pub kept : passes.files_after ≡ passes.files
 
 -- a session that a run of a circuit begins
-abbrev pub BeginsSession : Raw → List Tern → List (List Tern) → Session → Type 0
-BeginsSession raw start rows session =
-    IsSession session × BeginsAt raw start rows session.run.bench.pair
-    × IsIn session (first_state raw session.run.bench.pair)
+abbrev pub BeginsSession : Raw → ReadRun → Session → Type 0
+BeginsSession raw run session =
+    IsSession session × BeginsAt raw run.start run.rows session.run.bench.pair
+    × IsIn session (first_state raw run.property session.run.bench.pair)
 
 -- the session of a circuit's file and the run that is given
 abbrev pub OpensSession : List ℕ → Given (List ℕ) → Session → Type 0
 OpensSession file given session =
     (raw : Raw) × IsFileOf file raw
-    × ((run : ReadRun) × IsGiven raw given run × BeginsSession raw run.start run.rows session)
+    × ((run : ReadRun) × IsGiven raw given run × BeginsSession raw run session)
 
 -- a session over a circuit that begins with the run that is given
 abbrev pub HoldsSession : {Y X Z : Type 0} → Passes Y X Z → Bool → Raw → Given (List ℕ)
     → ((Passes Y X Z) → Bool → SessionState → Type 0) → Type 0
 HoldsSession passes person raw given Ends =
     (run : ReadRun) × (pair : CircuitAndRows) × IsGiven raw given run × BeginsAt raw run.start run.rows pair
-    × Ends passes person (first_state raw pair)
+    × Ends passes person (first_state raw run.property pair)
 
 -- How `shell` ends: all that is read is answered; or the circuit or its run is refused, and nothing passes; or a read
 -- or a write fails, also a flush after a refusal.

@@ -42,10 +42,10 @@ saved s circuit (Some stimulus) =
     record { name = circuit; text = short_ascii (circuit_of s) }
     ∷ record { name = stimulus; text = flat_map row_line s.pair.rows } ∷ []
 
--- the property that a word names; none is asked for without a word
-abbrev pub IsAsked : Raw → Option (List ℕ) → Option ℕ → Type 0
-IsAsked raw None asked = asked ≡ None
-IsAsked raw (Some word) asked = (k : ℕ) × (asked ≡ Some k) × (entry_in raw word Bad ≡ Some k)
+-- the property that a word names; without a word that of the witness that was opened, if one was
+abbrev pub IsAsked : Raw → Option ℕ → Option (List ℕ) → Option ℕ → Type 0
+IsAsked raw opened None asked = asked ≡ opened
+IsAsked raw opened (Some word) asked = (k : ℕ) × (asked ≡ Some k) × (entry_in raw word Bad ≡ Some k)
 
 -- what is said where the run does not start by the resets: the file of rows does not have its start
 abbrev pub no_start_text : List ℕ → List ℕ
@@ -55,10 +55,10 @@ no_start_text stimulus = stimulus ++ codes " has no start of latches; witness FI
 abbrev pub reached_text : ℕ → ℕ → List ℕ → List ℕ
 reached_text k t file = position_name Bad k ++ (codes " at " ++ (decimal t ++ (codes ": " ++ (file ++ 10 ∷ []))))
 
--- the run up to the first frame that reaches a property that is asked for, and what is said of it
+-- the run up to the first frame that reaches the property that is asked for, or any, and what is said of it
 abbrev pub IsWitnessed : SessionState → List ℕ → Option (List ℕ) → List ℕ → List KeptText → Type 0
 IsWitnessed s file word text texts =
-    (asked : Option ℕ) × (t : ℕ) × (k : ℕ) × IsAsked s.pair.circuit word asked
+    (asked : Option ℕ) × (t : ℕ) × (k : ℕ) × IsAsked s.pair.circuit s.property word asked
     × IsFirstReached (circuit_of s) (start_of s.pair.circuit) s.pair.rows asked t k × (text ≡ reached_text k t file)
     × (texts ≡ record {
       name = file;

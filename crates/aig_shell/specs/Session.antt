@@ -1,5 +1,6 @@
 -- What holds of a session between two lines.
-use Rattle.std.specs.Prelude.{◌≡◌, false, ℕ, ◌+◌, ◌*◌, List, All, length, Some, slice_get, ◌≢◌, ◌⊎◌, IsTrue}
+use Rattle.std.specs.Prelude.{◌≡◌, false, ℕ, ◌+◌, ◌*◌, List, All, length, Some, slice_get, ◌≢◌, ◌⊎◌, IsTrue, IfSome, ◌<◌}
+use Rattle.std.specs.Prelude.{Option}
 use Rattle.std.specs.List.{AllZip}
 use Rattle.aig_base.specs.Resets.{IsSameLatch, HasOtherResets}
 use Rattle.aig_signals.specs.Signals.{signals_of}
@@ -22,11 +23,12 @@ use Rattle.aig_shell.specs.declared.session.Session.{Session}
 use Rattle.aig_shell.specs.State.{SessionState}
 
 -- the signals are those of the circuit, and the latches with the resets of the file, which are resets, are those of the
--- circuit
+-- circuit; it has the property of the witness
 pub record IsSession (s : Session) : Type 0 where
   pub signals : s.signals.items ≡ signals_of s.run.bench.pair.circuit
   pub latches : AllZip IsSameLatch s.run.latches.items s.run.bench.pair.circuit.latches
   pub resets : All IsReset s.run.latches.items
+  pub property : IfSome s.property (λ k. k < length s.run.bench.pair.circuit.bad)
 
 -- all but the bench and the flag of the circuit is as before
 pub record KeepsRest (old new : Session) : Type 0 where
@@ -34,6 +36,7 @@ pub record KeepsRest (old new : Session) : Type 0 where
   pub signals : new.signals ≡ old.signals
   pub first : new.first ≡ old.first
   pub kept : new.kept ≡ old.kept
+  pub property : new.property ≡ old.property
 
 -- the value that is kept of a variable at a frame
 abbrev pub IsValueAt : FirstRun → ℕ → ℕ → Tern → Type 0
@@ -73,6 +76,7 @@ pub record IsFirst (session : Session) (p : CircuitAndRows) : Type 0 where
 pub record IsIn (session : Session) (s : SessionState) : Type 0 where
   pub pair : s.pair ≡ session.run.bench.pair
   pub latches : s.latches ≡ session.run.latches.items
+  pub property : s.property ≡ session.property
   pub first : KeepsFirst session.first s.first
   pub entries : HasSameEntries s.first.circuit session.run.bench.pair.circuit
   pub start : s.kept.start ≡ session.kept.start.items
@@ -83,11 +87,12 @@ pub record IsIn (session : Session) (s : SessionState) : Type 0 where
 abbrev pub HasUnsaved : Session → Type 0
 HasUnsaved s = IsTrue s.has_edited_circuit ⊎ (KeepsRun s.kept s.run.bench.pair → ⊥)
 
--- the session that begins with a run of a circuit
-abbrev pub first_state : Raw → CircuitAndRows → SessionState
-first_state raw pair = record {
+-- the session that begins with a run of a circuit, and with the property that a witness names
+abbrev pub first_state : Raw → Option ℕ → CircuitAndRows → SessionState
+first_state raw property pair = record {
   pair = pair;
   latches = raw.latches;
+  property = property;
   first = pair;
   kept = run_of pair;
   has_edited_circuit = false;

@@ -1,6 +1,6 @@
 -- The state of a session, and how edits lead from one to the next (our own choice).
 -- Example: `set 0-1 rst 0` leads by two edits.
-use Rattle.std.specs.Prelude.{◌≡◌, ℕ, List, [], ◌∷◌, map, replicate, Bool}
+use Rattle.std.specs.Prelude.{◌≡◌, ℕ, List, [], ◌∷◌, map, replicate, Bool, Option}
 use Rattle.std.specs.List.{flat_map, range_with_len, zip}
 use Rattle.aig_parts.specs.declared.latch.Latch.{Latch}
 use Rattle.aig_parts.specs.declared.raw.Raw.{Raw}
@@ -10,12 +10,14 @@ use Rattle.aig_bench.specs.BenchState.{CircuitAndRows}
 use Rattle.aig_why.specs.Why.{Run}
 use Rattle.aig_bench.specs.Edit.{Edit, edited, Forbids, NoneApplies, add_frame, drop_frame, set_bit, set_reset}
 
--- A circuit whose resets are the run's start, and its rows; the latches with the resets of the file; the circuit and
--- the run that were read; the run that was read or written last; whether a gate or an output was edited since the
--- circuit was read or written; whether the line before was a `quit` that said what is unsaved.
+-- A circuit whose resets are the run's start, and its rows; the latches with the resets of the file; the property of
+-- the witness that was opened; the circuit and the run that were read; the run that was read or written last; whether a
+-- gate or an output was edited since the circuit was read or written; whether the line before was a `quit` that said
+-- what is unsaved.
 pub record SessionState : Type 0 where
   pub pair : CircuitAndRows
   pub latches : List Latch
+  pub property : Option ℕ
   pub first : CircuitAndRows
   pub kept : Run
   pub has_edited_circuit : Bool

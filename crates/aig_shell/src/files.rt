@@ -200,21 +200,23 @@ impl Session {
         }
     }
 
-    /// The property that is asked for, where a word names one.
+    /// The property that a word names; without a word, that of the witness that was opened.
     fn asked<'a>(&self, property: Option<&'a [u8]>) -> Result<Option<u32>, Refusal<'a>>
         requires session { IsSession self.now }
-        ensures asked { IfOk result (IsAsked self.now.run.bench.pair.circuit (option_map (λ w. w.now) property.entry)) }
+        ensures asked { IfOk result
+            (IsAsked self.now.run.bench.pair.circuit self.now.property (option_map (λ w. w.now) property.entry)) }
         ensures within { IfOk result (λ asked. IfSome asked (λ k. k < length self.now.run.bench.pair.circuit.bad)) }
         ensures err { IfErr result (λ refusal. refusal ≢ Refusal.Memory → (asked : Option ℕ) →
-            IsAsked self.now.run.bench.pair.circuit (option_map (λ w. w.now) property.entry) asked → ⊥) }
+            IsAsked self.now.run.bench.pair.circuit self.now.property (option_map (λ w. w.now) property.entry) asked →
+            ⊥) }
     {
         match property {
             Some(word) => Ok(Some(self.property(word)?)),
-            None => Ok(None),
+            None => Ok(self.property),
         }
     }
 
-    /// Writes the run up to a property as a witness: up to the one that is named, or to the first.
+    /// Writes the run up to a property as a witness.
     pub(crate) fn witness<'a, K: Keep>(
         &mut self,
         files: &mut K,

@@ -68,8 +68,8 @@ pub(crate) enum Refusal<'a> {
     ManyFrames(u32),
     /// An edit of the bench is not possible.
     Edit(EditFault),
-    /// No property is reached.
-    NotReached,
+    /// A property is not reached; no property is, where none is named.
+    NotReached(Option<u32>),
     /// A latch does not start as its reset says.
     OtherStart { latch: u32, value: Tern },
     /// A file is not written.

@@ -17,6 +17,7 @@ ghost use Rattle.aig_shell.specs.Session.{BeginsAt, IsIn, IsSession, KeepsRun, f
 pub(crate) mod at_once;
 pub(crate) mod edits;
 pub(crate) mod frames;
+mod properties;
 pub(crate) mod requests;
 pub(crate) mod run_kept;
 
@@ -24,7 +25,7 @@ use crate::refusal::{Refusal, Wanted};
 use crate::session::run_kept::{FirstRun, KeptRun};
 use aig_base::{Circuit, Definition, Latch, List, Lit, Memory, Tern};
 use aig_bench::{Bench, BenchFault};
-use aig_command::RunFault;
+use aig_command::{GivenRun, RunFault};
 use aig_signals::{Signal, SignalNames, decimal_of, signals_of};
 use aig_sim::{PlaneGrid, Stimulus};
 use aig_why::Run;
@@ -38,6 +39,8 @@ pub(crate) struct Session {
     pub(crate) alloc: Global,
     /// The bench, whose circuit starts by its resets as the run does; and the latches with the resets of the file.
     pub(crate) run: Run<PlaneGrid>,
+    /// The property of the witness that was opened.
+    pub(crate) property: Option<u32>,
     /// The signals of the circuit.
     pub(crate) signals: Vec<Signal>,
     /// The run that was read.
@@ -54,6 +57,7 @@ impl Drop for Session {
         let Session {
             alloc: _,
             run: _,
+            property: _,
             signals: _,
             first: _,
             kept: _,
@@ -154,29 +158,31 @@ fn starts_elsewhere(own: Latch, now: Latch) -> bool
 }
 
 impl Session {
-    /// Of a circuit with a start and rows.
-    pub(crate) fn new(
-        alloc: Global,
-        circuit: Circuit,
-        start: &[Tern],
-        rows: Stimulus,
-    ) -> Result<Session, RunFault>
-        requires start { length start.now ≡ length circuit.latches }
-        requires width { rows.width ≡ length circuit.inputs }
+    /// Of a circuit and a run of it.
+    pub(crate) fn new(alloc: Global, circuit: Circuit, given: GivenRun) -> Result<Session, RunFault>
+        requires start { length given.start.items ≡ length circuit.latches }
+        requires width { given.rows.width ≡ length circuit.inputs }
+        requires property { IfSome given.property (λ k. k < length circuit.bad) }
         ensures session { IfOk result IsSession }
-        ensures begins { IfOk result (λ s. BeginsAt circuit start.now rows.rows s.run.bench.pair) }
-        ensures state { IfOk result (λ s. IsIn s (first_state circuit s.run.bench.pair)) }
-        ensures refused { IfErr result (RefusesRows circuit rows.rows) }
+        ensures begins { IfOk result (λ s. BeginsAt circuit given.start.items given.rows.rows s.run.bench.pair) }
+        ensures state { IfOk result (λ s. IsIn s (first_state circuit given.property s.run.bench.pair)) }
+        ensures refused { IfErr result (RefusesRows circuit given.rows.rows) }
     {
         // Its contract says that it is a circuit.
         circuit.facts();
         let signals = signals_of(alloc, &circuit)?;
-        let run = Run::new(alloc, circuit, start, rows)?;
+        let GivenRun {
+            property,
+            start,
+            rows,
+        } = given;
+        let run = Run::new(alloc, circuit, start.as_slice(), rows)?;
         let first = FirstRun::of(alloc, &run.bench)?;
         let kept = KeptRun::of(alloc, &run.bench)?;
         Ok(Session {
             alloc,
             run,
+            property,
             signals,
             first,
             kept,

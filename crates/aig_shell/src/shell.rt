@@ -9,7 +9,7 @@ use crate::session::Session;
 use crate::talk::Talker;
 use crate::talk::conversation::Conversation;
 use aig_base::{Io, Read, Write};
-use aig_command::{Given, GivenRun, RunFault, read_circuit, read_given};
+use aig_command::{Given, RunFault, read_circuit, read_given};
 use std::alloc::Global;
 
 /// What a session begins with: a circuit's file and the run that is given with it. A person sees a prompt.
@@ -26,12 +26,8 @@ fn open_session(alloc: Global, file: &[u8], given: Given<&[u8]>) -> Result<Sessi
     ensures refused { IfErr result (RefusesFiles file.now (given_text given.entry)) }
 {
     let circuit = read_circuit(alloc, file)?;
-    let GivenRun {
-        property: _,
-        start,
-        rows,
-    } = read_given(alloc, &circuit, given)?;
-    Session::new(alloc, circuit, start.as_slice(), rows)
+    let run = read_given(alloc, &circuit, given)?;
+    Session::new(alloc, circuit, run)
 }
 
 /// The command `shell`: reads lines to their end, or to a `quit`, and answers each about a circuit and a run, which

@@ -1,4 +1,4 @@
--- What edits leave as it is: the signals, and the latches but for their resets.
+-- What edits leave as it is: the signals, the properties, and the latches but for their resets.
 use Rattle.std.proofs.Common.{◌≡◌, ℕ, List, [], ◌∷◌, ◌++◌, length, map, slice_set, refl, sym, ap, subst, ◌∙◌}
 use Rattle.std.specs.List.{flat_map, AllZip}
 use Rattle.std.proofs.lemmas.List.{length-map, length-set}
@@ -52,6 +52,20 @@ pub leads_signals : (edits : List Edit) (p q : CircuitAndRows) → Leads p edits
 unfolding Leads
 leads_signals [] p q h = ap (λ (r : CircuitAndRows). signals_of r.circuit) h
 leads_signals (e ∷ edits) p q h = leads_signals edits (edited p e) q h.1 ∙ edited_signals p e
+
+edited_bad : (p : CircuitAndRows) (e : Edit) → (edited p e).circuit.bad ≡ p.circuit.bad
+edited_bad p (rewire l a b) = refl
+edited_bad p (set_reset l w) = refl
+edited_bad p (set_bit t i w) = refl
+edited_bad p (add_frame row) = refl
+edited_bad p drop_frame = refl
+edited_bad p (append_gate a b) = refl
+edited_bad p (set_output i l) = refl
+
+pub leads_bad : (edits : List Edit) (p q : CircuitAndRows) → Leads p edits q → q.circuit.bad ≡ p.circuit.bad
+unfolding Leads
+leads_bad [] p q h = ap (λ (r : CircuitAndRows). r.circuit.bad) h
+leads_bad (e ∷ edits) p q h = leads_bad edits (edited p e) q h.1 ∙ edited_bad p e
 
 restarted_latches : (own now : List Latch) (l : ℕ) (w : Tern) → AllZip IsSameLatch own now
     → AllZip IsSameLatch own (map (restarted l w) now)

@@ -1,5 +1,5 @@
 -- A session before and after a line.
-use Rattle.std.proofs.Common.{◌≡◌, ◌≢◌, ℕ, ◌+◌, ◌-◌, ◌^◌, ◌<◌, List, [], ◌∷◌, All, length, Some, slice_get, refl, sym}
+use Rattle.std.proofs.Common.{◌≡◌, ◌≢◌, ℕ, ◌+◌, ◌-◌, ◌^◌, ◌<◌, List, [], ◌∷◌, All, length, Option, Some, IfSome, slice_get, refl, sym}
 use Rattle.std.proofs.Common.{ap, subst, ◌∙◌, arith}
 use Rattle.std.specs.List.{AllZip}
 use Rattle.std.proofs.lemmas.List.Elements.{AllZip-get_or}
@@ -19,7 +19,7 @@ use Rattle.aig_shell.specs.Edits.{ArePositions, MeansInputs, MeansLatches, AreFr
 use Rattle.aig_shell.specs.Request.{set, start}
 use Rattle.aig_shell.specs.Session.{IsSession, KeepsRest}
 use Rattle.aig_shell.specs.State.{Leads}
-use Rattle.aig_shell.proofs.editing.Kept.{leads_signals, leads_latches}
+use Rattle.aig_shell.proofs.editing.Kept.{leads_bad, leads_signals, leads_latches}
 use Rattle.aig_shell.proofs.words.Meanings.{means_one, inputs_size}
 
 -- edits keep what holds of a session
@@ -30,6 +30,9 @@ session_kept old new edits s k h = record {
   latches = subst (λ (ls : List Latch). AllZip IsSameLatch ls new.run.bench.pair.circuit.latches) (sym (ap (λ v. v.items) k.latches))
       (leads_latches old.run.latches.items edits old.run.bench.pair new.run.bench.pair s.latches h);
   resets = subst (All IsReset) (sym (ap (λ v. v.items) k.latches)) s.resets;
+  property = subst (λ (o : Option ℕ). IfSome o (λ k. k < length new.run.bench.pair.circuit.bad)) (sym k.property)
+      (subst (λ (ls : List ℕ). IfSome old.property (λ k. k < length ls))
+      (sym (leads_bad edits old.run.bench.pair new.run.bench.pair h)) s.property);
 }
 
 -- the positions are those of inputs

@@ -17,7 +17,7 @@ use Rattle.aig_signals.specs.Names.{first_name}
 use Rattle.aig_signals.specs.Signals.{runs_from, section_signals, signal_of}
 use Rattle.aig_signals.specs.declared.signal.Signal.{Signal}
 use Rattle.aig_signals.specs.declared.text.Naming.{Naming}
-use Rattle.aig_sim.specs.Reached.{IsFirstReached, ReachesNone}
+use Rattle.aig_sim.specs.Reached.{IsAskedFor, IsFirstReached, ReachesNone}
 use Rattle.aig_why.specs.Why.{IsQuestion, run_of}
 use Rattle.aig_why.specs.Named.{IsNamingOf, NamesNothing}
 use Rattle.aig_shell.specs.declared.refusal.Refusal.{Refusal}
@@ -93,12 +93,12 @@ module _ (session : Session) (s : SessionState) (h : IsIn session s) where
   no_frame name frame none text texts after (t, literals, is_frame, means, explains, no_texts, calmed) =
       none t (subst (λ (p : CircuitAndRows). IsFrameOrLast frame (length p.rows) t) h.pair is_frame)
 
-  pub none_reached : ReachesNone (own_circuit session) (start_of session.run.bench.pair.circuit) session.run.bench.pair.rows None
-      → HasNoAnswer s why_first
+  pub none_reached : ReachesNone (own_circuit session) (start_of session.run.bench.pair.circuit) session.run.bench.pair.rows
+      session.property → HasNoAnswer s why_first
   none_reached none text texts after (t, k, l, first, is_bad, explains, no_texts, calmed) =
-      subst (λ (raw : Raw). ReachesNone raw (start_of s.pair.circuit) s.pair.rows None) (own_is session s h)
-      (subst (λ (p : CircuitAndRows). ReachesNone (own_circuit session) (start_of p.circuit) p.rows None) (sym h.pair) none)
-      t k tt first.reaches
+      subst (λ (raw : Raw). ReachesNone raw (start_of s.pair.circuit) s.pair.rows session.property) (own_is session s h)
+      (subst (λ (p : CircuitAndRows). ReachesNone (own_circuit session) (start_of p.circuit) p.rows session.property)
+      (sym h.pair) none) t k (subst (λ (o : Option ℕ). IsAskedFor o k) h.property first.asked_for) first.reaches
 
   -- ---- answers
 
@@ -124,15 +124,16 @@ module _ (session : Session) (s : SessionState) (h : IsIn session s) where
   )
 
   pub property_answered : (name literals : List ℕ) (t k : ℕ) (text : List ℕ)
-      → IsFirstReached (own_circuit session) (start_of session.run.bench.pair.circuit) session.run.bench.pair.rows None t k
-      → IsQuestion session.run.bench.pair.circuit None (Some k) name literals
+      → IsFirstReached (own_circuit session) (start_of session.run.bench.pair.circuit) session.run.bench.pair.rows
+      session.property t k → IsQuestion session.run.bench.pair.circuit None (Some k) name literals
       → Explains (own_circuit session) (run_of session.run.bench.pair) name literals t text
       → Answers s why_first text [] (calm s)
   property_answered name literals t k text reached (l, at, are, called) e = (
     t,
     k,
     l,
-    first_in session s h None t k reached,
+    subst (λ (o : Option ℕ). IsFirstReached (circuit_of s) (start_of s.pair.circuit) s.pair.rows o t k) (sym h.property)
+        (first_in session s h session.property t k reached),
     ap (λ (p : CircuitAndRows). slice_get p.circuit.bad k) h.pair ∙ at,
     subst (λ (ls : List ℕ). Explains (circuit_of s) (run_of s.pair) (first_name s.pair.circuit Bad k) ls t text) are
         (subst (λ (n : List ℕ). Explains (circuit_of s) (run_of s.pair) n literals t text)

@@ -30,11 +30,12 @@ use Rattle.aig_shell.proofs.editing.Entries.{leads_entries}
 -- the state of a session that keeps all but the pair and the flag of the circuit
 in_next : (old new : Session) (s after : SessionState) → IsIn old s → KeepsRest old new
     → HasSameEntries s.first.circuit new.run.bench.pair.circuit → after.pair ≡ new.run.bench.pair
-    → after.latches ≡ s.latches → after.first ≡ s.first → after.kept ≡ s.kept → after.has_edited_circuit ≡ new.has_edited_circuit
+    → after.latches ≡ s.latches → after.property ≡ s.property → after.first ≡ s.first → after.kept ≡ s.kept → after.has_edited_circuit ≡ new.has_edited_circuit
     → IsIn new after
-in_next old new s after h k entries pair latches first kept circuit = record {
+in_next old new s after h k entries pair latches property first kept circuit = record {
   pair = pair;
   latches = latches ∙ h.latches ∙ sym (ap (λ v. v.items) k.latches);
+  property = property ∙ h.property ∙ sym k.property;
   first = subst (λ (p : CircuitAndRows). KeepsFirst new.first p) (sym first)
       (subst (λ (f : FirstRun). KeepsFirst f s.first) (sym k.first) h.first);
   entries = subst (λ (p : CircuitAndRows). HasSameEntries p.circuit new.run.bench.pair.circuit) (sym first) entries;
@@ -48,7 +49,7 @@ in_same : (old new : Session) (s : SessionState) → IsIn old s → KeepsRest ol
     → new.has_edited_circuit ≡ old.has_edited_circuit → IsIn new s
 in_same old new s h k pair circuit =
     in_next old new s s h k (subst (λ (p : CircuitAndRows). HasSameEntries s.first.circuit p.circuit) (sym pair) h.entries)
-    (h.pair ∙ sym pair) refl refl refl (h.circuit ∙ sym circuit)
+    (h.pair ∙ sym pair) refl refl refl refl (h.circuit ∙ sym circuit)
 
 -- edits leave the entries
 does_entries : (old new : Session) (r : Request) (s : SessionState) → IsIn old s → Does old.run.bench.pair r new.run.bench.pair
@@ -70,7 +71,7 @@ run_changed old new r (Ok x) text k same does holds denied = λ s h.
     let after : SessionState = record s { pair = q; has_warned = false } in (
       after,
       holds s after (q, subst (λ (p : CircuitAndRows). Does p r q) (sym h.pair) does, refl),
-      in_next old new s after h k (does_entries old new r s h does) refl refl refl refl (h.circuit ∙ sym same),
+      in_next old new s after h k (does_entries old new r s h does) refl refl refl refl refl (h.circuit ∙ sym same),
     )
 run_changed old new r (Err refusal) text k same (none, kept) holds denied =
     ((λ s h. in_same old new s h k kept same), λ other s h. denied s (refused old new r s h (none other)))
@@ -86,7 +87,7 @@ circuit_changed old new r (Ok x) text k edited does holds denied = λ s h.
     let after : SessionState = record s { pair = q; has_edited_circuit = true; has_warned = false } in (
       after,
       holds s after h.pair (q, subst (λ (p : CircuitAndRows). Does p r q) (sym h.pair) does, refl),
-      in_next old new s after h k (does_entries old new r s h does) refl refl refl refl (sym edited),
+      in_next old new s after h k (does_entries old new r s h does) refl refl refl refl refl (sym edited),
     )
 circuit_changed old new r (Err refusal) text k same (none, kept) holds denied =
     ((λ s h. in_same old new s h k kept same), λ other s h. denied s (refused old new r s h (none other)))

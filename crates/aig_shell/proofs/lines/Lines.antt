@@ -40,7 +40,7 @@ use Rattle.aig_shell.specs.declared.session.Session.{Session}
 -- a session in a state is in the calm one
 in_calm : (session : Session) (s : SessionState) → IsIn session s → IsIn session (calm s)
 in_calm session s h =
-    record { pair = h.pair; latches = h.latches; first = h.first; entries = h.entries; start = h.start; rows = h.rows; circuit = h.circuit }
+    record { pair = h.pair; latches = h.latches; property = h.property; first = h.first; entries = h.entries; start = h.start; rows = h.rows; circuit = h.circuit }
 
 -- a conversation that is not warned
 pub at_calm : (c : Conversation) (s : SessionState) → IsSession c.session → IsIn c.session s → c.has_warned ≡ false → IsAt c (calm s)
@@ -282,7 +282,7 @@ quit_warns old new warned is same e unsaved first said s h w = (
   record {
     session = subst IsSession (sym same) is;
     state = subst (λ (t : Session). IsIn t (record s { has_warned = true })) (sym same)
-        (record { pair = h.pair; latches = h.latches; first = h.first; entries = h.entries; start = h.start; rows = h.rows; circuit = h.circuit });
+        (record { pair = h.pair; latches = h.latches; property = h.property; first = h.first; entries = h.entries; start = h.start; rows = h.rows; circuit = h.circuit });
     warned = sym e;
   },
 )

@@ -84,16 +84,15 @@ rows_refused r raw rows benches.Width is never limit = absurd (never is)
 rows_refused r raw rows benches.Limit is never limit = limit is
 rows_refused r raw rows benches.Memory is never limit = tt
 
-pub begins_session : (raw : Raw) (start given_start : List Tern) (rows : List (List Tern)) (r : Result Session RunFault)
-    → given_start ≡ start → IfOk r IsSession → IfOk r (λ s. BeginsAt raw given_start rows s.run.bench.pair)
-    → IfOk r (λ s. IsIn s (first_state raw s.run.bench.pair)) → IfOk r (BeginsSession raw start rows)
-begins_session raw start given_start rows (Err e) same a b c = tt
-begins_session raw start given_start rows (Ok s) same a b c =
-    (a, subst (λ (v : List Tern). BeginsAt raw v rows s.run.bench.pair) same b, c)
+pub begins_session : (raw : Raw) (run : ReadRun) (r : Result Session RunFault) → IfOk r IsSession
+    → IfOk r (λ s. BeginsAt raw run.start run.rows s.run.bench.pair)
+    → IfOk r (λ s. IsIn s (first_state raw run.property s.run.bench.pair)) → IfOk r (BeginsSession raw run)
+begins_session raw run (Err e) a b c = tt
+begins_session raw run (Ok s) a b c = (a, b, c)
 
 module _ (file : List ℕ) (given : Given (List ℕ)) (raw : Raw) (run : ReadRun) (is : IsFileOf file raw) (begins : IsGiven raw given run)
     (r : Result Session RunFault) where
-  pub opens : IfOk r (BeginsSession raw run.start run.rows) → IfOk r (OpensSession file given)
+  pub opens : IfOk r (BeginsSession raw run) → IfOk r (OpensSession file given)
   opens h = IfOk-weaker r _ _ (λ session b. (raw, is, (run, begins, b))) h
 
   pub refuses : IfErr r (RefusesRows raw run.rows) → IfErr r (RefusesFiles file given)
@@ -107,7 +106,7 @@ module _ {Y X Z : Type 0} (passes : Passes Y X Z) (person : Bool) (file : List �
       → HoldsLine [] t.line → ((s : SessionState) → IsAt t.conversation s → HoldsLine [] t.line → Ends passes t.has_prompt s)
       → (raw : Raw) × IsFileOf file raw × HoldsSession passes person raw given Ends
   holds_session Ends session c t (raw, is, (run, begins, (sound, at, inside))) same calm talks prompts line ends =
-      let state = first_state raw session.run.bench.pair in
+      let state = first_state raw run.property session.run.bench.pair in
       let of_session : IsAt c state
       = record {
         session = subst IsSession (sym same) sound;

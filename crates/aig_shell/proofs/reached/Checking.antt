@@ -1,6 +1,7 @@
 -- What `check` says, as text.
-use Rattle.std.proofs.Common.{◌≡◌, ℕ, suc, ◌+◌, List, [], ◌∷◌, ◌++◌, length, refl, sym, ap, ◌∙◌, subst, arith}
-use Rattle.std.proofs.Common.{append_assoc, codes, decimal, Option, None, Some, IfNone, IfSome}
+use Rattle.std.proofs.Common.{◌≡◌, ℕ, suc, ◌+◌, List, [], ◌∷◌, ◌++◌, Bool, true, false, length, refl, sym, ap, ◌∙◌, subst}
+use Rattle.std.proofs.Common.{append_assoc, codes, decimal, Option, None, Some, IfNone, IfSome, arith}
+use Rattle.std.proofs.lemmas.List.{append-nil}
 use Rattle.aig_parts.specs.declared.raw.Raw.{Raw}
 use Rattle.aig_parts.specs.declared.symbols.Kind.TheVariants.{Constraint, Latch}
 use Rattle.aig_parts.specs.declared.ternary.Tern.{Tern}
@@ -11,21 +12,12 @@ use Rattle.aig_values.specs.Characters.{character}
 use Rattle.aig_shell.specs.declared.answers.check.Broken.{Broken}
 use Rattle.aig_shell.specs.declared.answers.check.Standing.{Standing}
 use Rattle.aig_shell.specs.declared.session.Session.{Session}
-use Rattle.aig_shell.specs.Answers.{AreStandings, IsChecked, property_name, reasons_text, standings_text}
+use Rattle.aig_shell.specs.Answers.{AreStandings, IsChecked, is_condition, line_if, property_name, reasons_text}
+use Rattle.aig_shell.specs.Answers.{standing_line, standings_text}
 use Rattle.aig_shell.specs.Reasons.{AreConstraints, AreStarts, IsFirstWrong, broken_text, no_property_text, start_text}
 use Rattle.aig_shell.specs.Session.{IsIn, own_circuit}
 use Rattle.aig_shell.specs.Standing.{HoldBefore, IsFirstBroken, IsStanding, StartsRight, standing_text}
 use Rattle.aig_shell.specs.State.{SessionState, circuit_of}
-
-nest : (a b c s l : List ℕ) → (a ++ (b ++ (c ++ s))) ++ l ≡ a ++ (b ++ (c ++ (s ++ l)))
-nest a b c s l =
-    append_assoc a (b ++ (c ++ s)) l ∙ ap (λ (z : List ℕ). a ++ z) (append_assoc b (c ++ s) l
-    ∙ ap (λ (z : List ℕ). b ++ z) (append_assoc c s l))
-
-pub five : (a b c d e f : List ℕ) → ((((a ++ b) ++ c) ++ d) ++ e) ++ f ≡ a ++ (b ++ (c ++ (d ++ (e ++ f))))
-five a b c d e f =
-    append_assoc (((a ++ b) ++ c) ++ d) e f ∙ append_assoc ((a ++ b) ++ c) d (e ++ f)
-    ∙ append_assoc (a ++ b) c (d ++ (e ++ f)) ∙ append_assoc a b (c ++ (d ++ (e ++ f)))
 
 -- a text that grew, and grew again
 pub grown : (t0 t1 t2 a b : List ℕ) → t1 ≡ t0 ++ a → t2 ≡ t1 ++ b → t2 ≡ t0 ++ (a ++ b)
@@ -53,13 +45,14 @@ start_added raw named k w old mid new letter same said name rest =
     (rest ∙ ap (λ (z : List ℕ). mid ++ (codes " starts at " ++ (z ++ codes ", not at its reset\n"))) said)
 
 -- what follows the lines of the properties
-pub finished : (raw named : Raw) (old t1 t2 t3 lines : List ℕ) (broken : Option Broken) (wrong : Option (ℕ × Tern)) → named ≡ raw
-    → (bad : List ℕ) → bad ≡ named.bad → old ≡ [] → t1 ≡ old ++ lines → t2 ≡ t1 ++ no_property_text bad
-    → t3 ≡ t2 ++ (broken_text raw broken ++ start_text raw wrong) → t3 ≡ lines ++ reasons_text raw broken wrong
-finished raw named old t1 t2 t3 lines broken wrong same bad are none e f g =
-    grown lines t2 t3 (no_property_text raw.bad) (broken_text raw broken ++ start_text raw wrong)
-    (f ∙ ap (λ (z : List ℕ). z ++ no_property_text bad) (e ∙ ap (λ (z : List ℕ). z ++ lines) none)
-    ∙ ap (λ (ls : List ℕ). lines ++ no_property_text ls) (are ∙ ap (λ (r : Raw). r.bad) same)) g
+pub finished : (raw named : Raw) (old t0 t1 t2 t3 lines last : List ℕ) (broken : Option Broken) (wrong : Option (ℕ × Tern)) → named ≡ raw
+    → (bad : List ℕ) → bad ≡ named.bad → old ≡ [] → t0 ≡ old ++ lines → t1 ≡ t0 ++ last → t2 ≡ t1 ++ no_property_text bad
+    → t3 ≡ t2 ++ (broken_text raw broken ++ start_text raw wrong) → t3 ≡ lines ++ (last ++ reasons_text raw broken wrong)
+finished raw named old t0 t1 t2 t3 lines last broken wrong same bad are none d e f g =
+    grown (lines ++ last) t2 t3 (no_property_text raw.bad) (broken_text raw broken ++ start_text raw wrong)
+    (f ∙ ap (λ (z : List ℕ). z ++ no_property_text bad) (e ∙ ap (λ (z : List ℕ). z ++ last) (d ∙ ap (λ (z : List ℕ). z ++ lines) none))
+    ∙ ap (λ (ls : List ℕ). (lines ++ last) ++ no_property_text ls) (are ∙ ap (λ (r : Raw). r.bad) same)) g
+    ∙ append_assoc lines last (reasons_text raw broken wrong)
 
 -- what is found of constraints and of starts
 pub breaks : (p : CircuitAndRows) (broken : Option Broken)
@@ -74,27 +67,23 @@ pub starts : (session : Session) (wrong : Option (ℕ × Tern)) → let start = 
 starts session None some none = none
 starts session (Some (k, w)) some none = some
 
--- a text with one line more
-pub line_added : (t1 t2 t3 t4 t5 first lines name colon said : List ℕ) → t1 ≡ first ++ lines → t2 ≡ t1 ++ name → t3 ≡ t2 ++ colon
-    → t4 ≡ t3 ++ said → t5 ≡ t4 ++ 10 ∷ [] → t5 ≡ first ++ (lines ++ (name ++ (colon ++ (said ++ 10 ∷ []))))
-line_added t1 t2 t3 t4 t5 first lines name colon said e1 e2 e3 e4 e5 =
-    e5 ∙ ap (λ (z : List ℕ). z ++ 10 ∷ []) (e4 ∙ ap (λ (z : List ℕ). z ++ said) (e3 ∙ ap (λ (z : List ℕ). z ++ colon)
-    (e2 ∙ ap (λ (z : List ℕ). z ++ name) e1)))
-    ∙ five first lines name colon said (10 ∷ [])
+-- the line of property k among those that are asked for
+abbrev pub line_at : Raw → Bool → ℕ → Standing → List ℕ
+line_at raw conditions k y = line_if conditions (is_condition raw k) (standing_line raw k y)
 
--- the line of property k
-abbrev pub line_of : Raw → ℕ → Standing → List ℕ
-line_of raw k y = property_name raw k ++ (codes ": " ++ (standing_text y ++ 10 ∷ []))
-
-pub standings_push : (raw : Raw) (k : ℕ) (xs : List Standing) (y : Standing)
-    → standings_text raw k (xs ++ y ∷ []) ≡ standings_text raw k xs ++ line_of raw (k + length xs) y
+pub standings_push : (raw : Raw) (conditions : Bool) (k : ℕ) (xs : List Standing) (y : Standing)
+    → standings_text raw conditions k (xs ++ y ∷ []) ≡ standings_text raw conditions k xs ++ line_at raw conditions (k + length xs) y
 unfolding standings_text
-standings_push raw k [] y = let e : k ≡ k + 0 = omega arith in ap (λ (n : ℕ). line_of raw n y) e
-standings_push raw k (x ∷ xs) y =
+standings_push raw conditions k [] y =
+    let e : k ≡ k + 0 = omega arith in
+    append-nil (line_at raw conditions k y) ∙ ap (λ (n : ℕ). line_at raw conditions n y) e
+standings_push raw conditions k (x ∷ xs) y =
     let e : (k + 1) + length xs ≡ k + suc (length xs) = omega arith in
-    ap (λ (z : List ℕ). property_name raw k ++ (codes ": " ++ (standing_text x ++ 10 ∷ z)))
-    (standings_push raw (k + 1) xs y ∙ ap (λ (n : ℕ). standings_text raw (k + 1) xs ++ line_of raw n y) e)
-    ∙ sym (nest (property_name raw k) (codes ": ") (standing_text x) (10 ∷ standings_text raw (k + 1) xs) (line_of raw (k + suc (length xs)) y))
+    ap (λ (z : List ℕ). line_at raw conditions k x ++ z)
+    (standings_push raw conditions (k + 1) xs y
+    ∙ ap (λ (n : ℕ). standings_text raw conditions (k + 1) xs ++ line_at raw conditions n y) e)
+    ∙ sym (append_assoc (line_at raw conditions k x) (standings_text raw conditions (k + 1) xs)
+    (line_at raw conditions (k + suc (length xs)) y))
 
 module _ (raw : Raw) (p : CircuitAndRows) where
   pub standings_size : (k : ℕ) (ls : List ℕ) (xs : List Standing) → AreStandings raw p k ls xs → length xs ≡ length ls
@@ -119,9 +108,9 @@ pub none_yet : (raw : Raw) (p : CircuitAndRows) → AreStandings raw p 0 [] []
 unfolding AreStandings
 none_yet raw p = tt
 
-pub no_text : (raw : Raw) → standings_text raw 0 [] ≡ []
+pub no_text : (raw : Raw) (conditions : Bool) → standings_text raw conditions 0 [] ≡ []
 unfolding standings_text
-no_text raw = refl
+no_text raw conditions = refl
 
 -- what is so of a session is so of its state
 pub own_is : (session : Session) (s : SessionState) → IsIn session s → circuit_of s ≡ own_circuit session
@@ -131,7 +120,8 @@ pub checked : (session : Session) (s : SessionState) (text : List ℕ) (standing
     (wrong : Option (ℕ × Tern)) → let p = session.run.bench.pair in
     IsIn session s → AreStandings (own_circuit session) p 0 p.circuit.bad standings → AreConstraints p broken
     → AreStarts (own_circuit session) (start_of p.circuit) wrong
-    → text ≡ standings_text p.circuit 0 standings ++ reasons_text p.circuit broken wrong → IsChecked s text
+    → text ≡ standings_text p.circuit false 0 standings ++ (standings_text p.circuit true 0 standings ++ reasons_text p.circuit broken wrong)
+    → IsChecked s text
 checked session s text standings broken wrong is are constraints begins e = (
   standings,
   broken,
@@ -142,5 +132,6 @@ checked session s text standings broken wrong is are constraints begins e = (
   subst (λ (p : CircuitAndRows). AreConstraints p broken) (sym is.pair) constraints,
   subst (λ (p : CircuitAndRows). AreStarts (circuit_of s) (start_of p.circuit) wrong) (sym is.pair)
       (subst (λ (raw : Raw). AreStarts raw (start_of session.run.bench.pair.circuit) wrong) (sym (own_is session s is)) begins),
-  e ∙ ap (λ (p : CircuitAndRows). standings_text p.circuit 0 standings ++ reasons_text p.circuit broken wrong) (sym is.pair),
+  e ∙ ap (λ (p : CircuitAndRows). standings_text p.circuit false 0 standings
+      ++ (standings_text p.circuit true 0 standings ++ reasons_text p.circuit broken wrong)) (sym is.pair),
 )

@@ -88,6 +88,18 @@ module _ (session : Session) (s : SessionState) (h : IsIn session s) where
       subst (λ (raw : Raw). IsFirstReached raw (start_of s.pair.circuit) s.pair.rows asked t k) own_is
       (subst (λ (p : CircuitAndRows). IsFirstReached (own_circuit session) (start_of p.circuit) p.rows asked t k) (sym h.pair) r)
 
+  pub asked_in : (word : Option (List ℕ)) (asked : Option ℕ) → IsAsked session.run.bench.pair.circuit session.property word asked
+      → IsAsked s.pair.circuit s.property word asked
+  asked_in word asked is =
+      subst (λ (o : Option ℕ). IsAsked s.pair.circuit o word asked) (sym h.property)
+      (subst (λ (p : CircuitAndRows). IsAsked p.circuit session.property word asked) (sym h.pair) is)
+
+  asked_back : (word : Option (List ℕ)) (asked : Option ℕ) → IsAsked s.pair.circuit s.property word asked
+      → IsAsked session.run.bench.pair.circuit session.property word asked
+  asked_back word asked is =
+      subst (λ (o : Option ℕ). IsAsked session.run.bench.pair.circuit o word asked) h.property
+      (subst (λ (p : CircuitAndRows). IsAsked p.circuit s.property word asked) h.pair is)
+
   dump_in : (text : List ℕ)
       → IsDump (own_circuit session) (start_of session.run.bench.pair.circuit) session.run.bench.pair.rows text
       → IsDump (circuit_of s) (start_of s.pair.circuit) s.pair.rows text
@@ -109,7 +121,7 @@ module _ (old : Session) where
   circuit_saved name bytes e s h = (
     record s { has_edited_circuit = false; has_warned = false },
     (ap (λ (t : List ℕ). record { name = name; text = t } ∷ []) (e ∙ ap short_ascii (own_is old s h)), (refl, refl)),
-    record { pair = h.pair; latches = h.latches; first = h.first; entries = h.entries; start = h.start; rows = h.rows; circuit = refl },
+    record { pair = h.pair; latches = h.latches; property = h.property; first = h.first; entries = h.entries; start = h.start; rows = h.rows; circuit = refl },
   )
 
   both_texts : (name bytes stimulus rows : List ℕ) → bytes ≡ short_ascii (own_circuit old)
@@ -132,6 +144,7 @@ module _ (old : Session) where
     record {
       pair = h.pair;
       latches = h.latches;
+      property = h.property;
       first = h.first;
       entries = h.entries;
       start = sym (keeps.start ∙ start_is old s h);
@@ -150,11 +163,11 @@ module _ (old : Session) where
   rows_saved name bytes stimulus rows text e f other said s h = (
     record s { has_edited_circuit = false; has_warned = false },
     (both_texts name bytes stimulus rows e f s h, ((λ yes. absurd (other (starts_back old s h yes))), (λ no. (said, refl)))),
-    record { pair = h.pair; latches = h.latches; first = h.first; entries = h.entries; start = h.start; rows = h.rows; circuit = refl },
+    record { pair = h.pair; latches = h.latches; property = h.property; first = h.first; entries = h.entries; start = h.start; rows = h.rows; circuit = refl },
   )
 
   pub witness_saved : (file : List ℕ) (word : Option (List ℕ)) (bytes text : List ℕ) (asked : Option ℕ) (t k : ℕ)
-      (run : KeptRun) → IsAsked old.run.bench.pair.circuit word asked
+      (run : KeptRun) → IsAsked old.run.bench.pair.circuit old.property word asked
       → IsFirstReached (own_circuit old) (start_of old.run.bench.pair.circuit) old.run.bench.pair.rows asked t k
       → bytes ≡ witness_text (decimal k) (start_of old.run.bench.pair.circuit) (take (t + 1) old.run.bench.pair.rows)
       → KeepsRun run old.run.bench.pair → text ≡ reached_text k t file
@@ -166,7 +179,7 @@ module _ (old : Session) where
         asked,
         t,
         k,
-        subst (λ (p : CircuitAndRows). IsAsked p.circuit word asked) (sym h.pair) is_asked,
+        asked_in old s h word asked is_asked,
         first_in old s h asked t k reached,
         said,
         ap (λ (b : List ℕ). record { name = file; text = b } ∷ [])
@@ -178,6 +191,7 @@ module _ (old : Session) where
     record {
       pair = h.pair;
       latches = h.latches;
+      property = h.property;
       first = h.first;
       entries = h.entries;
       start = sym (keeps.start ∙ start_is old s h);
@@ -192,7 +206,7 @@ module _ (old : Session) where
   wave_saved file bytes d s h = (
     calm s,
     ((bytes, dump_in old s h bytes d, refl), refl, refl),
-    record { pair = h.pair; latches = h.latches; first = h.first; entries = h.entries; start = h.start; rows = h.rows; circuit = h.circuit },
+    record { pair = h.pair; latches = h.latches; property = h.property; first = h.first; entries = h.entries; start = h.start; rows = h.rows; circuit = h.circuit },
   )
 
 -- ---- what the call says
@@ -246,25 +260,26 @@ module _ (old : Session) (r : Request) where
 
 -- ---- a witness that nothing is
 
-asked_one : (raw : Raw) (word : Option (List ℕ)) (a b : Option ℕ) → IsAsked raw word a → IsAsked raw word b → a ≡ b
-asked_one raw None a b e f = e ∙ sym f
-asked_one raw (Some word) a b (k, e, at) (l, f, there) = e ∙ (sym at ∙ there) ∙ sym f
+asked_one : (raw : Raw) (opened : Option ℕ) (word : Option (List ℕ)) (a b : Option ℕ) → IsAsked raw opened word a
+    → IsAsked raw opened word b → a ≡ b
+asked_one raw opened None a b e f = e ∙ sym f
+asked_one raw opened (Some word) a b (k, e, at) (l, f, there) = e ∙ (sym at ∙ there) ∙ sym f
 
 module _ (session : Session) (file : List ℕ) (word : Option (List ℕ)) where
   -- no property is named so
-  pub no_property : ((asked : Option ℕ) → IsAsked session.run.bench.pair.circuit word asked → ⊥) → (s : SessionState)
+  pub no_property : ((asked : Option ℕ) → IsAsked session.run.bench.pair.circuit session.property word asked → ⊥) → (s : SessionState)
       → IsIn session s → HasNoAnswer s (witness file word)
   no_property none s h text texts after ((asked, t, k, is_asked, first, said, texts_are), after_is) =
-      none asked (subst (λ (p : CircuitAndRows). IsAsked p.circuit word asked) h.pair is_asked)
+      none asked (asked_back session s h word asked is_asked)
 
   -- none that is asked for is reached
-  pub no_witness : (asked : Option ℕ) → IsAsked session.run.bench.pair.circuit word asked
+  pub no_witness : (asked : Option ℕ) → IsAsked session.run.bench.pair.circuit session.property word asked
       → ReachesNone (own_circuit session) (start_of session.run.bench.pair.circuit) session.run.bench.pair.rows asked
       → (s : SessionState) → IsIn session s → HasNoAnswer s (witness file word)
   no_witness asked named none s h text texts after ((other, t, k, is_asked, first, said, texts_are), after_is) =
       let same : other ≡ asked
-      = asked_one session.run.bench.pair.circuit word other asked
-      (subst (λ (p : CircuitAndRows). IsAsked p.circuit word other) h.pair is_asked) named in
+      = asked_one session.run.bench.pair.circuit session.property word other asked
+      (asked_back session s h word other is_asked) named in
       subst (λ (raw : Raw). ReachesNone raw (start_of s.pair.circuit) s.pair.rows asked) (own_is session s h)
       (subst (λ (p : CircuitAndRows). ReachesNone (own_circuit session) (start_of p.circuit) p.rows asked) (sym h.pair)
       none) t k (subst (λ (a : Option ℕ). IsAskedFor a k) same first.asked_for) first.reaches

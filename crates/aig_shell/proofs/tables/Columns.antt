@@ -1,8 +1,7 @@
 -- The two rows of a signal, cell by cell.
-use Rattle.std.proofs.Common.{◌≡◌, ◌⊎◌, ℕ, zero, suc, ◌+◌, ◌-◌, ◌≤◌, List, [], ◌∷◌, ◌++◌, length, map, Some, slice_get}
+use Rattle.std.proofs.Common.{◌≡◌, ◌⊎◌, ℕ, zero, suc, ◌+◌, ◌-◌, ◌≤◌, List, [], ◌∷◌, ◌++◌, length, Some, slice_get}
 use Rattle.std.proofs.Common.{inl, inr, refl, sym, ap, ◌∙◌, subst, arith}
-use Rattle.std.specs.Global.{Vec}
-use Rattle.std.proofs.lemmas.List.{length_push, map-append}
+use Rattle.std.proofs.lemmas.List.{length_push}
 use Rattle.std.proofs.lemmas.Option.{slice_get_within}
 use Rattle.aig_bench.specs.BenchState.{CircuitAndRows}
 use Rattle.aig_signals.specs.declared.signal.Signal.{Signal}
@@ -48,27 +47,18 @@ module _ (now was : CircuitAndRows) (signal : Signal) (first n : ℕ) (above bel
     ];
   }
 
--- the same of rows that own their cells
-pub columns_more : (now was : CircuitAndRows) (signal : Signal) (first t : ℕ) (above below above' below' : List (Vec ℕ)) (cell under : Vec ℕ)
-    (current old : List ℕ) → first ≤ t
-    → AreColumns now was signal first (t - first) (map (λ (v : Vec ℕ). v.items) above) (map (λ (v : Vec ℕ). v.items) below)
-    → IsSignalCell now signal t current → IsSignalCell was signal t old → cell.items ≡ current → IsBelow current old under.items
-    → above' ≡ above ++ cell ∷ [] → below' ≡ below ++ under ∷ []
-    → AreColumns now was signal first (t + 1 - first) (map (λ (v : Vec ℕ). v.items) above') (map (λ (v : Vec ℕ). v.items) below')
-columns_more now was signal first t above below above' below' cell under current old le before here there copied is e f =
-    let here' : IsSignalCell now signal (first + (t - first)) cell.items =
-    subst (λ u. IsSignalCell now signal u cell.items) (at) (subst (IsSignalCell now signal t) (sym copied) here) in
+-- the same at a frame
+pub columns_more : (now was : CircuitAndRows) (signal : Signal) (first t : ℕ) (above below above' below' : List (List ℕ))
+    (cell old under : List ℕ) → first ≤ t → AreColumns now was signal first (t - first) above below
+    → IsSignalCell now signal t cell → IsSignalCell was signal t old → IsBelow cell old under → above' ≡ above ++ cell ∷ []
+    → below' ≡ below ++ under ∷ [] → AreColumns now was signal first (t + 1 - first) above' below'
+columns_more now was signal first t above below above' below' cell old under le before here there is e f =
+    let here' : IsSignalCell now signal (first + (t - first)) cell = subst (λ u. IsSignalCell now signal u cell) at here in
     let there' : IsSignalCell was signal (first + (t - first)) old = subst (λ u. IsSignalCell was signal u old) at there in
-    let is' : IsBelow cell.items old under.items = subst (λ c. IsBelow c old under.items) (sym copied) is in
-    let all =
-    columns_push now was signal first (t - first) (map (λ (v : Vec ℕ). v.items) above) (map (λ (v : Vec ℕ). v.items) below) cell.items old
-    under.items before here' there' is' in
-    subst (λ n. AreColumns now was signal first n (map (λ (v : Vec ℕ). v.items) above') (map (λ (v : Vec ℕ). v.items) below')) size
-    (subst (λ xs. AreColumns now was signal first ((t - first) + 1) xs (map (λ (v : Vec ℕ). v.items) below'))
-    (sym (ap (map (λ (v : Vec ℕ). v.items)) e ∙ map-append (λ (v : Vec ℕ). v.items) above (cell ∷ [])))
-    (subst
-    (AreColumns now was signal first ((t - first) + 1) (map (λ (v : Vec ℕ). v.items) above ++ cell.items ∷ []))
-    (sym (ap (map (λ (v : Vec ℕ). v.items)) f ∙ map-append (λ (v : Vec ℕ). v.items) below (under ∷ []))) all))
+    let all = columns_push now was signal first (t - first) above below cell old under before here' there' is in
+    subst (λ n. AreColumns now was signal first n above' below') size
+    (subst (λ xs. AreColumns now was signal first ((t - first) + 1) xs below') (sym e)
+    (subst (AreColumns now was signal first ((t - first) + 1) (above ++ cell ∷ [])) (sym f) all))
   where
     at : t ≡ first + (t - first)
     at = omega (arith, le)
@@ -76,8 +66,8 @@ columns_more now was signal first t above below above' below' cell under current
     size : (t - first) + 1 ≡ t + 1 - first
     size = omega (arith, le)
 
-pub columns_begin : (now was : CircuitAndRows) (signal : Signal) (first : ℕ) (above below : List (Vec ℕ)) → above ≡ [] → below ≡ []
-    → AreColumns now was signal first (first - first) (map (λ (v : Vec ℕ). v.items) above) (map (λ (v : Vec ℕ). v.items) below)
+pub columns_begin : (now was : CircuitAndRows) (signal : Signal) (first : ℕ) (above below : List (List ℕ)) → above ≡ [] → below ≡ []
+    → AreColumns now was signal first (first - first) above below
 columns_begin now was signal first above below e f =
     let none : 0 ≡ first - first = omega arith in
     rw (e, f) (subst (λ n. AreColumns now was signal first n [] []) none

@@ -1,7 +1,6 @@
 -- Tables that are shown: cells, rows and frames.
 use Rattle.std.proofs.Common.{◌≡◌, ◌≢◌, ℕ, zero, suc, ◌+◌, ◌-◌, ◌<◌, ◌≤◌, List, [], ◌∷◌, ◌++◌, length, map, take}
 use Rattle.std.proofs.Common.{get_or, Option, None, Some, Result, Ok, Err, IfErr, sym, ap, subst, ◌∙◌, arith}
-use Rattle.std.specs.Global.{Vec}
 use Rattle.std.specs.Prelude.{IsErrAnd}
 use Rattle.std.specs.List.{AllZip, range_with_len}
 use Rattle.std.proofs.lemmas.List.{map-append, map_more, take_more}
@@ -53,15 +52,12 @@ range_more a j le =
     ap (range_with_len a) size ∙ range_last a (j - a) ∙ ap (λ k. range_with_len a (j - a) ++ k ∷ []) here
 
 -- the cell of a frame more
-pub cells_more : (R : ℕ → List ℕ → Type 0) (a j : ℕ) (cells new : List (Vec ℕ)) (cell : Vec ℕ) → a ≤ j
-    → AllZip R (range_with_len a (j - a)) (map (λ (v : Vec ℕ). v.items) cells) → R j cell.items → new ≡ cells ++ cell ∷ []
-    → AllZip R (range_with_len a (j + 1 - a)) (map (λ (v : Vec ℕ). v.items) new)
+pub cells_more : (R : ℕ → List ℕ → Type 0) (a j : ℕ) (cells new : List (List ℕ)) (cell : List ℕ) → a ≤ j
+    → AllZip R (range_with_len a (j - a)) cells → R j cell → new ≡ cells ++ cell ∷ [] → AllZip R (range_with_len a (j + 1 - a)) new
 cells_more R a j cells new cell le before here pushed =
-    let texts : map (λ (v : Vec ℕ). v.items) new ≡ map (λ (v : Vec ℕ). v.items) cells ++ cell.items ∷ [] =
-    ap (map (λ (v : Vec ℕ). v.items)) pushed ∙ map-append (λ (v : Vec ℕ). v.items) cells (cell ∷ []) in
-    subst (λ ns. AllZip R ns (map (λ (v : Vec ℕ). v.items) new)) (sym (range_more a j le))
-    (subst (AllZip R (range_with_len a (j - a) ++ j ∷ [])) (sym texts)
-    (all_zipped_more R (range_with_len a (j - a)) (map (λ (v : Vec ℕ). v.items) cells) j cell.items before here))
+    subst (λ ns. AllZip R ns new) (sym (range_more a j le))
+    (subst (AllZip R (range_with_len a (j - a) ++ j ∷ [])) (sym pushed)
+    (all_zipped_more R (range_with_len a (j - a)) cells j cell before here))
 
 -- the row of a name more
 pub rows_more : {X Y A B : Type 0} (R : A → B → Type 0) (f : X → A) (g : Y → B) (xs : List X) (i : ℕ) (d : X) (ys new : List Y) (y : Y)

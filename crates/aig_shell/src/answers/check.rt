@@ -1,14 +1,12 @@
 //! Which properties a run reaches.
-ghost use Rattle.std.specs.Prelude.{◌≡◌, ◌≢◌, ◌⊎◌, ◌+◌, ◌<◌, ◌≤◌, ℕ, false, List, [], ◌++◌, IfErr, IfNone, IfOk};
+ghost use Rattle.std.specs.Prelude.{◌≡◌, ◌≢◌, ◌⊎◌, ◌+◌, ◌<◌, ◌≤◌, ℕ, ◌^◌, false, [], ◌++◌, IfErr, IfNone, IfOk};
 ghost use Rattle.std.specs.Prelude.{IfSome, IsTrue, None, OnOk, Some, decimal, length, slice_get};
 ghost use Rattle.aig_parts.specs.Literal.{variable};
 ghost use Rattle.aig_base.specs.Sections.{IsDefined};
 ghost use Rattle.aig_base.specs.Value.{start_of};
-ghost use Rattle.aig_parts.specs.declared.symbols.Kind.TheVariants as kinds;
-ghost use Rattle.aig_signals.specs.Lookup.{entry_in};
-ghost use Rattle.aig_sim.specs.Reached.{IsFirstReached, ReachesNone};
 ghost use Rattle.aig_sim.specs.Verdict.{StartsWrong};
-ghost use Rattle.aig_shell.specs.Answers.{AreStandings, IsChecked, property_name, standings_text};
+ghost use Rattle.aig_shell.specs.Answers.{AreStandings, IsChecked, is_condition, line_if, property_name, standing_line};
+ghost use Rattle.aig_shell.specs.Answers.{standings_text};
 ghost use Rattle.aig_shell.specs.Reasons.{broken_text, no_property_text, start_text};
 ghost use Rattle.aig_shell.specs.Session.{IsIn, IsSession, own_circuit};
 ghost use Rattle.aig_shell.specs.Standing.{HoldAt, HoldBefore, HoldBelow, IsBroken, IsFirstAt, IsFirstBroken, IsNever};
@@ -17,12 +15,10 @@ ghost use Rattle.aig_shell.specs.State.{SessionState};
 
 use crate::answers::gate::letter;
 use crate::pieces::{Piece, push_pieces};
-use crate::refusal::{Refusal, Wanted};
 use crate::session::Session;
 use aig_base::{Circuit, Kind, Lit, Memory, Tern};
 use aig_names::push_position;
-use aig_signals::{entry_named, push_first_name};
-use aig_sim::{Reached, first_reached, first_states};
+use aig_signals::push_first_name;
 
 /// A frame and a constraint that is not 1 there.
 #[derive(Clone, Copy, Drop)]
@@ -46,7 +42,11 @@ pub(crate) enum Standing {
 }
 
 /// Adds `b0 NAME`, or `b0` alone where the property has no name.
-fn push_property(text: &mut Vec<u8>, circuit: &Circuit, position: u32) -> Result<(), Memory>
+pub(crate) fn push_property(
+    text: &mut Vec<u8>,
+    circuit: &Circuit,
+    position: u32,
+) -> Result<(), Memory>
     ensures { OnOk result (text.new.items ≡ text.old.items ++ property_name circuit.now position) }
 {
     let before = text.len();
@@ -222,25 +222,70 @@ impl Session {
         }
     }
 
-    /// Adds a line for each property.
-    fn push_standings(&self, text: &mut Vec<u8>, broken: Option<Broken>) -> Result<(), Memory>
+    /// What the run does to each property.
+    fn standings(&self, broken: Option<Broken>) -> Result<Vec<Standing>, Memory>
         requires session { IsSession self.now }
         requires some { IfSome broken (λ b. IsFirstBroken self.now.run.bench.pair b.frame b.constraint b.value) }
         requires none { IfNone broken (HoldBefore self.now.run.bench.pair (length self.now.run.bench.pair.rows)) }
-        ensures { OnOk result ((standings : List Standing)
-            × AreStandings (own_circuit self.now) self.now.run.bench.pair 0 self.now.run.bench.pair.circuit.bad
-            standings
-            × (text.new.items ≡ text.old.items ++ standings_text self.now.run.bench.pair.circuit 0 standings)) }
+        ensures { IfOk result (λ standings. AreStandings (own_circuit self.now) self.now.run.bench.pair 0
+            self.now.run.bench.pair.circuit.bad standings.items) }
     {
+        let mut standings = Vec::new(self.alloc);
         let circuit = self.circuit();
         // Its contract says that it is a circuit.
         circuit.facts();
         for (position, literal) in circuit.bad().iter().enumerate() {
             let standing = self.standing(position as u32, *literal, broken);
-            push_property(text, circuit, position as u32)?;
-            text.extend_from_slice(b": ")?;
-            push_standing(text, standing)?;
-            text.push(b'\n')?;
+            standings.push(standing)?;
+        }
+        Ok(standings)
+    }
+
+    /// Whether a property is the condition of an assertion, `if:NAME`.
+    fn is_condition(&self, position: u32) -> Result<bool, Memory>
+        ensures { IfOk result (λ is. is ≡ is_condition self.now.run.bench.pair.circuit position) }
+    {
+        let mut name = Vec::new(self.alloc);
+        push_first_name(&mut name, self.circuit(), Kind::Bad, position)?;
+        Ok(name.as_slice().starts_with(b"if:"))
+    }
+
+    /// Adds the line of a condition if those are asked for, and of any other property if the others are.
+    fn push_line(
+        &self,
+        text: &mut Vec<u8>,
+        conditions: bool,
+        position: u32,
+        standing: &Standing,
+    ) -> Result<(), Memory>
+        ensures { OnOk result (text.new.items ≡ text.old.items ++ line_if conditions
+            (is_condition self.now.run.bench.pair.circuit position)
+            (standing_line self.now.run.bench.pair.circuit position standing.now)) }
+    {
+        let is = self.is_condition(position)?;
+        if is != conditions {
+            return Ok(());
+        }
+        push_property(text, self.circuit(), position)?;
+        text.extend_from_slice(b": ")?;
+        push_standing(text, *standing)?;
+        text.push(b'\n')?;
+        Ok(())
+    }
+
+    /// Adds the lines of the conditions, or those of all other properties.
+    fn push_lines(
+        &self,
+        text: &mut Vec<u8>,
+        conditions: bool,
+        standings: &[Standing],
+    ) -> Result<(), Memory>
+        requires { length standings.now < 2 ^ 32 }
+        ensures { OnOk result (text.new.items ≡ text.old.items ++
+            standings_text self.now.run.bench.pair.circuit conditions 0 standings.now) }
+    {
+        for (position, standing) in standings.iter().enumerate() {
+            self.push_line(text, conditions, position as u32, standing)?;
         }
         Ok(())
     }
@@ -300,60 +345,20 @@ impl Session {
         Ok(())
     }
 
-    /// Adds for each property whether the run reaches it, and why it is no run where it is none.
+    /// Adds for each property whether the run reaches it, the conditions last, and why it is no run where it is none.
     pub(crate) fn check(&self, text: &mut Vec<u8>) -> Result<(), Memory>
         requires session { IsSession self.now }
         requires empty { text.old.items ≡ [] }
         ensures { OnOk result ((s : SessionState) → IsIn self.now s → IsChecked s text.new.items) }
     {
         let broken = self.broken();
-        self.push_standings(text, broken)?;
+        let standings = self.standings(broken)?;
+        // Its contract says that it is a circuit.
+        self.circuit().facts();
+        self.push_lines(text, false, standings.as_slice())?;
+        self.push_lines(text, true, standings.as_slice())?;
         push_none(text, self.circuit().bad())?;
         self.push_reasons(text, broken, self.other_start())?;
         Ok(())
-    }
-
-    /// The first frame that reaches a property, and which; of those that are asked for.
-    pub(crate) fn reached<'a>(&self, asked: Option<u32>) -> Result<Reached, Refusal<'a>>
-        requires session { IsSession self.now }
-        requires property { IfSome asked (λ k. k < length self.now.run.bench.pair.circuit.bad) }
-        ensures ok { IfOk result (λ found. IsFirstReached (own_circuit self.now)
-            (start_of self.now.run.bench.pair.circuit)
-            self.now.run.bench.pair.rows asked found.frame found.property) }
-        ensures err { IfErr result (λ refusal. refusal ≢ Refusal.Memory →
-            ReachesNone (own_circuit self.now) (start_of self.now.run.bench.pair.circuit) self.now.run.bench.pair.rows
-            asked) }
-    {
-        if let Some((latch, value)) = self.other_start() {
-            return Err(Refusal::OtherStart { latch, value });
-        }
-        let circuit = self.circuit();
-        let start = first_states(self.alloc, circuit)?;
-        let bench = self.bench();
-        let rows = bench.stimulus();
-        match first_reached(self.alloc, circuit, start.as_slice(), rows, asked)? {
-            Some(reached) => Ok(reached),
-            None => Err(Refusal::NotReached),
-        }
-    }
-
-    /// The position of the property that a word names.
-    pub(crate) fn property<'a>(&self, word: &'a [u8]) -> Result<u32, Refusal<'a>>
-        requires session { IsSession self.now }
-        ensures ok { IfOk result (λ k. entry_in self.now.run.bench.pair.circuit word.now kinds.Bad ≡ Some k) }
-        ensures within { IfOk result (λ k. k < length self.now.run.bench.pair.circuit.bad) }
-        ensures err { IfErr result (λ refusal. refusal ≢ Refusal.Memory →
-            entry_in self.now.run.bench.pair.circuit word.now kinds.Bad ≡ None) }
-    {
-        let found = entry_named(self.alloc, self.circuit(), Kind::Bad, word)?;
-        if let Some(position) = found {
-            return Ok(position);
-        }
-        // Its refusal says that there is no such name.
-        self.literals(word)?;
-        Err(Refusal::No {
-            word,
-            wanted: Wanted::Property,
-        })
     }
 }

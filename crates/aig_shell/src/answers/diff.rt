@@ -22,7 +22,7 @@ use crate::refusal::Refusal;
 use crate::session::Session;
 use crate::session::frames::{SHOWN, frames_of};
 use aig_base::{Kind, Lit, Memory, Tern};
-use aig_prompt::{Row, Table};
+use aig_prompt::{Row, Table, Texts};
 use aig_signals::{Signal, literal_at, push_table_value};
 use std::alloc::Global;
 
@@ -74,15 +74,14 @@ impl Cells {
     }
 
     /// The text of the value that was, or `=` where it is the same.
-    fn below(&self, alloc: Global) -> Result<Vec<u8>, Memory>
-        ensures { IfOk result (λ text. IsBelow self.now.current.items self.now.was.items text.items) }
+    fn below(&self) -> &[u8]
+        ensures { IsBelow self.now.current.items self.now.was.items result.now }
     {
-        let text = if self.are_same() {
-            Vec::from_slice(alloc, b"=")?
+        if self.are_same() {
+            b"="
         } else {
-            Vec::from_slice(alloc, self.was.as_slice())?
-        };
-        Ok(text)
+            self.was.as_slice()
+        }
     }
 }
 
@@ -274,14 +273,12 @@ impl Session {
             (row_of rows.1)) }
     {
         let mut cells = Cells::new(self.alloc);
-        let mut above = Vec::new(self.alloc);
-        let mut below = Vec::new(self.alloc);
+        let mut above = Texts::new(self.alloc);
+        let mut below = Texts::new(self.alloc);
         for frame in first..end {
             self.fill(&mut cells, literals, frame)?;
-            let cell = Vec::from_slice(self.alloc, cells.current.as_slice())?;
-            above.push(cell)?;
-            let under = cells.below(self.alloc)?;
-            below.push(under)?;
+            above.push(cells.current.as_slice())?;
+            below.push(cells.below())?;
         }
         let text = signal.name.as_slice();
         let name = Vec::from_slice(self.alloc, text)?;

@@ -118,13 +118,13 @@ impl Session {
         }
     }
 
-    /// Explains the property that a witness would be of.
+    /// Explains the property of the witness that was opened; without one, the first that is reached.
     fn explain_property<'a>(&self, text: &mut Vec<u8>) -> Result<(), Refusal<'a>>
         requires session { IsSession self.now }
         requires empty { text.old.items ≡ [] }
         ensures { EndsQuery self.now request.why_first result text.new.items }
     {
-        let reached = self.reached(None)?;
+        let reached = self.reached(self.property)?;
         let question = Question::of_property(self.alloc, self.circuit(), reached.property)?;
         self.push_explanation(text, &question, reached.frame)?;
         Ok(())
@@ -167,8 +167,7 @@ impl Session {
         Ok(())
     }
 
-    /// Adds why a name has its value at a frame; without a name, why the property that a witness would be of is
-    /// reached.
+    /// Adds why a name has its value at a frame; without a name, why the run reaches the property that `witness` means.
     pub(crate) fn why<'a>(
         &self,
         text: &mut Vec<u8>,

@@ -15,7 +15,7 @@ use crate::refusal::Refusal;
 use crate::session::Session;
 use crate::session::frames::{Frames, SHOWN};
 use aig_base::{Lit, Memory, Tern};
-use aig_prompt::{Row, Table};
+use aig_prompt::{Row, Table, Texts};
 use aig_signals::{SignalNames, push_table_value};
 
 /// The frames that are shown where none are named: all, or the last ones. Says how many are left out.
@@ -59,21 +59,21 @@ impl Session {
         Ok(())
     }
 
-    /// The text of the values of literals at a frame.
-    fn cell(
+    /// Fills in the text of the values of literals at a frame.
+    fn fill_cell(
         &self,
+        cell: &mut Vec<u8>,
         bits: &mut Vec<Option<Tern>>,
         frame: u32,
         literals: &[Lit],
-    ) -> Result<Vec<u8>, Memory>
+    ) -> Result<(), Memory>
         requires frame { frame < length self.now.run.bench.pair.rows }
         requires defined { All (λ l. IsDefined self.now.run.bench.pair.circuit (variable l)) literals.now }
-        ensures { IfOk result (λ cell. IsCell self.now.run.bench.pair literals.now frame cell.items) }
+        ensures { OnOk result (IsCell self.now.run.bench.pair literals.now frame cell.new.items) }
     {
+        cell.clear();
         self.bits(bits, frame, literals)?;
-        let mut cell = Vec::new(self.alloc);
-        push_table_value(&mut cell, bits.as_slice())?;
-        Ok(cell)
+        push_table_value(cell, bits.as_slice())
     }
 
     /// The row of the values of literals, at frames up to the end.
@@ -86,10 +86,11 @@ impl Session {
             AreCells self.now.run.bench.pair literals.now first (end - first) (row_of row).cells) }
     {
         let mut bits = Vec::new(self.alloc);
-        let mut cells = Vec::new(self.alloc);
+        let mut cell = Vec::new(self.alloc);
+        let mut cells = Texts::new(self.alloc);
         for frame in first..end {
-            let cell = self.cell(&mut bits, frame, literals)?;
-            cells.push(cell)?;
+            self.fill_cell(&mut cell, &mut bits, frame, literals)?;
+            cells.push(cell.as_slice())?;
         }
         let name = Vec::from_slice(self.alloc, name)?;
         Ok(Row { name, cells })

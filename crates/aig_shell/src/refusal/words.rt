@@ -3,10 +3,11 @@ ghost use Rattle.std.specs.Prelude.{◌≡◌, ◌≢◌, [], OnOk};
 ghost use Rattle.aig_shell.specs.Answers.{IsRefusal};
 ghost use Rattle.aig_shell.specs.Session.{IsSession};
 
+use crate::answers::check::push_property;
 use crate::pieces::{Piece, push_number, push_pieces};
 use crate::refusal::Refusal;
 use crate::session::Session;
-use aig_base::Memory;
+use aig_base::{Circuit, Memory};
 use aig_bench::EditFault;
 use aig_prompt::is_binary;
 use aig_signals::{Signal, push_first_name};
@@ -225,6 +226,23 @@ fn push_plain<'t>(text: &mut Vec<u8>, before: &'t [u8], after: &'t [u8]) -> Resu
     push_pieces(text, &[Piece::Text(before), Piece::Text(after)])
 }
 
+/// Adds that a property is not reached, or none where none is meant.
+fn push_not_reached(
+    text: &mut Vec<u8>,
+    circuit: &Circuit,
+    property: Option<u32>,
+) -> Result<(), Memory> {
+    match property {
+        Some(position) => {
+            push_property(text, circuit, position)?;
+            text.extend_from_slice(b" is not reached")?;
+        }
+        None => text.extend_from_slice(b"no property is reached")?,
+    }
+    text.extend_from_slice(b"; check says why")?;
+    Ok(())
+}
+
 /// Adds why a line does nothing that does not tell what is wrong with a word.
 fn push_other_words(text: &mut Vec<u8>, refusal: Refusal<'_>) -> Result<(), Memory> {
     match refusal {
@@ -233,7 +251,6 @@ fn push_other_words(text: &mut Vec<u8>, refusal: Refusal<'_>) -> Result<(), Memo
         Refusal::FewFrames(frames) => push_counted(text, b"there are ", frames, b" frames"),
         Refusal::ManyFrames(most) => push_counted(text, b"over a limit: ", most, b" frames"),
         Refusal::Edit(fault) => push_plain(text, edit_words(fault), b""),
-        Refusal::NotReached => push_plain(text, b"no property is reached; check says why", b""),
         Refusal::NotWritten { file, reason } => {
             push_of(text, file, b" is not written: ", reason.words().as_bytes())
         }
@@ -261,6 +278,7 @@ fn push_words(text: &mut Vec<u8>, session: &Session, refusal: Refusal<'_>) -> Re
         Refusal::OtherWidth { word, bits } => push_other_width(text, word, bits),
         Refusal::Wide { word, bits } => push_wide(text, word, bits),
         Refusal::NotACount(word) => push_of(text, word, b" is no number of frames", b""),
+        Refusal::NotReached(property) => push_not_reached(text, session.circuit(), property),
         Refusal::NoneContains(word) => push_said(text, b"no name contains ", word, b""),
         _ => push_other_words(text, refusal),
     }

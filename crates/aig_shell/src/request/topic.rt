@@ -100,7 +100,7 @@ impl Topic {
     pub(crate) fn about(self) -> &'static str {
         match self {
             Topic::Show => "values over the frames: hexadecimal, or bits if one is x",
-            Topic::Why => "the causes of a value, or of the first property reached",
+            Topic::Why => "the causes of a value, or of the witness's property",
             Topic::Set => "an input at a frame, or at frames A-B",
             Topic::Start => "a latch at frame 0, in this run alone",
             Topic::Add => "N frames at the end (1), with x at each input",
@@ -111,7 +111,7 @@ impl Topic {
             Topic::Check => "which properties the run reaches",
             Topic::Diff => "what differs from the run that was read",
             Topic::Save => "write the circuit, and the inputs of all frames",
-            Topic::Witness => "write the run up to a property, the first that it reaches",
+            Topic::Witness => "write the run up to a property, or the witness's",
             Topic::Wave => "write the run as a waveform",
             Topic::Names => "the names that contain TEXT",
             Topic::Help => "this list, or one line of it",

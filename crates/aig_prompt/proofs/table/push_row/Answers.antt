@@ -7,7 +7,7 @@ pub loop-place-preserved : goal.loop-place-preserved
 loop-place-preserved c =
     places_more (λ place. cell_text c.args.layout.cell (cell_at (row_of c.args.row.now) place)) c.loop-place.text.items
     c.push_cell.new.text.items _ c.loop-place.place c.args.end c.loop-place-test.true
-    (c.in_ok-push_cell.ensures ∙ ap (λ (t : List ℕ). c.loop-place.text.items ++ cell_text c.args.layout.cell t) c.cell.ensures)
+    (c.in_ok-push_cell.ensures ∙ ap (λ (t : List ℕ). c.loop-place.text.items ++ cell_text c.args.layout.cell t) c.get.ensures.text)
     c.loop-place.invariant
 
 pub returns : goal.returns

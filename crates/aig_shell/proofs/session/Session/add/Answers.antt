@@ -14,4 +14,4 @@ returns-then-not-fits-clause-edits c = (
 )
 
 pub returns-clause-session : goal.returns-clause-session
-returns-clause-session c = session_kept _ _ _ c.requires.session (record { latches = refl; signals = refl; first = refl; kept = refl }) c.in_ok-add_frames.ensures.done
+returns-clause-session c = session_kept _ _ _ c.requires.session (record { latches = refl; signals = refl; first = refl; kept = refl; property = refl }) c.in_ok-add_frames.ensures.done

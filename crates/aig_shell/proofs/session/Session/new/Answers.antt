@@ -1,4 +1,4 @@
-use Rattle.std.proofs.Common.{Err, List, All, refl, sym, subst, ◌∙◌}
+use Rattle.std.proofs.Common.{ℕ, ◌<◌, Err, List, All, IfSome, length, refl, sym, subst, ◌∙◌}
 use Rattle.std.specs.List.{AllZip}
 use Rattle.aig_bytes.proofs.Results.{known_err}
 use Rattle.aig_parts.specs.declared.latch.Latch.{Latch}
@@ -18,25 +18,27 @@ returns-clause-session c =
       latches = subst (λ (own : List Latch). AllZip IsSameLatch own circuit.latches) (sym c.in_ok-run.ensures.latches)
           c.in_ok-run.ensures.resets.latches;
       resets = subst (All IsReset) (sym c.in_ok-run.ensures.latches) c.facts.ensures.sound.resets;
+      property = subst (λ (ls : List ℕ). IfSome c.args.given.property (λ k. k < length ls)) (sym c.in_ok-run.ensures.resets.bad)
+          c.requires.property;
     }
 
 pub returns-in_err-signals-clause-refused : goal.returns-in_err-signals-clause-refused
 returns-in_err-signals-clause-refused c =
-    known_err c.from_residual.result run_faults.Memory (RefusesRows c.args.circuit c.args.rows.rows) c.from_residual.ensures.1 tt
+    known_err c.from_residual.result run_faults.Memory (RefusesRows c.args.circuit c.args.given.rows.rows) c.from_residual.ensures.1 tt
 
 pub returns-in_err-run-clause-refused : goal.returns-in_err-run-clause-refused
 returns-in_err-run-clause-refused c =
     let fault = c.in_err-run.field-0.0 in
-    known_err c.from_residual-in_err-run.result (run_faults.Bench fault) (RefusesRows c.args.circuit c.args.rows.rows)
+    known_err c.from_residual-in_err-run.result (run_faults.Bench fault) (RefusesRows c.args.circuit c.args.given.rows.rows)
     c.from_residual-in_err-run.ensures.1
-    (rows_refused (Err fault) c.args.circuit c.args.rows.rows fault refl c.in_err-run.ensures.width c.in_err-run.ensures.limit)
+    (rows_refused (Err fault) c.args.circuit c.args.given.rows.rows fault refl c.in_err-run.ensures.width c.in_err-run.ensures.limit)
 
 pub returns-in_err-first-clause-refused : goal.returns-in_err-first-clause-refused
 returns-in_err-first-clause-refused c =
-    known_err c.from_residual-in_err-first.result run_faults.Memory (RefusesRows c.args.circuit c.args.rows.rows)
+    known_err c.from_residual-in_err-first.result run_faults.Memory (RefusesRows c.args.circuit c.args.given.rows.rows)
     c.from_residual-in_err-first.ensures.1 tt
 
 pub returns-in_err-kept-clause-refused : goal.returns-in_err-kept-clause-refused
 returns-in_err-kept-clause-refused c =
-    known_err c.from_residual-in_err-kept.result run_faults.Memory (RefusesRows c.args.circuit c.args.rows.rows)
+    known_err c.from_residual-in_err-kept.result run_faults.Memory (RefusesRows c.args.circuit c.args.given.rows.rows)
     c.from_residual-in_err-kept.ensures.1 tt

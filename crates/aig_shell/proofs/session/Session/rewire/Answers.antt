@@ -34,7 +34,7 @@ returns-in_err-rewire-clause-edits c =
     c.in_err-rewire.ensures.edits) c.in_err-rewire.ensures.edits.1
 
 pub returns-clause-session : goal.returns-clause-session
-returns-clause-session c = session_kept _ _ _ c.requires.session (record { latches = refl; signals = refl; first = refl; kept = refl }) (leads_one _ _ (edit.rewire c.in_ok-literal.literal c.in_ok-side0.side0 c.in_ok-side1.side1) c.in_ok-rewire.ensures.edits.0 c.in_ok-rewire.ensures.edits.1)
+returns-clause-session c = session_kept _ _ _ c.requires.session (record { latches = refl; signals = refl; first = refl; kept = refl; property = refl }) (leads_one _ _ (edit.rewire c.in_ok-literal.literal c.in_ok-side0.side0 c.in_ok-side1.side1) c.in_ok-rewire.ensures.edits.0 c.in_ok-rewire.ensures.edits.1)
 
 pub returns-clause-edits : goal.returns-clause-edits
 returns-clause-edits c =

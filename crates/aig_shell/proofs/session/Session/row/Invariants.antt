@@ -1,8 +1,7 @@
-use Rattle.std.proofs.Common.{◌-◌, ◌≤◌, ℕ, map}
-use Rattle.std.specs.Global.{Vec}
+use Rattle.std.proofs.Common.{◌-◌}
 use Rattle.aig_shell.specs.Tables.{AreCells}
 use Rattle.aig_shell.proofs.session.Session.row.Given as goal
 
 abbrev pub invariant-loop-frame : goal.invariant-loop-frame
 invariant-loop-frame l =
-    AreCells l.self.run.bench.pair l.literals l.first (l.frame - l.first) (map (λ (cell : Vec ℕ). cell.items) l.cells.items)
+    AreCells l.self.run.bench.pair l.literals l.first (l.frame - l.first) l.cells

@@ -35,4 +35,4 @@ set_frames-requires-clause-positions c =
     (positions_within c.args.self.now.run.bench.pair.circuit literals c.in_ok-positions.positions.items are)
 
 pub returns-clause-session : goal.returns-clause-session
-returns-clause-session c = session_kept _ _ _ c.requires.session (record { latches = refl; signals = refl; first = refl; kept = refl }) c.set_frames.ensures
+returns-clause-session c = session_kept _ _ _ c.requires.session (record { latches = refl; signals = refl; first = refl; kept = refl; property = refl }) c.set_frames.ensures

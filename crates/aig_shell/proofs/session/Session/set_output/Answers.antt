@@ -24,7 +24,7 @@ returns-in_err-set_output-clause-edits c =
 
 pub returns-clause-session : goal.returns-clause-session
 returns-clause-session c =
-    session_kept _ _ _ c.requires.session (record { latches = refl; signals = refl; first = refl; kept = refl })
+    session_kept _ _ _ c.requires.session (record { latches = refl; signals = refl; first = refl; kept = refl; property = refl })
     (leads_one _ _ (edit.set_output c.in_ok-position.position c.in_ok-literal.literal) c.in_ok-set_output.ensures.edits.0
     c.in_ok-set_output.ensures.edits.1)
 

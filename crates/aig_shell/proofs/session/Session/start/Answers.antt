@@ -26,4 +26,4 @@ start_latches-requires-clause-latches c =
     subst (All (IsLatchLiteral c.args.self.now.run.bench.pair.circuit)) (sym c.as_slice.ensures) c.in_ok-latches.ensures.ok.1
 
 pub returns-clause-session : goal.returns-clause-session
-returns-clause-session c = session_kept _ _ _ c.requires.session (record { latches = refl; signals = refl; first = refl; kept = refl }) c.start_latches.ensures
+returns-clause-session c = session_kept _ _ _ c.requires.session (record { latches = refl; signals = refl; first = refl; kept = refl; property = refl }) c.start_latches.ensures
