@@ -74,6 +74,7 @@ install: $(PROGRAM) $(addsuffix /libaig.a,$(LIBRARY))
 	done
 	install -D -m 644 completions/aig.bash "$(ROOT)/share/bash-completion/completions/aig-explain"
 	install -D -m 644 -t "$(ROOT)/share/zsh/site-functions" completions/_aig completions/_aig-verdicts
+	install -D -m 644 -t "$(ROOT)/share/fish/vendor_completions.d" completions/aig-verdicts.fish
 	if [ "$(LIBRARY)" ]; then \
 	    install -D -m 644 include/aig.h "$(ROOT)/include/aig.h" && \
 	    install -D -m 644 "$(LIBRARY)/libaig.a" "$(ROOT)/lib/libaig.a" && \

@@ -4,7 +4,7 @@
 
 _aig_verdicts() {
     local -A options=(
-        [run]="--abc --assert --conflicts --cores --dask --define --drat2lrat --frames --free --fresh --help --hints --include --jobs --json --junit --keep-open --list --megabytes --minimal --module --needed --no-conditions --no-simulator --no-wires --only --out --parameter --proof-megabytes --quiet --seconds --simulator --since --solver --top --total --verbose --zip"
+        [run]="--abc --assert --conflicts --cores --dask --dask-seconds --define --depth --drat2lrat --engine --frames --free --fresh --help --hints --include --jobs --json --junit --keep-open --list --megabytes --minimal --module --needed --no-conditions --no-simulator --no-wires --only --out --parameter --proof-megabytes --quiet --seconds --simulator --since --solver --top --total --verbose --zip"
         [demo]="--help"
         [recheck]="--help --include --jobs --json --junit --megabytes --page --quiet --seed --simulate --simulator --since --sources --yosys"
         [cores]="--abc --drat2lrat --help --jobs --json --junit --minimal --needed --quiet --solver --zip"

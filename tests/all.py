@@ -31,7 +31,8 @@ STEPS = "run_steps.py"
 PACKAGES = ("python/tests/run_package.py", "python/tests/run_explain.py", "python/tests/run_pages.py",
             "python/tests/run_bundles.py", "python/tests/run_circuit.py", "python/tests/run_replay.py",
             "python/tests/run_netlists.py", "python/tests/run_versions.py", "python/tests/run_sva.py",
-            "python/tests/run_reading.py", "python/tests/run_cores.py", "python/tests/run_options.py")
+            "python/tests/run_reading.py", "python/tests/run_cores.py", "python/tests/run_options.py",
+            "python/tests/run_dask.py")
 # this compares a few random designs with a simulator
 RANDOM = "python/tests/random_verilog.py"
 # this tries some of the planted bugs of the package

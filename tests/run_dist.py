@@ -120,6 +120,8 @@ def look(program, tally, way, root, functions="zsh/site-functions"):
     for name in ("_aig", "_aig-verdicts"):
         zsh = contents(f"{share}/{functions}/{name}")
         tally.check(f"{way}: {name} for zsh", zsh == contents(f"{REPOSITORY}/completions/{name}"), zsh[:80])
+    fish = contents(f"{share}/fish/vendor_completions.d/aig-verdicts.fish")
+    tally.check(f"{way}: for fish", fish == contents(f"{REPOSITORY}/completions/aig-verdicts.fish"), fish[:80])
     for name in DOCUMENTS:
         tally.check(f"{way}: {name}", contents(f"{documents}/{name}") == contents(f"{REPOSITORY}/{name}"), documents)
     for page in glob.glob(f"{documents}/**/*.md", recursive=True):

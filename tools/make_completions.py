@@ -1,6 +1,6 @@
 #!/usr/bin/env python3
-"""Writes aig.bash, _aig, aig-verdicts.bash and _aig-verdicts in completions/ from what the help of the program and of
-aig-verdicts says, and from the files beside them that end with .in. usage: tools/make_completions.py PROGRAM"""
+"""Writes aig.bash, _aig and those of aig-verdicts (bash, zsh, fish) in completions/ from what the help of the program
+and of aig-verdicts says, and from the files beside them that end with .in. usage: tools/make_completions.py PROGRAM"""
 
 import os
 import sys

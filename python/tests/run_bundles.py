@@ -9,8 +9,9 @@ from pathlib import Path
 PYTHON = Path(__file__).resolve().parent.parent
 sys.path[:0] = [str(PYTHON.parent / "tests"), str(PYTHON / "src"), str(PYTHON / "tests")]
 from bundles import (  # noqa: E402
-    attacks, checking, comparing, cores, crashing, deciding, denying, dying, emptied, ends, equal, folding, hinted, judging,
-    late, lots, lying, many, needed, remaking, replaying, reusing, searches, tampering, zips,
+    attacks, checking, comparing, concrete, cores, crashing, deciding, denying, dying, emptied, ends, engines, equal,
+    folding, hinted, judging, late, lots, lying, many, many_rows, needed, remaking, replaying, reusing, searches,
+    tampering, zips,
 )
 from library import runs  # noqa: E402
 
@@ -30,13 +31,16 @@ PARTS = {part.__name__.rstrip("_"): on_program(part) for part in (
     zips.zips, zips.hostile_zips, zips.script, zips.shipped,
     folding.folding,
     searches.found, searches.tools, searches.abc, searches.words, searches.demo,
+    engines.engines, engines.depths, concrete.concrete,
     hinted.form, hinted.hints, hinted.later, hinted.failures,
     attacks.folders_of_others, attacks.sizes, attacks.outputs,
     ends.stops, ends.total, ends.waits, ends.folders, ends.yosys, ends.bounds, ends.executors, judging.judging,
-    many.many, many.taken_over, lying.lies, checking.checking, late.dead, late.late, emptied.emptied, dying.dying,
+    many.many, many.taken_over, many_rows.unpacked_once, lying.lies, checking.checking, late.dead, late.late,
+    emptied.emptied, dying.dying,
     dying.memory, crashing.crashing, denying.denying, lots.lots,
     deciding.right, deciding.harms, deciding.lines, deciding.ends_of_aig, deciding.again, deciding.commands,
-    deciding.names_of_files, deciding.folder_files, deciding.workers_, deciding.stopped, deciding.rechecked,
+    deciding.names_of_files, deciding.folder_files, deciding.workers_, deciding.shared_again, deciding.stopped,
+    deciding.rechecked,
     deciding.kinds,
     equal.equal, remaking.remaking, replaying.replaying,
     comparing.changed, comparing.hiding, comparing.moved, comparing.compares,

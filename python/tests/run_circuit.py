@@ -4,6 +4,7 @@ Yosys are skipped, and say so, where there is none. The verdicts on whole design
 
 usage: run_circuit.py [PROGRAM]"""
 
+import argparse
 import os
 import re
 import shutil
@@ -179,7 +180,8 @@ class OfWarnings(unittest.TestCase):
 
 
 class OfTrees(unittest.TestCase):
-    """What `-dump_ast1` prints of `module m(input [2:0] i); (* keep = 1 *) reg [5:0] q; always @* while (i) go; endmodule`."""
+    """What `-dump_ast1` prints of `module m(input [2:0] i); (* keep = 1 *) reg [5:0] q; always @* while (i) go;
+    endmodule`."""
 
     TREE = """    AST_MODULE <sources/a.v:1.1-9.10> str='\\m'
       AST_WIRE <sources/a.v:1.10-1.11> str='\\i' input port=1
@@ -276,17 +278,37 @@ class OfLists(unittest.TestCase):
                 ("# none\n// none.v\n/* none.v\n*/ a.v /**/\n", (["a.v"], [], [])),
                 ("+incdir+x+y -Iz +define+A=1+B -DC=2 -sv", ([], ["x", "y", "z"], ["A=1", "B", "C=2"])),
                 ('"a b.v" $RTL/a.v ${RTL}/b.v $(RTL)/c.v +define+T="1 2"', (["a b.v", "rtl/a.v", "rtl/b.v", "rtl/c.v"], [], ["T=1 2"])),
+                ("-I x -D A=1 -D B", ([], ["x"], ["A=1", "B"])),
                 (f"-F {folder}/in/b.f", ([f"{folder}/in/b.v"], [], [])), (f"-f {folder}/in/c.f a.v", (["c.v", "a.v"], [], [])),
             ):
                 main.write_text(text)
                 found = listed([main])
                 self.assertEqual(([str(it) for it in found.files], [str(it) for it in found.include], found.define), wanted, text)
 
+    def test_parameters_and_top(self):
+        with tempfile.TemporaryDirectory() as name:
+            path = Path(name) / "main.f"
+            for text, parameters, top in (
+                ("-PN=1 -P M=2 -GK=3", ["N=1", "M=2", "K=3"], ""), ("-s m -P m.N=1", ["m.N=1"], "m"),
+                ("--top m", [], "m"), ("--top-module m\n-top m", [], "m"), ("-g2012 a.v", [], ""),
+            ):
+                path.write_text(text)
+                found = listed([path])
+                self.assertEqual((found.parameter, found.top), (parameters, top), text)
+                words = argparse.Namespace(files=[], include=[], define=[], parameter=["Z=1"], top=None)
+                found.give(words)
+                self.assertEqual((words.parameter, words.top), (["Z=1", *parameters], top or None), text)
+                words.top = "other"
+                found.give(words)
+                self.assertEqual(words.top, "other")
+
     def test_refused(self):
         with tempfile.TemporaryDirectory() as name:
             path = Path(name) / "main.f"
             for text, said in (("a.v\n-y lib", "main.f:2: -y is no option"), ("+libext+.v", "main.f:1: +libext+.v is no option"),
-                               ("a.v\n\n-f", "main.f:3: -f names no file"), ("$NO_SUCH_NAME/a.v", "main.f:1: the environment has no"),
+                               ("a.v\n\n-f", "main.f:3: -f names no file"),
+                               ("a.v -P", "main.f:1: -P has no value"), ("-s a\n-s b", "main.f:2: the top module is a already"),
+                               ("--trace", "main.f:1: --trace is no option"), ("-pvalue+N=1", "main.f:1: -pvalue+N=1 is no option"), ("$NO_SUCH_NAME/a.v", "main.f:1: the environment has no"),
                                (f"-f {path}", "perhaps it names itself"), ('a.v\n"b.v\n', "main.f:2: a text in quotes")):
                 path.write_text(text)
                 with self.assertRaisesRegex(ToolFailed, re.escape(said)):
@@ -410,8 +432,8 @@ class WithYosys(Folder):
             self.assertIn(said, str(raised.exception))
 
     def test_labels(self):
-        """A label that Yosys would reject: it is in another file, in a loop and in a case. A macro without the semicolon stays
-        rejected, and so does a label that is a signal's name."""
+        """A label that Yosys would reject: it is in another file, in a loop and in a case. A macro without the
+        semicolon stays rejected, and so does a label that is a signal's name."""
         self.made("part.vh", "for (i = 0; i < 2; i = i + 1) begin : b always @* part: assert (a[i]); end")
         design = self.read("""`define CHECK(name, it) name: assert (it);
             module m(input [1:0] a); genvar i; `include "part.vh"

@@ -1,4 +1,4 @@
-"""The completions for bash and zsh: the files completions/*.in, filled with what the help of the program and of
+"""The completions for bash, zsh and fish: the files completions/*.in, filled with what the help of the program and of
 aig-verdicts says."""
 
 import argparse
@@ -15,7 +15,8 @@ def shells(ask):
     return {"aig.bash": filled("aig.bash", bash_tables(overview, each)),
             "_aig": filled("_aig", zsh_tables(overview, each)),
             "aig-verdicts.bash": filled("aig-verdicts.bash", {"options": indented(verdicts_table(), 8)}),
-            "_aig-verdicts": filled("_aig-verdicts", zsh_tables_of_verdicts())}
+            "_aig-verdicts": filled("_aig-verdicts", zsh_tables_of_verdicts()),
+            "aig-verdicts.fish": filled("aig-verdicts.fish", fish_tables_of_verdicts())}
 
 
 def filled(name, tables):
@@ -79,8 +80,37 @@ def zsh_tables_of_verdicts():
             "cases": "\n".join(cases)}
 
 
+def fish_tables_of_verdicts():
+    """The lines of fish for the commands of aig-verdicts and their options."""
+    top, each, _ = arguments_of_verdicts()
+    about = {it.dest: it.help for action in top._actions if action.choices for it in action._choices_actions}
+    commands = [f"complete -c aig-verdicts -n __fish_use_subcommand -a {name} -d {quoted(short(said))}" for name,
+                said in about.items()]
+    return {"general": "\n".join(map(fish_option("-n __fish_use_subcommand"), options_of(top))),
+            "commands": "\n".join(commands),
+            "options": "\n".join(fish_option(f"-n '__fish_seen_subcommand_from {name}'")(it)
+                                 for name, one in each.items() for it in options_of(one))}
+
+
+def options_of(parser):
+    return [it for it in parser._actions if it.option_strings]
+
+
+def fish_option(where):
+    """A function of an option, which writes what fish takes for it at a place."""
+    def line(action):
+        names = [f"-s {it[1:]}" if len(it) == 2 else f"-l {it[2:]}" for it in action.option_strings]
+        value = f" -xa {quoted(' '.join(action.choices))}" if action.choices else {
+            "FOLDER": " -xa '(__fish_complete_directories)'", "PROGRAM": " -xa '(__fish_complete_command)'"}.get(
+            action.metavar, " -r" if action.metavar in COMPLETED else " -x")
+        said = quoted(short(action.help).replace("`", ""))
+        return f"complete -c aig-verdicts {where} {' '.join(names)}{value * (action.nargs != 0)} -d {said}"
+    return line
+
+
 # What completes the value of an option or an argument of aig-verdicts, by its name in the help.
-COMPLETED = {"FOLDER": "_files -/", "PROGRAM": "_command_names", **dict.fromkeys(("FILE", "LIST", "BUNDLE", "OLD", "NEW"), "_files")}
+COMPLETED = {"FOLDER": "_files -/", "PROGRAM": "_command_names",
+             **dict.fromkeys(("FILE", "LIST", "BUNDLE", "OLD", "NEW"), "_files")}
 
 
 def zsh_argument(action):

@@ -7,6 +7,7 @@ import select
 import shutil
 import signal
 import subprocess
+import tempfile
 import time
 
 from library import supervised
@@ -132,7 +133,8 @@ IN_TURN = (
 )
 
 SHELLS = {
-    "bash": (["bash", "--norc", "--noprofile", "-i"], f"source '{FOLDER}/aig.bash'; source '{FOLDER}/aig-verdicts.bash'\n", "bind 'TAB: menu-complete'\n"),
+    "bash": (["bash", "--norc", "--noprofile", "-i"],
+             f"source '{FOLDER}/aig.bash'; source '{FOLDER}/aig-verdicts.bash'\n", "bind 'TAB: menu-complete'\n"),
     "zsh": (["zsh", "-f", "-i"], f"fpath=('{FOLDER}' $fpath); autoload -Uz compinit; compinit -u -D\n",
             "setopt menu_complete\n"),
 }
@@ -153,6 +155,7 @@ def completions(program, tally, _):
             found = replies(words, breaks, "aig-verdicts", "_aig_verdicts")
             tally.compare(f"completions: bash: aig-verdicts {words}", found, wanted)
     tally.check("completions: bash: a command in a word", not os.path.exists("hacked"), "it ran")
+    by_fish(tally)
     try:
         for end in pty.openpty():
             os.close(end)
@@ -169,6 +172,25 @@ def completions(program, tally, _):
             shell.talk(in_turn + "aig ready\n")
             for typed, wanted in IN_TURN:
                 tally.compare(f"completions: {name}: {typed!r}", shell.arguments(typed), wanted)
+
+
+# Words of aig-verdicts, and what fish offers for the last one.
+OF_FISH = {"rech": ["recheck"], "run --frees": [], "run --engine ": ["bmc", "induction", "pdr"],
+           "cores --min": ["--minimal"],
+           "recheck --see": ["--seed"], "run --dask": ["--dask", "--dask-seconds"]}
+
+
+def by_fish(tally):
+    """Commands, options and their values in fish, where it is there."""
+    if not shutil.which("fish"):
+        leave_out("completions: fish", "it is not here")
+        return
+    with tempfile.TemporaryDirectory() as home:  # fish writes there
+        for words, wanted in OF_FISH.items():
+            line = f"source '{FOLDER}/aig-verdicts.fish'; complete -C 'aig-verdicts {words}'"
+            said = supervised.run(["fish", "--no-config", "-c", line], stdout=subprocess.PIPE,
+                                  env={**os.environ, "HOME": home}).stdout.decode()
+            tally.compare(f"completions: fish: {words}", sorted(it.split("\t")[0] for it in said.splitlines()), wanted)
 
 
 def of_help(ask):

@@ -2,17 +2,20 @@
 
 from __future__ import annotations
 
+import hashlib
 import os
 import subprocess
 import tempfile
+import weakref
 from contextlib import ExitStack, contextmanager
 from pathlib import Path
 from typing import Iterator, List, Mapping, Optional, Sequence, Tuple
 
 try:
+    import fcntl
     import resource
 except ImportError:  # no Unix
-    resource = None  # type: ignore[assignment]
+    fcntl = resource = None  # type: ignore[assignment]
 
 from ._where import program as program
 from .errors import OutOfMemory, error_of
@@ -22,11 +25,47 @@ from .explain import explanation
 MOST_MEMORY = 1 << 28
 
 
+class _MemoryFile:
+    """A text in a memory file that nobody can write any more. It has no descriptor if the system has no such files."""
+
+    def __init__(self, text: bytes):
+        self.descriptor: Optional[int] = None
+        if fcntl is None or not hasattr(os, "memfd_create") or not hasattr(fcntl, "F_ADD_SEALS"):
+            return
+        descriptor = os.memfd_create("aig", os.MFD_CLOEXEC | os.MFD_ALLOW_SEALING)
+        weakref.finalize(self, os.close, descriptor)
+        with os.fdopen(os.dup(descriptor), "wb") as file:
+            file.write(text)
+        seals = fcntl.F_SEAL_WRITE | fcntl.F_SEAL_GROW | fcntl.F_SEAL_SHRINK | fcntl.F_SEAL_SEAL
+        fcntl.fcntl(descriptor, fcntl.F_ADD_SEALS, seals)
+        self.descriptor = descriptor
+
+
+class OftenRead(bytes):
+    """A file that many commands read. All of them find it in one memory file, and its sum (SHA-256) is made once."""
+
+    def __init__(self, _: bytes):
+        self.sum, self.file = hashlib.sha256(self).hexdigest(), _MemoryFile(self)
+
+    @staticmethod
+    def of(data: bytes) -> OftenRead:
+        return data if isinstance(data, OftenRead) else OftenRead(data)
+
+    def __reduce__(self) -> Tuple[type, Tuple[bytes]]:
+        return OftenRead, (bytes(self),)
+
+
+def sum_of(data: bytes) -> str:
+    """The sum of a file."""
+    return data.sum if isinstance(data, OftenRead) else hashlib.sha256(data).hexdigest()
+
+
 @contextmanager
 def held(*texts: bytes) -> Iterator[Tuple[List[str], List[int]]]:
     """Paths at which the program finds these texts, and the descriptors that it has to inherit.
 
-    The texts are in memory files, or in a temporary folder if the system has no memory files.
+    The texts are in memory files, or in a temporary folder if the system has no memory files. One that is often read is
+    not written again.
     """
     with ExitStack() as stack:
         if not hasattr(os, "memfd_create"):
@@ -38,6 +77,9 @@ def held(*texts: bytes) -> Iterator[Tuple[List[str], List[int]]]:
             return
         descriptors = []
         for text in texts:
+            if isinstance(text, OftenRead) and text.file.descriptor is not None:
+                descriptors.append(text.file.descriptor)
+                continue
             descriptor = os.memfd_create("aig")
             stack.callback(os.close, descriptor)
             with os.fdopen(os.dup(descriptor), "wb") as file:

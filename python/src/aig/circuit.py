@@ -7,7 +7,7 @@ from pathlib import Path
 from typing import Dict, Iterable, List, Optional, Tuple, Union
 
 from ._parts import parts_of
-from ._program import run
+from ._program import OftenRead, run
 from .bench import Bench
 from .certified import Certified
 from .entries import SECTIONS, Entries, Entry, Signal, listed
@@ -26,7 +26,7 @@ class Circuit:
     """
 
     def __init__(self, file: Union[bytes, str]):
-        self.file = file.encode() if isinstance(file, str) else bytes(file)
+        self.file = file.encode() if isinstance(file, str) else file if isinstance(file, OftenRead) else bytes(file)
         self.signals = Entries(listed(run("info", "--names", "--json", files=[self.file])))
         self._facts: Optional[Dict[str, Union[int, str]]] = None
 

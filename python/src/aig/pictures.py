@@ -16,7 +16,8 @@ def svg_of_witness(witness: Witness) -> str:
     from .verdicts.runs import Told, story
     from .verdicts.svg import waveform
 
-    told = story(Told(witness.circuit), witness.text)
+    concrete = witness.concrete.text if witness.concrete else None
+    told = story(Told(witness.circuit), witness.text, "", concrete)
     return waveform(told.lanes, told.run.frames, told.run.frames - 1, f"run to {witness.property}", "reached")
 
 

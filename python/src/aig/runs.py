@@ -53,8 +53,8 @@ class Trace:
 
     def vector(self, name: str) -> List[Value]:
         """The numbers, one per frame, of the signals `NAME[n]`, `NAME[n+1]`, .. of one section; X where a bit is x.
-        `NAME[n]` is the least significant bit. A vector [0:7] of Verilog has its bits in the other order, and is rejected:
-        put its bits together yourself."""
+        `NAME[n]` is the least significant bit. A vector [0:7] of Verilog has its bits in the other order, and is
+        rejected: put its bits together yourself."""
         bits = self.entries.vector(name)
         if not bits:
             raise KeyError(f"there is no vector {name!r}")
@@ -126,10 +126,12 @@ class Witness:
     start       a letter per latch
     rows        a text per frame, with a letter per input
     text        the witness as the program writes it
+    concrete    the same run with the value for each x that a solver found, if it is known
     """
 
-    def __init__(self, circuit: Circuit, text: bytes):
+    def __init__(self, circuit: Circuit, text: bytes, concrete: Optional[bytes] = None):
         self.circuit, self.text = circuit, bytes(text)
+        self.concrete = Witness(circuit, concrete) if concrete is not None else None
         lines = self.text.decode().split("\n")
         self.position = int(lines[1][1:])
         properties = circuit.properties
@@ -144,7 +146,8 @@ class Witness:
 
     def reduced(self) -> Witness:
         """The same witness with x for each value that the failure does not need."""
-        return Witness(self.circuit, run("reduce", files=[self.circuit.file, self.text]))
+        whole = self.concrete.text if self.concrete else self.text
+        return Witness(self.circuit, run("reduce", files=[self.circuit.file, self.text]), None if b"x" in whole else whole)
 
     def why(self, of: Optional[str] = None, frame: Optional[int] = None, depth: Optional[int] = None) -> List[str]:
         """Why a signal or a vector (default: the property) has its value at a frame (default: the last): lines, from

@@ -127,8 +127,9 @@ def _verdict(circuit: Circuit, found: Found, alive: Optional[Found] = None) -> V
         raise RuntimeError("the check is about another circuit")
     if alive is not None and alive.checked is not None:
         vacuous, files = alive.checked.line, {**files, **alive.files}
-    witness = Witness(circuit, files["witness"]) if "witness" in files else None
-    return Verdict(checked.line, checked.by, checked.frames or None, witness, vacuous, files, list(found.notes), checked)
+    witness = Witness(circuit, files["witness"], files.get("concrete")) if "witness" in files else None
+    return Verdict(checked.line, checked.by, checked.frames or None, witness, vacuous, files, list(found.notes),
+                   checked)
 
 
 def _found(program: str) -> str:

@@ -6,26 +6,29 @@ import contextlib
 import hashlib
 import json
 import os
+import pickle
 import shutil
 import threading
 import time
+import unittest.mock
 import xml.etree.ElementTree as tree
-from concurrent.futures import Executor, Future
+from concurrent.futures import CancelledError, Executor, Future
 from dataclasses import replace
 from pathlib import Path
 
 from aig.errors import AigError
 from aig.verdicts import command, recheck, search, workers
 from aig.verdicts.bundle import Bundle, PlainFolder, Wrong, sum_of
-from aig.verdicts.decide import Bounds, Found, Programs, Sent, Task, decide
+from aig.verdicts.decide import Bounds, Found, Programs, Task, decide
 from aig.verdicts.design import Assertion, Design, properties, read_aiger, symbol
 from aig.verdicts.folder import BusyFolder, Folder, replaced, script
 from aig.verdicts.manifest import rows_as_json
 from aig.verdicts.row import has_constraints, name_of
+from aig.verdicts.sent import Sent
 from aig.verdicts.sentences import SAME_CIRCUIT
 from aig.verdicts.session import Session
 from aig.verdicts.tools import Stop, Stopped
-from aig.verdicts.workers import Workers
+from aig.verdicts.workers import NO_WORKER, Work, Workers
 from believed import believed
 from bundles.common import FEW, called, judged, kept, manifest_of, rows_of, tool, why_rejected, write_manifest
 from library.runs import EXAMPLES
@@ -141,8 +144,8 @@ def ends_of_aig(_, tally, __):
 
 
 def again(_, tally, __):
-    """`recheck --yosys`, where Yosys is a function of this test: the same circuit and places, and others. Whether another
-    circuit does the same is a function, too."""
+    """`recheck --yosys`, where Yosys is a function of this test: the same circuit and places, and others. Whether
+    another circuit does the same is a function, too."""
     path = kept("every")
     rows = Bundle(path).rows[1:]
     places = [Assertion(it.position, it.kind, it.name, it.file, it.first, it.last, it.of) for it in rows]
@@ -193,7 +196,8 @@ def again(_, tally, __):
         said = why(change=lambda bundle: bundle.manifest.update(options=options))
         tally.check(f"again: options: {name}", said != "", said)
     options = {"top": "every", "defines": [], "conditions": True, "wires": True}
-    for name, more in {"files alone": {"asserts": ["every.v"]}, "a text of them": {"asserts": "every.v", "module": "m"}}.items():
+    for name, more in {"files alone": {"asserts": ["every.v"]},
+                       "a text of them": {"asserts": "every.v", "module": "m"}}.items():
         said = why(change=lambda bundle: bundle.manifest.update(options={**options, **more}))
         tally.check(f"again: assertions: {name}", said != "", said)
     tally.check("again: another translation", "the translation" in why(change=_with_a_translation))
@@ -274,7 +278,8 @@ def folder_files(_, tally, __):
     tally.compare("folder: whether it has a file", [folder.has(*it) for it in (
         ("0.wit", b"one"), ("0.wit", b"two"), ("0.wit", b"on"), ("1.wit", b"one"))], [True, False, False, False])
     tally.check("folder: no other run", raises(BusyFolder, Folder, Path("made")))
-    names = ("1.wit", "1.base.drat", "1.base.lrat", "1.cert.aag", ".x.new", "needed/1.0.cuts", "needed/1.0.wit", "needed/notes.txt",
+    names = ("1.wit", "1.base.drat", "1.base.lrat", "1.cert.aag", ".x.new", "needed/1.0.cuts", "needed/1.0.wit",
+             "needed/notes.txt",
              "notes.txt", "my.aag")
     Path("made/needed").mkdir()
     for name in names:
@@ -362,10 +367,12 @@ def workers_(_, tally, __):
     at_path, of_bytes = Sent.at(Path("circuit.aig")), Sent.of(circuit)
     tally.compare("workers: circuits", (at_path.circuit(), of_bytes.circuit(), at_path.sum == of_bytes.sum),
                   (circuit, circuit, True))
+    of_bytes = pickle.loads(pickle.dumps(Sent.of(b"aag 0 0 0 0 0\n")))
+    tally.compare("workers: from another process", of_bytes.circuit(), b"aag 0 0 0 0 0\n")
     Path("circuit.aig").write_bytes(circuit[:-2] + b"x\n")
     found = decide(Task(at_path, 0, Bounds(frames=1), Programs("none", None)))
     tally.check("workers: a file that changed", found.verdict == "undecided" and "another sum" in found.notes[0], found)
-    found = decide(Task(replace(of_bytes, packed=Sent.of(b"aag 0 0 0 0 0\n").packed), 0))
+    found = decide(Task(Sent(sum_of(circuit), of_bytes.packed), 0))
     tally.check("workers: another circuit", found.verdict == "undecided" and "another sum" in found.notes[0], found)
     found = decide(Task(None, 0))
     tally.check("workers: no circuit", found.verdict == "undecided" and found.notes, found)
@@ -415,7 +422,7 @@ def executors(tally, circuit):
     try:
         for share, wanted in ((None, "path"), (lambda sent: sent, "shared")):
             others = Scripted()
-            with Workers(circuit, Path("circuit.aig"), stop, others, 0, share) as given:
+            with Workers(circuit, Path("circuit.aig"), stop, Work(others, share=share)) as given:
                 given.submit(task)
             (_, words), = others.given
             sent = words[0].circuit if wanted == "path" else words[0]
@@ -425,6 +432,46 @@ def executors(tally, circuit):
             tally.check("workers: an executor of others goes on", not others.is_ended)
     finally:
         workers.LARGE = large
+
+
+def shared_again(_, tally, __):
+    """Where the workers that had the circuit are gone, others get it, once for all tasks that were lost with it."""
+    circuit, stop, count = FEW.read_bytes(), Stop(), []
+    Path("circuit.aig").write_bytes(circuit)
+
+    def lost():
+        return ended_with(CancelledError("gone"))
+
+    def share(sent):
+        count.append(sent)
+        return f"copy {len(count)}"
+
+    with unittest.mock.patch.object(workers, "LARGE", 1):
+        others = Scripted(lost(), lost(), Future(), ended_with(OSError("x")), *(lost() for _ in range(9)))
+        with Workers(circuit, Path("circuit.aig"), stop, Work(others, share=share)) as given:
+            first, second = given.submit(Task(None, 1)), given.submit(Task(None, 2))
+            again = given.again(first), given.again(second)
+            tally.compare("shared again: which copy", [words[0] for _, words in others.given],
+                          ["copy 1"] * 2 + ["copy 2"] * 2)
+            tally.compare("shared again: which task", [words[1].position for _, words in others.given], [1, 2, 1, 2])
+            tally.compare("shared again: what failed otherwise", given.again(again[1]), None)
+            last, tries = given.submit(Task(None, 3)), 0
+            while last is not None:
+                last, tries = given.again(last), tries + 1
+            tally.compare("shared again: not for ever", (len(count), tries),
+                          (workers.MOST_SHARES + 1, workers.MOST_SHARES))
+        stop()
+        with Workers(circuit, Path("circuit.aig"), stop, Work(Scripted(lost()), share=share)) as given:
+            tally.compare("shared again: not after a stop", given.again(given.submit(Task(None, 1))), None)
+        session = session_of("again")
+        session.open(1)
+        waiting = [row.position for row in session.waiting()]
+        bound = Found(0, "unreachable within 3", "bound", 3, {"base": b"0\n"})
+        complete = session.search(Work(Scripted(*(lost() for _ in waiting), *(
+            ended_with(bound if at == 0 else Found(at)) for at in waiting)), share=share))
+        session.close()
+        tally.compare("shared again: in a session", (complete, manifest_of("again")["rows"][1]["verdict"]),
+                      (True, "unreachable within 3"))
 
 
 def session_of(out, stop=None):
@@ -439,7 +486,7 @@ def stopped(_, tally, __):
         waiting = [row.position for row in session.waiting()]
         outcomes = {at: Found(at, stopped=True) if name == "stopped" else OSError("gone") for at in waiting}
         outcomes[0] = Found(0, "unreachable within 3", "bound", 3, {"base": b"0\n"})
-        complete = session.search(Scripted(*(ended_with(outcomes[at]) for at in waiting)))
+        complete = session.search(Work(Scripted(*(ended_with(outcomes[at]) for at in waiting))))
         session.close()
         tally.compare(f"stopped: {name}", complete, wanted)
         rows = manifest_of(name)["rows"]
@@ -447,12 +494,13 @@ def stopped(_, tally, __):
         tally.compare(f"stopped: {name}: notes", [it.get("notes") for it in rows[2:]], [note] * len(rows[2:]))
         tally.compare(f"stopped: {name}: what was found", (rows[1]["verdict"], rows[1].get("notes")),
                       ("unreachable within 3", None))
+    lost(tally)
     stop = Stop()
     session = session_of("by_user", stop)
     session.open(1)
     threading.Timer(0.3, stop).start()
     began, found = time.monotonic(), []
-    searching = threading.Thread(target=lambda: found.append(session.search(Scripted())), daemon=True)
+    searching = threading.Thread(target=lambda: found.append(session.search(Work(Scripted()))), daemon=True)
     searching.start()
     searching.join(30)
     tally.compare("stopped: by the user", found, [False])
@@ -463,6 +511,26 @@ def stopped(_, tally, __):
     tally.check("stopped: no program after it", raises(Stopped, stop.look))
     of_command(tally)
     of_programs(tally)
+
+
+def lost(tally):
+    """A cluster whose workers are all gone: rows that they had are open, others stay, and the run ends as a whole
+    one."""
+    for name, are_lost, first in (("all", lambda: True, None), ("others", lambda: True, ended_with(
+            Found(0, "unreachable within 3", "bound", 3, {"base": b"0\n"})))):
+        session = session_of(f"lost_{name}")
+        session.open(1)
+        waiting = [row.position for row in session.waiting()]
+        futures = [first if at == 0 and first else Future() for at in waiting]
+        complete = session.search(Work(Scripted(*futures), are_lost=are_lost))
+        tally.compare(f"lost: {name}", (complete, session.stop.stopped), (True, False))
+        session.close()
+        rows = manifest_of(f"lost_{name}")["rows"][1:]
+        tally.compare(f"lost: {name}: notes", [it.get("notes") for it in rows],
+                      [None if it["position"] == 0 and first else [NO_WORKER] for it in rows])
+        tally.check(f"lost: {name}: no worker has more to do", all(it.cancelled() for it in futures if it is not first))
+        tally.compare(f"lost: {name}: what was found", rows[0]["verdict"],
+                      "unreachable within 3" if first else "undecided")
 
 
 def of_command(tally):
@@ -566,7 +634,8 @@ def rechecked(_, tally, __):
     _, out, _ = called("recheck", path, "--json", "--page", "page.html", "--junit", "rows.xml")
     page = Path("page.html").read_text(encoding="utf-8")
     shown = page + out + Path("rows.xml").read_text(encoding="utf-8")
-    tally.check("rechecked: nothing of the sender but names", "foreign" not in shown and "aria-label=\"source\"" not in page, shown)
+    tally.check("rechecked: nothing of the sender but names",
+                "foreign" not in shown and "aria-label=\"source\"" not in page, shown)
 
 
 SYMBOLS = (

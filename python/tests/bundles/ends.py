@@ -111,13 +111,15 @@ def in_the_middle(program, tally):
 
 
 def total(program, tally, _):
-    """The time of the whole run: it ends as one that was stopped, with the status of its table, and goes on later. Where
-    Yosys has not ended by then there is no table."""
+    """The time of the whole run: it ends as one that was stopped, with the status of its table, and goes on later.
+    Where Yosys has not ended by then there is no table."""
     hangs = Path("hangs").resolve()
     solver = tool("hangs.sh", f'case $1 in --*) exec {SMALL_SOLVER} "$@";; esac; : > {hangs}; exec sleep 1000')
     with unittest.mock.patch.object(Stop, "after", late_when(hangs.exists)):
-        status, out, err = called("run", FEW, "--out", "late", "--abc", "", "-j", "1", "--solver", solver, "--total", "2h")
-    tally.compare("total: without a unit", [called("run", FEW, "--total", it)[0] for it in ("90", "", "s", "1d")], [2] * 4)
+        status, out, err = called("run", FEW, "--out", "late", "--abc", "", "-j", "1", "--solver", solver, "--total",
+                                  "2h")
+    tally.compare("total: without a unit", [called("run", FEW, "--total", it)[0] for it in ("90", "", "s", "1d")],
+                  [2] * 4)
     tally.check("total: the table", status == 4 and out.count("undecided") == len(KNOWN), (status, out))
     tally.compare("total: the terminal", err.splitlines()[-2],
                   "aig-verdicts: the time of --total is over; the same command goes on")
@@ -126,27 +128,32 @@ def total(program, tally, _):
     tally.compare("total: enough of it", run("--total", "1h", out="early")[0], run(out="other")[0])
     Path("a.v").write_text("module a(input x); assert property (x); endmodule\n")
     tool("yosys", "exec sleep 1000")
-    process = process_of(program, "env", f"PATH={Path().resolve()}:{os.environ['PATH']}", sys.executable, *COMMAND, "run", "a.v",
+    process = process_of(program, "env", f"PATH={Path().resolve()}:{os.environ['PATH']}", sys.executable, *COMMAND,
+                         "run", "a.v",
                          "--total", "1s")
     status, out, err = ended(process)
-    tally.compare("total: Yosys", (status, out, err.splitlines()[-1:]), (4, "", ["aig-verdicts: the time of --total is over"]))
+    tally.compare("total: Yosys", (status, out, err.splitlines()[-1:]),
+                  (4, "", ["aig-verdicts: the time of --total is over"]))
 
 
 def waits(program, tally, _):
-    """While Yosys makes the circuit a line says so: on a terminal with the seconds, and else once if it is asked for."""
+    """While Yosys makes the circuit a line says so: on a terminal with the seconds, and else once if it is asked
+    for."""
     yosys, slept = shutil.which("yosys"), Path("slept").resolve()
     if yosys is None:
         raise LeftOut("there is no yosys")
     Path("a.v").write_text("module a(input x); ok: assert property (x); endmodule\n")
     tool("yosys", f'[ "$1" = -V ] || [ -f {slept} ] || {{ : > {slept}; sleep 6; }}; exec {yosys} "$@"')
-    words = ("env", f"PATH={Path().resolve()}:{os.environ['PATH']}", sys.executable, *COMMAND, "run", "a.v", "--abc", "",
+    words = ("env", f"PATH={Path().resolve()}:{os.environ['PATH']}", sys.executable, *COMMAND, "run", "a.v", "--abc",
+             "",
              "--solver", SMALL_SOLVER, "--frames", "2", "--no-simulator")
     for name, more, count in (("once", ("-v",), 1), ("not", (), 0), ("quiet", ("-q",), 0)):
         _, _, err = ended(process_of(program, *words, *more))
         tally.compare(f"waits: {name}", err.count("aig-verdicts: yosys makes the circuit ..\n"), count)
         slept.unlink()
     shown = on_terminal(program, words)
-    tally.check("waits: on a terminal", re.search(r"\ryosys makes the circuit, \d+ s\x1b\[K(?:.*)\r\x1b\[K", shown, re.DOTALL),
+    tally.check("waits: on a terminal", re.search(r"\ryosys makes the circuit, \d+ s\x1b\[K(?:.*)\r\x1b\[K", shown,
+                                                  re.DOTALL),
                 shown)
 
 
@@ -373,7 +380,7 @@ def executors(_, tally, __):
         session.open()
         try:
             with ProcessPoolExecutor(2) as pool:
-                return session.search(pool)
+                return session.search(workers.Work(pool))
         finally:
             session.close()
 

@@ -16,7 +16,7 @@ from aig.verdicts.bundled import session_of
 from aig.verdicts.checked import CONFIRMED, Claim, check
 from aig.verdicts.decide import Bounds, Hint, Narrow, Programs, Task, decide
 from aig.verdicts.recheck import recheck
-from aig.verdicts.session import Work
+from aig.verdicts.workers import Work
 from aig.verdicts.tools import Stop
 from aig.verdicts.tried_runs import reached_by
 from aig.verdicts.workers import check_all
@@ -34,7 +34,8 @@ ASKED = ("--cores", "--needed")
 def every_of(path):
     """What MANIFEST.json has of what every proof of a row needs."""
     found = {name: it["needs"].get("every_proof", {}) for name, it in rows_of(path).items() if "needs" in it}
-    return {name: tuple(len(it.get(kind, ())) for kind in ("registers", "resets", "assumptions")) for name, it in found.items()}
+    return {name: tuple(len(it.get(kind, ())) for kind in ("registers", "resets", "assumptions")) for name,
+            it in found.items()}
 
 
 def runs_of(path, name):
@@ -42,14 +43,16 @@ def runs_of(path, name):
 
 
 def runs_kept(_, tally, __):
-    """Each piece of a core has a run of the circuit without it, if there is one. The manifest, the table, `recheck`, its page
-    and `recheck.sh` say so. The runs outlive a later search of cores, in which pieces with a run are not tried."""
+    """Each piece of a core has a run of the circuit without it, if there is one. The manifest, the table, `recheck`,
+    its page and `recheck.sh` say so. The runs outlive a later search of cores, in which pieces with a run are not
+    tried."""
     path = made(*ASKED)
     tally.compare("runs kept: needs", needs_of(path), NEEDS)
     tally.compare("runs kept: in every proof", every_of(path), EVERY)
     status, out, _ = called("recheck", path, "--page", "page.html")
     lines = {line.split("  ")[2]: line.split("  ")[3] for line in out.splitlines() if "  needs" in line}
-    tally.compare("runs kept: recheck", (status, lines), (5, {name: f"needs {word}" for name, word in IN_EVERY.items()}))
+    tally.compare("runs kept: recheck", (status, lines),
+                  (5, {name: f"needs {word}" for name, word in IN_EVERY.items()}))
     page = contents("page.html").decode()
     chips = set(re.findall('class="chip every">([^<]*)<', page))
     tally.compare("runs kept: page", (chips, page.count("thick border")), ({"state", "delay", "go", "late", "no_c"}, 3))
@@ -58,32 +61,40 @@ def runs_kept(_, tally, __):
     files = {f"{needed.FOLDER}/{it.name}" for it in (path / needed.FOLDER).iterdir()}
     tally.compare("runs kept: files", files, {it for it in manifest_of(path)["sums"] if it.startswith(needed.FOLDER)})
     done = of_script(path)
-    tally.compare("runs kept: recheck.sh", (done.returncode, done.stderr, done.stdout.count(f"{CONFIRMED}: cut --cuts")),
+    tally.compare("runs kept: recheck.sh",
+                  (done.returncode, done.stderr, done.stdout.count(f"{CONFIRMED}: cut --cuts")),
                   (0, "", len(words)))
     words = ("--solver", SMALL_SOLVER, "--abc", "", "--drat2lrat", built("drat2lrat"), "-q", "--jobs", "1")
-    for name, asked, more in (("known", ASKED, ()), ("smaller", ASKED, ("--minimal",)), ("later", ("--cores",), ("--needed",)),
+    for name, asked, more in (("known", ASKED, ()), ("smaller", ASKED, ("--minimal",)),
+                              ("later", ("--cores",), ("--needed",)),
                               ("again", ASKED, ("--needed",))):
         path = copied(*asked, to=name)
         called("cores", path, *words, *more)
         tally.compare(f"runs kept: {name}", (needs_of(path), every_of(path), why_rejected(path)), (NEEDS, EVERY, None))
         files = {f"{needed.FOLDER}/{it.name}" for it in (path / needed.FOLDER).iterdir()}
         tally.check(f"runs kept: {name}: files", files <= set(manifest_of(path)["sums"]), files)
-    called("run", CIRCUIT, "--out", "known", "--abc", "", "--solver", SMALL_SOLVER, "--frames", 2, "-q", "--zip", "all.zip")
+    called("run", CIRCUIT, "--out", "known", "--abc", "", "--solver", SMALL_SOLVER, "--frames", 2, "-q", "--zip",
+           "all.zip")
     tally.compare("runs kept: by another run", (every_of("known"), called("recheck", "all.zip")[0]), (EVERY, 5))
     Path("known", needed.FOLDER, "2.1.wit").write_bytes(b"1\nb2\n")
     called("run", CIRCUIT, "--out", "known", "--abc", "", "--solver", SMALL_SOLVER, "--frames", 2, "-q")
-    tally.compare("runs kept: up to one that is broken", (len(runs_of("known", "chain")), why_rejected("known")), (1, None))
+    tally.compare("runs kept: up to one that is broken", (len(runs_of("known", "chain")), why_rejected("known")),
+                  (1, None))
     tally.check("runs kept: a note", any(it.startswith("an earlier run: ") for it in rows_of("known")["chain"]["notes"]))
-    with ProcessPoolExecutor(1) as pool, closing(session_of(copied(to="pool"), Programs(SMALL_SOLVER, None))) as session:
+    with ProcessPoolExecutor(1) as pool, closing(session_of(copied(to="pool"),
+                                                            Programs(SMALL_SOLVER, None))) as session:
         session.open()
         session.narrow(Narrow(Hint("", 0), built("drat2lrat"), is_needed=True), Work(pool, 1))
-    tally.compare("runs kept: of other processes", (needs_of("pool"), every_of("pool"), why_rejected("pool")), (NEEDS, EVERY, None))
+    tally.compare("runs kept: of other processes", (needs_of("pool"), every_of("pool"), why_rejected("pool")),
+                  (NEEDS, EVERY, None))
     path = kept("contradiction")
     called("cores", path, *words, "--needed")
     row = manifest_of(path)["rows"][0]
-    tally.compare("runs kept: assumptions", (len(row["needs"]["every_proof"]["assumptions"]), why_rejected(path)), (2, None))
+    tally.compare("runs kept: assumptions", (len(row["needs"]["every_proof"]["assumptions"]), why_rejected(path)),
+                  (2, None))
     done = of_script(path)
-    tally.check("runs kept: assumptions by recheck.sh", done.returncode == 0 and "alive: cut --cuts needed/alive.0" in done.stdout,
+    tally.check("runs kept: assumptions by recheck.sh",
+                done.returncode == 0 and "alive: cut --cuts needed/alive.0" in done.stdout,
                 done.stderr)
 
 
@@ -183,11 +194,13 @@ FORGED = (
     (_text(0, "wit", lambda it: it.replace("1", "0")), "aig check"), (_text(0, "cuts", lambda _: ""), "b2"),
     # a reset more is no new input, so the run stays one: it shows nothing of one piece
     (_text(0, "cuts", lambda it: f"{it}r 18\n"), "not about one piece"), (_text(0, "cuts", lambda it: f"{it}f 18\n"), "aig check"),
-    (_text(0, "cuts", lambda _: "f 18\n"), "b2: aig check"), (_text(0, "cuts", lambda it: it[:-1]), "cut: cuts: line 1"),
+    (_text(0, "cuts", lambda _: "f 18\n"), "b2: aig check"), (_text(0, "cuts", lambda it: it[:-1]),
+                                                              "cut: cuts: line 1"),
     (_entry(lambda it: it.update(frames=it["frames"] + 1)), "another number of frames"),
     (_entry(lambda it: it.update(frames=0)), BAD), (_entry(lambda it: it.update(frames=True)), BAD),
     (_entry(lambda it: it.update(frames=1 << 20)), BAD), (_entry(lambda it: it.update(frames="2")), BAD),
-    (_entry(lambda it: it.update(piece="go")), BAD), (_entry(lambda it: it["files"].update(cuts="needed/2.1.cuts")), BAD),
+    (_entry(lambda it: it.update(piece="go")), BAD), (_entry(lambda it: it["files"].update(cuts="needed/2.1.cuts")),
+                                                      BAD),
     (_entry(lambda it: it["files"].pop("cuts")), BAD), (_list(lambda it: it[1:]), BAD), (_list(lambda it: it[::-1]), BAD),
     (_list(lambda it: it[:-1]), "needs of b2"), (_list(lambda it: []), "needs of b2"),
     (_says_more, "needs of b3"), (_says_less, "needs of b2"), (_of_another_row, "b1: aig check"), (_without_core, "needed of b5"),
@@ -196,8 +209,8 @@ FORGED = (
 
 
 def runs_forged(_, tally, __):
-    """Runs that are none, that are about other pieces, or that are not what the manifest says: `recheck` rejects the bundle.
-    `recheck.sh` says WRONG where a run is none."""
+    """Runs that are none, that are about other pieces, or that are not what the manifest says: `recheck` rejects the
+    bundle. `recheck.sh` says WRONG where a run is none."""
     for at, (forge, why) in enumerate(FORGED):
         path = copied(*ASKED)
         said = forged(path, forge)
@@ -205,12 +218,14 @@ def runs_forged(_, tally, __):
         if said is not None and "aig check" in said and "by" not in forge.__name__:
             done = of_script(path)
             is_in_script = forge not in (_of_another_row, _as_run, _of_another_piece)
-            tally.check(f"runs forged: {at}: recheck.sh", not is_in_script or done.returncode == 1 and "WRONG" in done.stderr,
+            tally.check(f"runs forged: {at}: recheck.sh",
+                        not is_in_script or done.returncode == 1 and "WRONG" in done.stderr,
                         done.stderr)
     path = copied(*ASKED)
     forged(path, _text(0, "cuts", lambda it: f"{it}r 18\n"))
     status, _, err = called("run", CIRCUIT, "--out", path, "--abc", "", "--solver", SMALL_SOLVER, "--frames", 2)
-    tally.compare("runs forged: in a folder that is run again", (status, runs_of(path, "chain"), why_rejected(path)), (5, [], None))
+    tally.compare("runs forged: in a folder that is run again", (status, runs_of(path, "chain"), why_rejected(path)),
+                  (5, [], None))
     tally.check("runs forged: that is said", "not about one piece" in err, err)
     path = copied(*ASKED)
     outside = Path("outside")
@@ -223,7 +238,8 @@ def runs_forged(_, tally, __):
     before = {it.name: it.read_bytes() for it in outside.iterdir()}
     tally.check("runs forged: a folder that is a link", "needed/" in (why_rejected(path) or ""), why_rejected(path))
     called("run", CIRCUIT, "--out", path, "--abc", "", "--solver", SMALL_SOLVER, "--frames", 2, "-q")
-    tally.compare("runs forged: nothing outside is touched", {it.name: it.read_bytes() for it in outside.iterdir()}, before)
+    tally.compare("runs forged: nothing outside is touched", {it.name: it.read_bytes() for it in outside.iterdir()},
+                  before)
     path = kept("contradiction")
     called("cores", path, "--solver", SMALL_SOLVER, "--abc", "", "--drat2lrat", built("drat2lrat"), "-q", "--needed")
 
@@ -261,23 +277,29 @@ def runs_believed(_, tally, __):
                         ("of another property", replace(run.claim, position=1)), ("longer", replace(run.claim, frames=run.frames + 1))):
         tally.check(f"runs believed: {name}", raised(check, claim, circuit, read, Stop()))
     files = {role: read(name) for role, name in run.claim.named}
-    for name, found, is_good in (("good", files, True), ("lie", {**files, "witness": files["witness"].replace(b"1", b"0")}, False)):
+    for name, found, is_good in (("good", files, True),
+                                 ("lie", {**files, "witness": files["witness"].replace(b"1", b"0")}, False)):
         other = needed.Run(run.claim, found)
         check_all([other], circuit, Stop())
-        tally.compare(f"runs believed: a worker's {name}", (other.checked is not None, bool(other.notes)), (is_good, not is_good))
-    tally.check("runs believed: from another process", pickle.loads(pickle.dumps(needed.Run(run.claim, files, [], run))).checked is None)
+        tally.compare(f"runs believed: a worker's {name}", (other.checked is not None, bool(other.notes)),
+                      (is_good, not is_good))
+    tally.check("runs believed: from another process",
+                pickle.loads(pickle.dumps(needed.Run(run.claim, files, [], run))).checked is None)
     others = [needed.Run(run.claim, {**files, "cuts": b"f 18\n"}, [], run), needed.Run(run.claim, files, [], run)]
     tally.compare("runs believed: a check of other files", needed.give(chain, others, circuit), {})
     tally.compare("runs believed: a check of these", len(needed.give(chain, others[1:], circuit)), 2)
-    tally.compare("runs believed: what is said then", sentences.of_needs(chain.needs), f"{WORDS['chain']}; 1 of these is needed")
+    tally.compare("runs believed: what is said then", sentences.of_needs(chain.needs),
+                  f"{WORDS['chain']}; 1 of these is needed")
     hint = Hint("induction", rows["toggles"].frames, {role: read(name) for role, name in toggles.files.items()})
     for name, body, count in (("that lies", "echo s SATISFIABLE; exit 10", 0), ("that crashes", "kill -SEGV $$", 0)):
         solver = tool("solver", f'case "$*" in *version*) exit;; esac; {body}')
         task = replace(Task.of(circuit, 1, Bounds(2), Programs(solver, None)), narrow=Narrow(hint, is_needed=True))
         found = decide(task)
         tally.check(f"runs believed: a solver {name}", len(found.needed) == count and found.notes, found)
-    found = decide(replace(Task.of(circuit, 1, Bounds(2), Programs(SMALL_SOLVER, None)), narrow=Narrow(hint, is_needed=True)))
-    tally.compare("runs believed: a good one", [known.only(pieces.read_cuts(it.files["cuts"])).name for it in found.needed],
+    found = decide(replace(Task.of(circuit, 1, Bounds(2), Programs(SMALL_SOLVER, None)),
+                           narrow=Narrow(hint, is_needed=True)))
+    tally.compare("runs believed: a good one",
+                  [known.only(pieces.read_cuts(it.files["cuts"])).name for it in found.needed],
                   ["state", "state"])
     tally.check("runs believed: it is checked", all(it.checked is not None for it in found.needed), found.needed)
     memory = [pieces.Piece("f", f"m[{at}]") for at in range(4)]
@@ -289,15 +311,16 @@ def runs_believed(_, tally, __):
 
 # Circuits and the properties that random states and runs reach: where the assumptions are kept, and without them.
 DRAWN = (
-    ("aag 3 1 2 0 0 4 1\n2\n4 2\n6 4\n4\n5\n6\n1\n4\n", {0, 2, 3}, {0, 1, 3}),  # nothing is kept where the first register is 0
+    ("aag 3 1 2 0 0 4 1\n2\n4 2\n6 4\n4\n5\n6\n1\n4\n", {0, 2, 3},
+     {0, 1, 3}),  # nothing is kept where the first register is 0
     ("aag 3 1 2 0 0 2 0\n2\n4 2 1\n6 6 6\n5\n6\n", {0, 1}, {0, 1}),
     ("aag 4 2 0 0 2 2 2\n2\n4\n6\n8\n7\n4\n6 2 4\n8 7 4\n", {1}, {0, 1}),
 )
 
 
 def drawn(_, tally, __):
-    """What runs that are drawn at random reach is reached: their properties are known by thought, also where a gate comes
-    before its sides."""
+    """What runs that are drawn at random reach is reached: their properties are known by thought, also where a gate
+    comes before its sides."""
     text = Path(CIRCUIT).read_bytes()
     tally.compare("drawn: any state", reached_by(text).anywhere, frozenset({1, 2, 5}))
     tally.compare("drawn: from the resets", reached_by(text).unassuming, frozenset({3, 4, 5}))

@@ -42,9 +42,11 @@ FREED = {
     ("m.one.last",): {"alike": "holds", "copied": "holds", "steps": "holds", "odd": "fails", "still": "holds"},
 }
 REFUSED = {
-    "m.up": "up is an input, and has any value already", "m.none": "none is a constant", "m.a": "a is connected to one.n: free that one",
+    "m.up": "up is an input, and has any value already", "m.none": "none is a constant",
+    "m.a": "a is connected to one.n: free that one",
     "m.both": "both is connected to ", "m.one.m": "one.m is connected to one.n", "m.one.store": "no signal one.store",
-    "m.three": "no signal three", "one.n": "write m.one.n", "m.": "no signal", "m.one": "no signal one", "other": "no module other",
+    "m.three": "no signal three", "one.n": "write m.one.n", "m.": "no signal", "m.one": "no signal one",
+    "other": "no module other",
     "m.n[0]": "no signal n[0]", "m.\\a": "no signal",
 }
 
@@ -58,7 +60,8 @@ def signals(_, tally, __):
         tally.check(f"signals: {free}: in a simulator", simulated("out")[1], simulated("out")[0])
         rows = [it for it in manifest_of("out")["rows"] if it.get("result") == "fails"]
         played = manifest_of("out")["simulated"]["rows"]
-        tally.compare(f"signals: {free}: played", [played[str(it["position"])][0] for it in rows], ["agrees"] * len(rows))
+        tally.compare(f"signals: {free}: played", [played[str(it["position"])][0] for it in rows],
+                      ["agrees"] * len(rows))
         notes = [it for it in manifest_of("out")["notes"] if "is free: it has any value" in it]
         tally.compare(f"signals: {free}: notes", len(notes), len(free))
 

@@ -56,7 +56,9 @@ def ran(*words, out="out"):
 def settings():
     folder = Path("programs").resolve()
     os.environ["REAL_PATH"] = os.environ["PATH"]
-    return unittest.mock.patch.dict(os.environ, {"PATH": f"{folder}:{os.environ['PATH']}", "XDG_CACHE_HOME": str(Path("cache").resolve())})
+    return unittest.mock.patch.dict(os.environ,
+                                    {"PATH": f"{folder}:{os.environ['PATH']}",
+                                     "XDG_CACHE_HOME": str(Path("cache").resolve())})
 
 
 def stored():
@@ -76,10 +78,13 @@ def circuits(_, tally, __):
 def once(tally):
     """The second run has the same bundle, and Yosys is not asked."""
     status, is_made, said = ran(*BASE, out="first")
-    tally.check("kept: made", (status, is_made) == (0, True) and "an earlier run made" not in said, (status, is_made, said))
-    tally.compare("kept: one file, which is the user's alone", [it.stat().st_mode & 0o777 for it in (*stored(), stored()[0].parent)], [0o600, 0o700])
+    tally.check("kept: made", (status, is_made) == (0, True) and "an earlier run made" not in said,
+                (status, is_made, said))
+    tally.compare("kept: one file, which is the user's alone",
+                  [it.stat().st_mode & 0o777 for it in (*stored(), stored()[0].parent)], [0o600, 0o700])
     status, is_made, said = ran(*BASE)
-    tally.check("kept: not made again", (status, is_made) == (0, False) and "an earlier run made the circuit" in said, (status, is_made, said))
+    tally.check("kept: not made again", (status, is_made) == (0, False) and "an earlier run made the circuit" in said,
+                (status, is_made, said))
     tally.check("kept: the same bundle", same_manifests("first", "out"))
     tally.compare("kept: the same files", sorted(it.name for it in Path("out").rglob("*") if it.name != "times.json"),
                   sorted(it.name for it in Path("first").rglob("*") if it.name != "times.json"))
@@ -90,7 +95,8 @@ def once(tally):
         shutil.copy(name, "elsewhere")
     tally.compare("kept: the same files elsewhere", ran("elsewhere/m.v", *BASE[1:])[1], False)
     status, is_made, _ = ran("m.v", "--only", "nothing", "-D", "LAST=7")
-    tally.compare("kept: of a run that ended early", (status, is_made, ran("m.v", "-D", "LAST=7", "--no-simulator", "-j", "1")[1]), (1, True, False))
+    tally.compare("kept: of a run that ended early",
+                  (status, is_made, ran("m.v", "-D", "LAST=7", "--no-simulator", "-j", "1")[1]), (1, True, False))
 
 
 def others(tally):
@@ -104,7 +110,8 @@ def others(tally):
         changed(f"byte of {name}", *BASE)
         Path(name).write_text(before)
     Path("more.v").write_text("module more(); endmodule\n")
-    for name, words in {"macro": ("-D", "MORE"), "top": ("--top", "m"), "parameter": ("-P", "P=2"), "free signal": ("--free", "m.n"),
+    for name, words in {"macro": ("-D", "MORE"), "top": ("--top", "m"), "parameter": ("-P", "P=2"),
+                        "free signal": ("--free", "m.n"),
                         "wires": ("--no-wires",), "conditions": ("--no-conditions",)}.items():
         changed(name, *BASE, *words)
     changed("file", "m.v", "more.v", *BASE[1:], "--top", "m")
@@ -118,14 +125,18 @@ def others(tally):
     with unittest.mock.patch.dict(os.environ, {"AIG_PROGRAM": str(Path("programs/aig").resolve())}):
         changed("aig", *BASE)
     kinds = {"sources", "read", "options", "yosys", "aig", "package"}
-    tally.compare("kept: what it is made of", set(json.loads(stored()[0].read_bytes().partition(b"\n")[2])["parts"]), kinds)
+    tally.compare("kept: what it is made of", set(json.loads(stored()[0].read_bytes().partition(b"\n")[2])["parts"]),
+                  kinds)
 
 
 def broken(tally):
     """Files that are broken, or of others, are as none; and a folder that cannot be written keeps nothing."""
-    for name, harm in {"nothing": lambda data: b"", "half": lambda data: data[:len(data) // 2], "bit": lambda data: data[:-9] + bytes([data[-9] ^ 1]) + data[-8:],
+    for name, harm in {"nothing": lambda data: b"", "half": lambda data: data[:len(data) // 2],
+                       "bit": lambda data: data[:-9] + bytes([data[-9] ^ 1]) + data[-8:],
                        "no sum": lambda data: data.partition(b"\n")[2],
-                       "a bit of what was made": lambda data: re.sub(rb"(?<=[A-Za-z0-9+/]{200})[A-Za-y]", lambda it: bytes([it[0][0] + 1]), data, count=1), "no JSON": lambda data: store.sum_of(b"{").encode() + b"\n{"}.items():
+                       "a bit of what was made": lambda data: re.sub(
+                           rb"(?<=[A-Za-z0-9+/]{200})[A-Za-y]", lambda it: bytes([it[0][0] + 1]), data, count=1),
+                       "no JSON": lambda data: store.sum_of(b"{").encode() + b"\n{"}.items():
         shutil.rmtree("cache")
         ran(*BASE)
         path, = stored()

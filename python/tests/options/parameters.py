@@ -1,4 +1,5 @@
-"""Values for parameters of the top module: what each declaration makes of them is what Icarus Verilog's own `-P` makes."""
+"""Values for parameters of the top module: what each declaration makes of them is what Icarus Verilog's own `-P`
+makes."""
 
 from __future__ import annotations
 
@@ -11,7 +12,8 @@ from bundles.common import called, manifest_of, write_manifest
 
 # What a module declares, with P for the name. A `signed` one without a range is read with signed values alone.
 DECLARED = ("parameter P = 4", "parameter [3:0] P = 4", "parameter signed [7:0] P = 4", "parameter integer P = 4",
-            "parameter signed [40:0] P = 1", "parameter logic [5:0] P = 3", "parameter int P = 7", "parameter [0:6] P = 1")
+            "parameter signed [40:0] P = 1", "parameter logic [5:0] P = 3", "parameter int P = 7",
+            "parameter [0:6] P = 1")
 SIGNED = "parameter signed P = 4"
 VALUES = ("8", "0", "-1", "-77", "4'd9", "4'sd9", "8'hff", "12'o7777", "'h1f", "'sd5", "1'b1", "64'hffffffffffffffff",
           "33'sh100000000", '"ab"')
@@ -43,7 +45,8 @@ endmodule
 def in_icarus(text, top, given):
     """What Icarus Verilog prints of a design whose parameters it gives values to by itself."""
     Path("truth.v").write_text(text)
-    subprocess.run(["iverilog", "-g2012", "-s", top, *(f"-P{top}.{it}" for it in given), "-o", "truth.vvp", "truth.v"], check=True)
+    subprocess.run(["iverilog", "-g2012", "-s", top, *(f"-P{top}.{it}" for it in given), "-o", "truth.vvp", "truth.v"],
+                   check=True)
     return subprocess.run(["vvp", "-n", "truth.vvp"], check=True, capture_output=True, text=True).stdout.strip()
 
 
@@ -55,7 +58,8 @@ def words_of(folder):
 
 def simulated(folder):
     """What a simulator says of the circuit of a folder, and whether that is that it is the same."""
-    said = manifest_of(folder)["simulated"] if Path(folder, "MANIFEST.json").exists() else {"agrees": False, "circuit": "none"}
+    is_there = Path(folder, "MANIFEST.json").exists()
+    said = manifest_of(folder)["simulated"] if is_there else {"agrees": False, "circuit": "none"}
     return said["circuit"], said["agrees"] and ": as in" in said["circuit"]
 
 
@@ -72,8 +76,10 @@ def values(_, tally, __):
         text, given = facts(declared), [f"P{k}={value}" for k in range(len(declared))]
         expected = in_icarus(text, "facts", given)
         Path("facts.sv").write_text(text)
-        status, table, said = ran("facts.sv", "-D", f"EXPECTED={expected}", *(word for it in given for word in ("-P", it)))
-        tally.compare(f"values: {value}: {said[:300]}", (status, words_of("out")), (5, {"is": "holds", "isnt": "fails"}))
+        status, table, said = ran("facts.sv", "-D", f"EXPECTED={expected}",
+                                  *(word for it in given for word in ("-P", it)))
+        tally.compare(f"values: {value}: {said[:300]}", (status, words_of("out")),
+                      (5, {"is": "holds", "isnt": "fails"}))
         tally.check(f"values: {value}: in a simulator", simulated("out")[1], simulated("out")[0])
     Path("facts.sv").write_text(facts([SIGNED]))
     status, _, said = ran("facts.sv", "-D", "EXPECTED=1'b1", "-P", "P0=4'd9")
@@ -101,8 +107,10 @@ PLACES = {
     "parts": "module m #(parameter A = {1'b1, 1'b0}, localparam B = 3, parameter LIMIT = B, STEP = 1)(input clk);",
     "dead": "`ifdef OTHER\nmodule m #(parameter LIMIT = 1, STEP = 2)(input clk);\n`else\n"
             "module m #(parameter LIMIT = 3, STEP = 1)(input clk);\n`endif",
-    "others": "module o #(parameter LIMIT = 5, STEP = 6)(input clk, output [7:0] p);\n  localparam LOW = LIMIT;\n  assign p = LOW + STEP;\nendmodule\n"
-              "module m #(parameter LIMIT = 3, STEP = 1)(input clk);\n  wire [7:0] p;\n  o o(clk, p);\n  kept: assert property (@(posedge clk) p == 11);",
+    "others": "module o #(parameter LIMIT = 5, STEP = 6)(input clk, output [7:0] p);\n  localparam LOW = LIMIT;\n"
+              "  assign p = LOW + STEP;\nendmodule\n"
+              "module m #(parameter LIMIT = 3, STEP = 1)(input clk);\n  wire [7:0] p;\n  o o(clk, p);\n"
+              "  kept: assert property (@(posedge clk) p == 11);",
 }
 # What holds of them with each value of LIMIT and STEP: of 6 and 3 the counter goes 0, 3, 6; of 3 and 2 it is never 3.
 GIVEN = {(): {"at_most": "holds", "grows": "holds", "back": "holds", "soon": "holds"},
@@ -170,7 +178,8 @@ def refused(_, tally, __):
     Path("m.sv").write_text(TWO)
     for given, wanted in REFUSED.items():
         status, out, said = ran("m.sv", *(word for it in given for word in ("-P", it)))
-        tally.check(f"refused: {given}", (status, out) == (1, "") and wanted in said and not Path("out").exists(), (status, said))
+        tally.check(f"refused: {given}", (status, out) == (1, "") and wanted in said and not Path("out").exists(),
+                    (status, said))
     Path("two.sv").write_text("module a #(parameter N = 1)(); endmodule\nmodule b #(parameter N = 1)(); endmodule\n")
     status, _, said = ran("two.sv", "-P", "N=2")
     tally.check("refused: which top", status == 1 and "of which module? Name it with --top: a, b" in said, said)
@@ -180,7 +189,8 @@ def refused(_, tally, __):
 endmodule
 """)
     status, _, said = ran("again.v", "--top", "m", "-P", "N=3")
-    tally.check("refused: an instance of itself", status == 1 and "again.v:2: an instance of the top module" in said, said)
+    tally.check("refused: an instance of itself", status == 1 and "again.v:2: an instance of the top module" in said,
+                said)
 
 
 COUNTER = """module m #(parameter LIMIT = 3)(input clk);
@@ -195,7 +205,8 @@ endmodule
 def everywhere(_, tally, __):
     """A value counts in the circuit, in a simulator, in a bundle that is checked again, and beside another version."""
     Path("m.sv").write_text(COUNTER)
-    tally.compare("everywhere: the value of the source", (ran("m.sv", out="own")[0], words_of("own")), (0, {"named": "holds", "plain": "holds"}))
+    tally.compare("everywhere: the value of the source", (ran("m.sv", out="own")[0], words_of("own")),
+                  (0, {"named": "holds", "plain": "holds"}))
     status, table, said = ran("m.sv", "-P", "LIMIT=6", out="given")
     tally.compare("everywhere: another value", (status, words_of("given")), (5, {"named": "holds", "plain": "fails"}))
     tally.compare("everywhere: in the manifest", manifest_of("given")["options"]["parameters"], ["LIMIT=6"])
@@ -203,15 +214,19 @@ def everywhere(_, tally, __):
     tally.check("everywhere: the text of the user", Path("given/sources/m.sv").read_text() == COUNTER)
     tally.check("everywhere: what Yosys read", "LIMIT = 6" in Path("given/translated/m.sv").read_text())
     status, _, said = called("recheck", "given", "--yosys", "--simulate")
-    tally.check("everywhere: checked again", status == 5 and "with the parameters LIMIT=6" in said and "as in Icarus" in said, said)
+    tally.check("everywhere: checked again",
+                status == 5 and "with the parameters LIMIT=6" in said and "as in Icarus" in said, said)
     status, out, said = called("replay", "given", "--random", "8", "--to", "benches")
     tally.check("everywhere: played", status == 0 and "b2  plain  in iverilog too" in out, out)
     tally.check("everywhere: the testbench", "m #(.LIMIT(6)) dut(" in Path("benches/2.tb.v").read_text())
     status, out, said = called("compare", "own", "given")
-    tally.check("everywhere: compared", status == 5 and "the parameters are LIMIT=6, and were none" in out + said, out + said)
-    kinds = {line.split()[2]: line.split()[0] for line in out.splitlines() if line.startswith(("edited", "broken", "new"))}
+    tally.check("everywhere: compared", status == 5 and "the parameters are LIMIT=6, and were none" in out + said,
+                out + said)
+    kinds = {line.split()[2]: line.split()[0] for line in out.splitlines()
+             if line.startswith(("edited", "broken", "new"))}
     tally.compare("everywhere: the one that names it is edited", kinds, {"named": "edited", "plain": "broken"})
-    for options, why in (({"parameters": ["LIMIT=7"]}, "another circuit"), ({"parameters": "LIMIT=6"}, "options of MANIFEST.json"),
+    for options, why in (({"parameters": ["LIMIT=7"]}, "another circuit"),
+                         ({"parameters": "LIMIT=6"}, "options of MANIFEST.json"),
                          ({"parameters": ["LIMIT=f()"]}, "no constant"), ({}, "another circuit")):
         shutil.rmtree("forged", ignore_errors=True)
         shutil.copytree("given", "forged")
@@ -233,12 +248,14 @@ def hostile(_, tally, __):
     """A value is one word of Verilog, also in a bundle of others, and no value is lost on the way to the top module."""
     Path("m.sv").write_text(COUNTER)
     ran("m.sv", "-P", "LIMIT=6", out="bundle")
-    for value in ("LIMIT=6)); endmodule module z; initial $finish; endmodule//", "LIMIT=`X", "LIMIT=6 ", "LIMIT=6\n", "LI MIT=6",
+    for value in ("LIMIT=6)); endmodule module z; initial $finish; endmodule//", "LIMIT=`X", "LIMIT=6 ", "LIMIT=6\n",
+                  "LI MIT=6",
                   "LIMIT=\"\n\"", "LIMIT=$time", "LIMIT=\"a", "LIMIT=6'd1'd1"):
         manifest = manifest_of("bundle")
         manifest["options"]["parameters"] = [value]
         write_manifest(Path("bundle"), manifest)
         for words in (["recheck", "bundle", "--yosys"], ["replay", "bundle"]):
             status, out, said = called(*words)
-            tally.check(f"hostile: {value!r}: {words[0]}", status in (1, 4) and "LI" in out + said and "no " in out + said, out + said)
+            tally.check(f"hostile: {value!r}: {words[0]}",
+                        status in (1, 4) and "LI" in out + said and "no " in out + said, out + said)
     assert json.loads(json.dumps(manifest)) == manifest

@@ -93,6 +93,11 @@ def asked(_, tally, __):
     needed = [row.replace("0", "x") for row in ROWS]
     needed = [row[:-1] + "0" if row[-1] == "x" else row[:-2] + "01" for row in needed]
     tally.compare("reduced: the last 0 keeps the constraint", chain.witness(ROWS, 12).reduced().rows, needed)
+    whole = chain.witness(ROWS, 12)
+    tally.compare("its values", (whole.concrete, whole.reduced().concrete.rows,
+                                 whole.reduced().reduced().concrete.rows),
+                  (None, ROWS, ROWS))
+    tally.compare("no values are known", aig.Witness(chain, whole.reduced().text).reduced().concrete, None)
     tally.compare("why, to a depth", wraps.witness(["1"] * 4).why("count", depth=0),
                   ["at 3, not explained: count=2'h3"])
     for name, wave in (("rows", chain.wave(ROWS)), ("a witness", chain.witness(ROWS, 12).wave())):

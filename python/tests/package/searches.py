@@ -72,6 +72,11 @@ def small(_, tally, __):
         said = chain.refute(found.frames - (position == 3), found.proof, position, step=found.step)
         tally.compare(f"its proof, {position}", said, {3: "unreachable within 3"}.get(position, found.line))
         tally.compare(f"its run, {position}", found.witness and found.witness.position, 3 if position == 3 else None)
+    free = aig.Circuit("aag 5 3 0 0 2 1\n2\n4\n6\n10\n8 7 5\n10 9 2\n")
+    run = aig.prove(free, frames=1, solver="./small").witness
+    tally.compare("the values of a run", [one in ("x", other) and other in "01" for one, other in
+                                          zip(run.rows[0], run.concrete.rows[0])], [True] * 3)
+    tally.compare("they are those of a run", (run.rows[0].count("x"), free.check(run.concrete).line), (1, "confirmed"))
     last = aig.Circuit("aag 1 1 0 0 0 13\n2\n" + "0\n" * 12 + "2\n")
     tally.compare("property 12 of 13", aig.prove(last, 12, frames=1, solver="./small").line, "confirmed")
     contradict = aig.Circuit("aag 2 2 0 0 0 1 2\n2\n4\n4\n2\n3\n")

@@ -14,7 +14,9 @@ from pathlib import Path
 
 import aig
 from aig.verdicts import command
-from aig.verdicts.runs import Told
+from aig.verdicts.bundle import Bundle, sum_of
+from aig.verdicts.runs import Told, story
+from aig.verdicts.svg import parts
 from library import runs, supervised
 from pages.tags import read
 from pages.values import compared
@@ -64,11 +66,12 @@ def made(_, tally, __):
         tally.compare(f"{file}: sections", [it for it in wanted if f'id="{it}"' not in page], [])
         pictured(tally, file, folder)
         opened(tally, file, folder, page)
+        valued(tally, file, folder)
     tally.check("the register is shown", ">n</text>" in Path("small.v.out/index.html").read_text(encoding="utf-8"))
 
 
 def opened(tally, file, folder, page):
-    """What the page says to type for a dump: one with x, and one with the values of its pale digits."""
+    """What the page says to type for a dump: one with x, and one with the values that were found, if there is an x."""
     if not Path("path").exists():
         os.mkdir("path")
         os.symlink(os.path.abspath(os.environ["AIG_PROGRAM"]), "path/aig")
@@ -76,9 +79,9 @@ def opened(tally, file, folder, page):
     section = page.partition('<section id="b0"')[2].partition("<summary>Open it</summary>")[2].partition("</pre>")[0]
     typed = [html.unescape(line)[2:] for line in re.findall(r"\$ [^\n]*", section)]
     tally.compare(f"{file}: what is typed", [re.findall(r"aig [a-z]+", line) for line in typed],
-                  [["aig shell"], ["aig wave"], ["aig wave"]])
+                  [["aig shell"], ["aig wave"]] + [["aig wave"]] * (b"x" in Path(folder, "0.wit").read_bytes()))
     witness, dumps = Path(folder, "0.wit").read_bytes(), []
-    for command, data in zip(typed[1:], (witness, witness.replace(b"x", b"0"))):
+    for command, data in zip(typed[1:], (witness, *(it.read_bytes() for it in Path(folder).glob("0.concrete.wit")))):
         supervised.run(["sh", "-c", command], cwd=folder, env={**os.environ, "PATH": path}, check=True)
         dumps.append(Path(folder, "0.vcd").read_bytes())
         runs.write("run.wit", data)
@@ -86,7 +89,7 @@ def opened(tally, file, folder, page):
                                 stdout=subprocess.PIPE, check=True).stdout
         tally.check(f"{file}: {command}", dumps[-1] == wanted, dumps[-1])
     is_free = [re.search(rb"(?m)^(x|b[01]*x)", it.partition(b"$enddefinitions")[2]) is not None for it in dumps]
-    tally.compare(f"{file}: which dump has x", is_free, [b"x" in witness, False])
+    tally.compare(f"{file}: which dump has x", is_free, [True, False] if b"x" in witness else [False])
 
 
 def pictured(tally, file, folder):
@@ -99,3 +102,27 @@ def pictured(tally, file, folder):
             witness = aig.Witness(told.circuit, Path(folder, row["files"]["witness"]).read_bytes())
             shown += compared(tally, f"{file} b{row['position']}", told, witness, "both n")
     tally.check(f"{file}: pictures", shown > 1, shown)
+
+
+def valued(tally, file, folder):
+    """The pale digits of a page are those of the concrete run in the folder, here with 1 for each x."""
+    shutil.copytree(folder, f"{folder}.ones")
+    bundle = Bundle(Path(f"{folder}.ones"))
+    manifest, told, seen = bundle.manifest, Told(aig.read(os.path.join(folder, "circuit.aig"))), ""
+    for path in Path(f"{folder}.ones").glob("*.concrete.wit"):
+        data = path.with_name(path.name.replace(".concrete", "")).read_bytes().replace(b"x", b"1")
+        path.write_bytes(data)
+        manifest["sums"][path.name] = sum_of(data)
+    Path(f"{folder}.ones", "MANIFEST.json").write_text(json.dumps(manifest))
+    tally.compare(f"{file}: ones", called("recheck", f"{folder}.ones", "-q", "--page", "ones.html"), 5)
+    page = Path("ones.html").read_text(encoding="utf-8")
+    for row in bundle.rows:
+        files = row.claim.files if row.claim is not None and row.kind in ("assert", "cover") else {}
+        if "concrete" in files:
+            run = story(told, bundle.read(files["witness"]), "", bundle.read(files["concrete"]))
+            section = page.partition(f'<section id="b{row.position}"')[2].partition("</section>")[0]
+            found, wanted = (re.findall(r'class="f">([0-9a-f]+)<', it)
+                             for it in (section, parts(run.lanes, row.claim.frames)[1]))
+            tally.compare(f"{file}: pale digits of b{row.position}", found, wanted)
+            seen += "".join(wanted)
+    tally.check(f"{file}: values", "1" in seen, seen)

@@ -142,6 +142,12 @@ def pictures(_, tally, __):
     kinds(tally, waveform([], 0, None))
     tally.compare("hexadecimal", [hexadecimal(it) for it in ("1001", "00001111", "1x", "xxxx", "x00001111", "11")],
                   ["9", "0f", "x", "", "x0f", "3"])
+    free = Lane("a", ["x"] * 5, filled=["1"] * 5)
+    for failing, boxes in ((None, 1), (4, 2), (2, 3), (0, 2)):
+        drawn = waveform([free], 5, failing)
+        tally.compare(f"boxes of what is free, with an edge at {failing}",
+                      (drawn.count('class="xb"'), drawn.count('class="f">1<')),
+                      (boxes, boxes))
     lane = Lane("a", ["0", "1"])
     tally.compare("the same bytes", waveform([lane], 2, 1), waveform([lane], 2, 1))
 

@@ -66,12 +66,14 @@ def witness_of(circuit, chance):
     return witness.reduced() if chance.randrange(2) else witness
 
 
-def compared(tally, name, told, witness, text=""):
-    """Compares the picture of a witness with what it has to show. Returns how many lanes it has."""
-    found = story(told, witness.text, text)
-    expected = Expected(told.circuit.to("aag"), witness.text)
+def compared(tally, name, told, witness, text="", chance=None):
+    """Compares the picture of a witness with what it has to show, with values for x by chance or 0. Returns how many
+    lanes it has."""
     first, name_of_property, rows = witness.text.split(b"\n", 2)
-    whole = b"\n".join([first, name_of_property, rows.replace(b"x", b"0")])
+    rows = bytes(chance.choice(b"01") if chance and it == ord("x") else it for it in rows).replace(b"x", b"0")
+    whole = b"\n".join([first, name_of_property, rows])
+    found = story(told, witness.text, text, whole if chance else None)
+    expected = Expected(told.circuit.to("aag"), witness.text)
     filled = Expected(told.circuit.to("aag"), whole)
     if told.circuit.check(witness.text).line == "confirmed":
         tally.compare(f"{name}: the run of the pale digits", told.circuit.check(whole).line, "confirmed")
@@ -85,7 +87,8 @@ def compared(tally, name, told, witness, text=""):
         tally.compare(f"{name}: the name of {lane.name!r}", shown.name, signal.name)
         wanted = {frame: expected.value(signal, frame) for frame in frames}
         tally.compare(f"{name}: values of {lane.name!r}", lane.values, wanted)
-        numbers = {frame: expected.number(signal, frame, filled) for frame in frames if len(signal.positions) > 1}
+        numbers = {frame: expected.number(signal, frame, filled) for frame in frames
+                   if len(signal.positions) > 1 or wanted[frame] == "x"}
         is_cut = any("…" in digits for digits, _ in lane.numbers.values())
         tally.check(f"{name}: numbers of {lane.name!r}", is_cut or lane.numbers == numbers, (lane.numbers, numbers))
         thick = {frame for frame in frames if expected.is_named(signal, frame)}
@@ -108,7 +111,7 @@ def values(_, tally, __):
         witness = witness_of(circuit, chance)
         if witness is not None:
             text = f"assert ({chance.choice(BASES)} == count);"
-            seen += compared(tally, str(number), told, witness, text)
+            seen += compared(tally, str(number), told, witness, text, chance if number % 2 else None)
     tally.check("pictures were drawn", seen > 200, seen)
 
 

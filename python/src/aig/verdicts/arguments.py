@@ -4,9 +4,10 @@ from __future__ import annotations
 
 import argparse
 from pathlib import Path
-from typing import Callable, List
+from typing import Callable, List, Tuple
 
-from .decide import Bounds, Programs
+from .decide import ENGINES, Bounds, Programs
+from .row import MOST_FRAMES
 from .replay.stimulus import hold_of
 
 STATUSES = """\
@@ -132,7 +133,7 @@ def _cores(cores: argparse.ArgumentParser) -> None:
                        help="the program that adds the hints that a solver did not write (drat2lrat)")
     _printed(cores)
     cores.add_argument("-q", "--quiet", action="store_true", help="print the table alone: no progress, no notes")
-    cores.set_defaults(cores=True, hints=False, dask=None, only=[], verbose=False)
+    cores.set_defaults(cores=True, hints=False, dask=None, only=[], engines=[], verbose=False)
 
 
 def _programs(verb: Arguments) -> None:
@@ -177,7 +178,8 @@ def _run(run: argparse.ArgumentParser) -> None:
     of_design.add_argument("-I", "--include", action="append", default=[], type=Path, metavar="FOLDER",
                            help="a folder of files that the sources include")
     of_design.add_argument("--free", action="append", default=[], metavar="NAME",
-                           help="leave out the body of this module: its outputs are free values; or give a signal any value, as top.u0.count")
+                           help="leave out the body of this module: its outputs are free values; or give a signal any "
+                                "value, as top.u0.count")
     of_design.add_argument("--assert", action="append", default=[], type=Path, metavar="FILE", dest="asserts",
                            help="put the assertions of this file before the end of the module of --module")
     of_design.add_argument("--module", metavar="MODULE", default="", help="the module of --assert")
@@ -194,8 +196,10 @@ def _run(run: argparse.ArgumentParser) -> None:
                            help="do not ask whether the `if` around an assertion is ever true")
     of_design.add_argument("--no-wires", action="store_true", help="do not keep named wires for the page")
     search = run.add_argument_group("search")
-    search.add_argument("--frames", type=_whole(1, 65536), default=usual.frames, metavar="N",
+    search.add_argument("--frames", type=_whole(1, MOST_FRAMES), default=usual.frames, metavar="N",
                         help=f"search runs and inductions of up to N frames ({usual.frames})")
+    search.add_argument("--depth", action="append", default=[], type=_depth, metavar="NAME=N", dest="depths",
+                        help="search this assertion or cover in up to N frames: its name, b3, or a pattern with *")
     search.add_argument("--seconds", type=_number(1, 10**7), default=usual.seconds, metavar="S",
                         help=f"limit of one question; a property gets five times as much ({usual.seconds:g})")
     search.add_argument("--total", type=_time, metavar="TIME",
@@ -209,6 +213,11 @@ def _run(run: argparse.ArgumentParser) -> None:
     search.add_argument("-j", "--jobs", type=_whole(0, 4096), default=0, metavar="N",
                         help="questions at once (one per processor)")
     search.add_argument("--dask", metavar="ADDRESS", help="ask the workers of a Dask cluster")
+    search.add_argument("--dask-seconds", type=_number(0, 10**7), default=30.0, metavar="S",
+                        help="with --dask: end if no worker is there for so long (30)")
+    search.add_argument("--engine", action="append", default=[], choices=ENGINES, dest="engines",
+                        help="search by this alone: runs (bmc), runs and inductions, or ABC's pdr; may be given "
+                             "again (all)")
     _programs(search)
     search.add_argument("--cores", action="store_true",
                         help="find what each proof needs, too: registers, their resets and assumptions")
@@ -266,6 +275,17 @@ def _whole(least: int, most: int) -> Callable[[str], int]:
         return int(text)
     number.__name__ = f"number from {least} to {most}"
     return number
+
+
+def _depth(text: str) -> Tuple[str, int]:
+    """A name, and the frames of its row."""
+    name, _, frames = text.rpartition("=")
+    if not name:
+        raise ValueError
+    return name, _whole(1, MOST_FRAMES)(frames)
+
+
+_depth.__name__ = "depth (NAME=N)"
 
 
 _UNITS = {"s": 1, "m": 60, "h": 3600}

@@ -10,6 +10,7 @@ from contextlib import ExitStack
 from pathlib import Path
 from typing import Any, Dict, List, Optional, Union
 
+from .._program import OftenRead
 from .checked import CIRCUIT, Wrong, expect, sum_of
 from .manifest import MANIFEST, PLAIN, WITH_CUTS, files_of, parsed, row_of
 from .row import Row
@@ -150,7 +151,7 @@ class Bundle:
         return data
 
     def circuit(self, sums: bool = True) -> bytes:
-        return self.summed(CIRCUIT) if sums else self.read(CIRCUIT)
+        return OftenRead(self.summed(CIRCUIT) if sums else self.read(CIRCUIT))
 
     def source(self, name: str) -> Optional[bytes]:
         """A source, if it is there."""

@@ -4,11 +4,12 @@ decisions.py says what it means. Who audits a `recheck` reads these two files.""
 
 from __future__ import annotations
 
-import hashlib
 from dataclasses import InitVar, dataclass
 from typing import Callable, Dict, List, Mapping, NamedTuple, Optional, Tuple
 
+from .._program import sum_of as sum_of
 from ..errors import AigError
+from .concrete import fits
 from .tools import Stop, answer
 
 CIRCUIT = "circuit.aig"
@@ -39,10 +40,6 @@ def expect(condition: bool, what: str) -> None:
         raise Wrong(what)
 
 
-def sum_of(data: bytes) -> str:
-    return hashlib.sha256(data).hexdigest()
-
-
 class Shown(NamedTuple):
     """The files that show a verdict, by role: those that have to be there, and those that may."""
 
@@ -53,7 +50,7 @@ class Shown(NamedTuple):
 # What a verdict is found by, and the files of each. A row that nothing shows has none. With a file of cuts the proofs are
 # about the circuit without these parts: what no run reaches there, none reaches in the whole circuit.
 WAYS: Dict[str, Shown] = {
-    "run": Shown(("witness",), ("shorter",)),
+    "run": Shown(("witness",), ("shorter", "concrete")),
     "induction": Shown(("base", "step"), ("cuts",)),
     "certificate": Shown(("certificate", "proof"), ("cuts",)),
     "bound": Shown(("base",)),
@@ -140,7 +137,8 @@ class Claim:
             asked = ["--alive", f"--frames={self.frames}"] if self.position == CONSTRAINTS else [self._property]
             return [Command(self.line, ["check", *asked, CUT, files["witness"]])]
         if self.by == "run":
-            shown = [Command(self.line, ["check", self._property, CIRCUIT, files["witness"]])]
+            runs = [files[role] for role in ("witness", "concrete") if role in files]
+            shown = [Command(self.line, ["check", self._property, CIRCUIT, name]) for name in runs]
             if "shorter" in files:
                 shown.append(self._bounded(self.frames - 1, files["shorter"]))
             return shown
@@ -228,7 +226,7 @@ def check(claim: Claim, circuit: bytes, read: Callable[[str], bytes], stop: Stop
     commands = claim.commands()
     expect(commands != [] and commands[0].prints == claim.line, f"nothing shows the verdict of {claim.label}")
     if claim.by == "run" or claim.by == NEEDED and claim.position != CONSTRAINTS:
-        _look_at_witness(claim, text(claim.files["witness"]))
+        _look_at_witness(claim, text(claim.files["witness"]), text(claim.files.get("concrete", claim.files["witness"])))
     left = _left(claim, circuit, text, stop)
     for command in commands:
         _ask(claim, command, left, text, stop)
@@ -248,11 +246,13 @@ def _left(claim: Claim, circuit: bytes, text: Callable[[str], bytes], stop: Stop
         raise Rejected(claim.label, "cut", error) from None
 
 
-def _look_at_witness(claim: Claim, witness: bytes) -> None:
-    """That a witness is about the property of its claim, and as long."""
+def _look_at_witness(claim: Claim, witness: bytes, concrete: bytes) -> None:
+    """That a witness is about the property of its claim, and as long, and that its concrete run is the same, with values."""
     expect(witness.split(b"\n", 2)[1:2] == [b"b%d" % claim.position],
            f"the witness of {claim.label} is for another property")
     expect(witness.count(b"\n") - 4 == claim.frames, f"the witness of {claim.label} has another number of frames")
+    if "concrete" in claim.files:
+        expect(fits(concrete, witness), f"the concrete run of {claim.label} is another one than its witness")
 
 
 def _ask(claim: Claim, command: Command, circuit: bytes, text: Callable[[str], bytes], stop: Stop) -> None:

@@ -42,14 +42,14 @@ from .runs import comes_back
 from .sections import Pictures
 from .needs_page import Proofs
 from .sentences import NOT_COMPARED, no_proof_needs, of_needs, short_runs
-from .session import STOPPED, Session, Work
+from .session import STOPPED, Session
 from .sides import side_of, table_of
 from .since import Since, opened, since_of
 from .simulated import Simulated, of_facts
 from .store import Store, folder_of_user
 from .table import junit, next_command, open_notes, plain, text
 from .tools import Clock, Stop, Stopped, ToolFailed, missing, version
-from .workers import Dask
+from .workers import Dask, Work
 
 # The seeds of random runs are 1 to this.
 MOST_SEEDS = 2**31 - 1
@@ -118,9 +118,7 @@ def _page(to: Path, manifest: Dict[str, Any], rows: List[Row], read: Callable[[s
 
 def run(words: argparse.Namespace, stop: Stop) -> int:
     """Finds the verdicts of a design, in the time that there is for all of it."""
-    of_lists = listed(words.lists)
-    words.files, words.include = words.files + of_lists.files, words.include + of_lists.include
-    words.define += of_lists.define
+    listed(words.lists).give(words)
     if not words.files:
         raise ToolFailed("the lists name no file")
     with stop.after(words.total):
@@ -141,6 +139,7 @@ def _run(words: argparse.Namespace, stop: Stop) -> int:
     bounds = Bounds(words.frames, words.conflicts, words.seconds, words.megabytes, words.proof_megabytes)
     named = opened(words.since, path)
     session = Session(design, path, bounds, programs, only, stop)
+    session.depths = {it: frames for name, frames in words.depths for it in chosen(design, [name]) or ()}
     with contextlib.closing(session):
         session.open(words.jobs)
         since = since_of(named, str(words.since), session)
@@ -181,8 +180,9 @@ def _search(words: argparse.Namespace, session: Session, hinting: Optional[str])
     progress.begin(session.waiting())
     renew(True)  # a page of an earlier run would be about something else
     if words.dask:
-        with contextlib.closing(Dask(words.dask)) as dask:
-            is_complete = _work(words, session, hinting, Work(dask.executor, words.jobs, progress, dask.share))
+        with contextlib.closing(Dask(words.dask, words.dask_seconds, session.stop)) as dask:
+            work = Work(dask.executor, words.jobs, progress, dask.share, dask.are_lost)
+            is_complete = _work(words, session, hinting, work)
     else:
         is_complete = _work(words, session, hinting, Work(None, words.jobs, progress))
     progress.end()
@@ -194,8 +194,7 @@ def _search(words: argparse.Namespace, session: Session, hinting: Optional[str])
 
 def _work(words: argparse.Namespace, session: Session, hinting: Optional[str], work: Work) -> bool:
     """Finds the verdicts, and what their proofs need if that is asked for. Whether all was done."""
-    is_complete = session.search(work.executor, work.workers, work.progress, work.share)
-    return is_complete and (not words.cores or session.narrow(_narrow(words, hinting), work))
+    return session.search(work) and (not words.cores or session.narrow(_narrow(words, hinting), work))
 
 
 def _narrow(words: argparse.Namespace, hinting: Optional[str]) -> Narrow:

@@ -3,20 +3,20 @@ this process or on another machine."""
 
 from __future__ import annotations
 
-import hashlib
 import shutil
 import tempfile
 import zlib
 from contextlib import contextmanager
 from dataclasses import dataclass, field, replace
 from pathlib import Path
-from typing import Dict, Iterator, List, Optional, Union
+from typing import Dict, Iterator, List, Optional, Tuple, Union
 
 from ..errors import AigError, Crashed
 from .checked import Checked, Claim, Wrong
 from .hints import claim_of
 from .needed import Run
 from .row import UNDECIDED
+from .sent import Sent
 from .tools import Clock, Stop, Stopped, ToolFailed
 
 
@@ -53,37 +53,19 @@ def abc_of_path() -> str:
     return next((name for name in ABC if shutil.which(name)), ABC[0])
 
 
+# What a search tries: the solver for runs, the solver for inductions, for which it needs the first too, and ABC's pdr.
+BMC, INDUCTION, PDR = ENGINES = ("bmc", "induction", "pdr")
+
+
 @dataclass(frozen=True)
 class Programs:
     """The solver, ABC, and the program that adds hints to proofs, as names or paths. Without ABC there are no
-    invariants, and without the last one proofs stay as the solver wrote them."""
+    invariants, and without the last one proofs stay as the solver wrote them. `engines` are those that are tried."""
 
     solver: str = "cadical"
     abc: Optional[str] = field(default_factory=abc_of_path)
     drat2lrat: Optional[str] = None
-
-
-@dataclass(frozen=True)
-class Sent:
-    """A circuit on its way to a worker: its bytes, compressed, or the path of a file that has this sum."""
-
-    sum: str
-    packed: bytes = b""
-    path: str = ""
-
-    @staticmethod
-    def of(circuit: bytes) -> Sent:
-        return Sent(hashlib.sha256(circuit).hexdigest(), zlib.compress(circuit, 1))
-
-    @staticmethod
-    def at(path: Path) -> Sent:
-        return Sent(hashlib.sha256(path.read_bytes()).hexdigest(), path=str(path.resolve()))
-
-    def circuit(self) -> bytes:
-        circuit = Path(self.path).read_bytes() if self.path else zlib.decompress(self.packed)
-        if hashlib.sha256(circuit).hexdigest() != self.sum:
-            raise ToolFailed(f"{self.path or 'the circuit'} has another sum than when it was sent")
-        return circuit
+    engines: Tuple[str, ...] = ENGINES
 
 
 @dataclass(frozen=True)
@@ -120,8 +102,8 @@ class Narrow:
 
 @dataclass(frozen=True)
 class Task:
-    """What to decide: a property of a circuit, or -1: whether some run keeps all constraints. `hint` is what is known of
-    an earlier version, and `narrow` a row that is decided: the task is then to find what its proof needs."""
+    """What to decide: a property of a circuit, or -1: whether some run keeps all constraints. `hint` is what is known
+    of an earlier version, and `narrow` a row that is decided: the task is then to find what its proof needs."""
 
     circuit: Optional[Sent]
     position: int

@@ -112,8 +112,8 @@ class Folder:
             pass
 
     def set_aside(self) -> None:
-        """Copies the results that are here into a folder, as another circuit comes. Results that are there already stay:
-        these here are of a run that was stopped."""
+        """Copies the results that are here into a folder, as another circuit comes. Results that are there already
+        stay: these here are of a run that was stopped."""
         to = self.path / BEFORE
         if to.exists() or to.is_symlink():
             return
@@ -212,7 +212,8 @@ def _lines_of(claim: Claim) -> List[str]:
     """The lines of the script that check a claim."""
     lines = []
     if claim.by == "run" or claim.by == NEEDED and claim.position != CONSTRAINTS:
-        lines.append(f"of {claim.files['witness']} {claim.label} {claim.frames + 4}")
+        runs = [claim.files[role] for role in ("witness", "concrete") if role in claim.files]
+        lines += [f"of {name} {claim.label} {claim.frames + 4}" for name in runs]
     call = f"cut {claim.files['cuts']}" if claim.cut else "check"
     return lines + [f"{call} {_of_shell([line, *(STREAM if it == CUT else it for it in words)])}"
                     for line, words in claim.commands()]

@@ -6,6 +6,7 @@ from typing import Any, Callable, Dict, List, Optional, Sequence
 
 import aig
 
+from .._program import OftenRead
 from .decisions import MEANINGS, Judged, summary
 from .needs_page import STYLE as NEEDS, Proofs, section
 from .row import Row
@@ -14,12 +15,14 @@ from .sections import Pictures, Sections, Sources, anchor, place, size, verdict
 from .sentences import GROUPS, NOT_PROVED, NOT_SIMULATED, PROVED, UNPROVED, counted, is_proved, of_assumptions, of_needs
 from .simulated import of_facts
 from .style import STYLE
-from .svg import STYLE as WAVE, escape, marked
+from .svg import MOST_NAME, STYLE as WAVE, escape, marked, shortened
 
 _LEGEND = ("Thick lines are the values that suffice for it, and hatched boxes are x: any value will do. Numbers are "
-           "hexadecimal. Their pale digits are x too: they are those of the run with 0 for each x.")
-# What the groups whose rows have waveforms say of these.
+           "hexadecimal. Pale digits are x too, values that it does not need:")
+# What the groups whose rows have waveforms say of these, and of the pale digits: of runs whose values the folder has,
+# and of others.
 LEGENDS = {"fails": ("In its waveform a frame is a clock.", _LEGEND), "reached": (_LEGEND,)}
+SOLVERS, ZEROS = "they are those of the run that was found.", "they are those of the run with 0 for each x."
 # The groups that fold if they have more than three rows.
 FOLDED = ("holds", "reached")
 POLICY = "default-src 'none'; style-src 'unsafe-inline'; base-uri 'none'; form-action 'none'"
@@ -43,7 +46,7 @@ class Page:
         shown = [it for it in table if it.result in groups]  # the summary alone counts what was left out
         self.proofs = Proofs.of(table)
         self.table = sorted(shown, key=lambda it: (groups.index(it.result), not it.doubt))
-        self.circuit = aig.Circuit(read("circuit.aig"))
+        self.circuit = aig.Circuit(OftenRead(read("circuit.aig")))
         self.facts = self.circuit.info()
         self.sources = Sources(read)
 
@@ -118,7 +121,7 @@ class Page:
         doubts = "".join(f"<br><span class=warn>{escape(part)}</span>" for part in (it.doubt, it.denied) if part)
         sizes = size(sum(len(self.read(name)) for name in row.files.values())) if row.files else ""
         return (f"<tr><td>{verdict(it, it.at)}</td>"
-                f'<td class=what><a class=name href="#{anchor(row)}">{escape(row.name)}</a>{where}{text}{doubts}</td>'
+                f'<td class=what><a class=name href="#{anchor(row)}">{escape(shortened(row.name, MOST_NAME))}</a>{where}{text}{doubts}</td>'
                 f"<td class=by>{escape(it.way)}</td>{self._needs(it)}<td class=num>{sizes}</td>{time}</tr>")
 
     def _needs(self, it: Judged) -> str:
@@ -141,7 +144,7 @@ class Page:
                 if folded:
                     rows = "".join(map(sections.section, folded))
                     body += f"<details><summary>{counted(len(folded), 'row')}</summary>{rows}</details>"
-                words = " ".join([group.sentence, *LEGENDS.get(key, ())])
+                words = " ".join([group.sentence, *_legend(key, [it.row for it in members])])
                 found.append(f"<h2 id={key}>{group.title}</h2><p class=sub>{words}</p>{body}")
         return "".join(found)
 
@@ -153,3 +156,9 @@ class Page:
     def _programs(self) -> str:
         versions = "".join(f"<li><code>{escape(str(it))}</code></li>" for it in self.manifest["versions"].values())
         return f"<details><summary>Programs of this run</summary><ul>{versions}</ul></details>"
+
+
+def _legend(group: str, rows: Sequence[Row]) -> List[str]:
+    """What a group says of its waveforms, if it has some."""
+    said = SOLVERS if any("concrete" in row.files for row in rows) else ZEROS
+    return [*LEGENDS[group], said] if group in LEGENDS else []

@@ -4,9 +4,9 @@ from __future__ import annotations
 
 import argparse
 from dataclasses import replace
-from typing import Callable, Dict, Optional
+from typing import Callable, Dict, Optional, Tuple
 
-from .decide import Programs
+from .decide import ENGINES, PDR, Programs
 from .solvers import writes_hints
 from .tools import ToolFailed, missing
 
@@ -14,14 +14,19 @@ from .tools import ToolFailed, missing
 def lost_without(words: argparse.Namespace) -> Dict[str, str]:
     """What is lost without each program that is missing, by what to say of it. A cluster has its own programs."""
     found = {missing(words.solver): "nothing is shown to hold, and runs are those of ABC alone"}
-    if words.abc:
+    if words.abc and PDR in _engines(words):
         found[missing(words.abc)] = "no invariants and no long runs are found"
     return {said: lost for said, lost in found.items() if said and not words.dask}
 
 
+def _engines(words: argparse.Namespace) -> Tuple[str, ...]:
+    """What is tried: all engines, if none is named."""
+    return tuple(it for it in ENGINES if it in words.engines) or ENGINES
+
+
 def programs_of(words: argparse.Namespace) -> Programs:
     """The programs. Hints are those of `drat2lrat`, or else the solver's own. A cluster has its own programs."""
-    without_hints = Programs(words.solver, words.abc or None)
+    without_hints = Programs(words.solver, words.abc or None, engines=_engines(words))
     if words.verb == "cores" or not words.hints and words.drat2lrat is None:
         return without_hints
     return replace(without_hints, drat2lrat=_hinting(words, "--hints"))

@@ -8,6 +8,7 @@ import sys
 import threading
 from typing import Callable, Iterator, List, Optional, Sequence, Set
 
+from .checked import CONSTRAINTS
 from .decisions import Judge, Judged
 from .row import Row
 from .table import cells, plain
@@ -68,11 +69,12 @@ class Progress:
         """Which rows are searched. The others are shown in the table alone."""
         self._waiting = {row.position for row in waiting}
         self._left &= self._waiting
+        self._judge = Judge(self._rows)
 
     def __call__(self, done: int, count: int, row: Optional[Row]) -> None:
         if row is not None:
             self._waiting.discard(row.position)
-            self._show()
+            self._show(row)
         if self._has_line and count:
             wide = os.get_terminal_size(2).columns - 1
             name = f", last: {plain(row.name or row.kind)}" if row is not None else ""
@@ -83,16 +85,13 @@ class Progress:
             self._renew()
             self._cost, self._page = clock(), Clock()
 
-    def _show(self) -> None:
-        """Shows each row whose meaning no other row can change any more."""
-        if not self._left:
-            return
-        judge = Judge(self._rows)
-        for position in sorted(self._left):
+    def _show(self, done: Row) -> None:
+        """Shows the rows that this one has a say in, once no other row can change their meaning any more."""
+        for position in sorted(self._left if done.position == CONSTRAINTS else self._left & {done.position, done.of}):
             row = self._rows[position + 1]
-            if not any(it.position in self._waiting for it in judge.waits_for(row)):
+            if not any(it.position in self._waiting for it in self._judge.waits_for(row)):
                 self._left.discard(position)
-                self._line(judge.of(row))
+                self._line(self._judge.of(row))
 
     def _line(self, it: Judged) -> None:
         shown: List[str] = [it.words, it.row.name, *cells(it)[5:6]]

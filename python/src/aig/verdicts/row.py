@@ -19,8 +19,8 @@ MOST_FRAMES = 65536
 ORIGINS = ("old proof", "old run", "old certificate", "old depth", "old bound")
 # How the file of each role ends. A proof with hints ends in lrat.
 ENDINGS = {
-    "witness": "wit", "shorter": "shorter.drat", "base": "base.drat", "step": "step.drat", "certificate": "cert.aag",
-    "proof": "cert.drat", "alive": "drat", "cuts": "cuts",
+    "witness": "wit", "concrete": "concrete.wit", "shorter": "shorter.drat", "base": "base.drat", "step": "step.drat",
+    "certificate": "cert.aag", "proof": "cert.drat", "alive": "drat", "cuts": "cuts",
 }
 
 

@@ -4,12 +4,13 @@ from __future__ import annotations
 
 import re
 from functools import lru_cache
-from typing import Dict, Iterable, List, NamedTuple, Sequence, Set, Tuple
+from typing import Dict, Iterable, List, NamedTuple, Optional, Sequence, Set, Tuple
 
 from .._program import run as call
 from ..circuit import Circuit
 from ..errors import Crashed, OutOfMemory
 from . import explained
+from .concrete import filled, has_free
 from .explained import Line
 from .signals import Names, Place, Signal, labels
 from .svg import Lane
@@ -18,16 +19,10 @@ from .svg import Lane
 MOST_TRACE, MOST_WHY = 1 << 28, 1 << 26
 
 
-def filled(witness: bytes) -> bytes:
-    """A witness with 0 for each x."""
-    first, name, *rows = witness.split(b"\n")
-    return b"\n".join([first, name, *(row.replace(b"x", b"0") for row in rows)])
-
-
 @lru_cache(maxsize=1)
 def comes_back(circuit: bytes, witness: bytes) -> bool:
-    """Whether a run that keeps the assumptions comes back to a state. Then the inputs in between can go on for ever. An x
-    may be anything, so it is 0 here. Where `aig` has no answer, nothing is known."""
+    """Whether a run that keeps the assumptions comes back to a state. Then the inputs in between can go on for ever. An
+    x may be anything, so it is 0 here. Where `aig` has no answer, nothing is known."""
     try:
         said = call("check", "--trace", files=[circuit, filled(witness)], good=(0, 1), most=MOST_TRACE)
     except (OutOfMemory, Crashed):
@@ -50,13 +45,8 @@ class Run:
     def __init__(self, told: Told, witness: bytes):
         said = call("check", "--trace", files=[told.circuit.file, witness], good=(0, 1), most=MOST_TRACE).decode()
         self._rows = [line.split(" ") for line in said.split("\n")[:-2]]
-        self._told, self._witness = told, witness
         self.frames = len(self._rows)
         self.names = told.names
-
-    def filled(self) -> Run:
-        """The run of the witness with 0 for each x."""
-        return Run(self._told, filled(self._witness))
 
     def __getitem__(self, signal: Signal) -> List[str]:
         column = "lio".index(signal.letter)
@@ -74,13 +64,15 @@ class Story(NamedTuple):
     left: int
 
 
-def story(told: Told, witness: bytes, text: str = "") -> Story:
-    """What to show of a witness, where `text` is that of the assertion."""
+def story(told: Told, witness: bytes, text: str = "", concrete: Optional[bytes] = None) -> Story:
+    """What to show of a witness, where `text` is that of the assertion. The concrete run has a value for each x;
+    without one that is 0."""
     run = Run(told, witness)
+    valued = Run(told, concrete or filled(witness)) if has_free(witness) else None
     said = call("why", "--json", "--witness", files=[told.circuit.file, witness], most=MOST_WHY)
     lines = explained.lines(said)
     signals, left = chosen(run.names, lines, text)
-    return Story(run, signals, lanes(run, lines, signals, text), lines, left)
+    return Story(run, signals, lanes(run, valued, lines, signals, text), lines, left)
 
 
 def mentioned(names: Names, text: str) -> List[Signal]:
@@ -103,16 +95,14 @@ def chosen(names: Names, lines: Sequence[Line], text: str, most: int = 24) -> Tu
     return order[:most], max(0, len(order) - most)
 
 
-def lanes(run: Run, lines: Sequence[Line], signals: Sequence[Signal], text: str) -> List[Lane]:
-    """The lanes of these signals. A frame is thick where some bit of the signal is a cause."""
+def lanes(run: Run, valued: Optional[Run], lines: Sequence[Line], signals: Sequence[Signal], text: str) -> List[Lane]:
+    """The lanes of these signals, with what the other run has for each x. A frame is thick where some bit of the signal
+    is a cause."""
     causes = causes_of(run.frames, lines)
     strong = {it.key for it in mentioned(run.names, text)}
-    values = [run[it] for it in signals]
-    has_free = any(len(it.positions) > 1 and "x" in "".join(found) for it, found in zip(signals, values))
-    filled = run.filled() if has_free else None
-    return [Lane(label, found, frozenset().union(*(causes.get(place, ()) for place in it.places)), it.key in strong,
-                 filled[it] if filled is not None and len(it.positions) > 1 else ())
-            for label, it, found in zip(labels(signals), signals, values)]
+    return [Lane(label, run[it], frozenset().union(*(causes.get(place, ()) for place in it.places)), it.key in strong,
+                 valued[it] if valued is not None else ())
+            for label, it in zip(labels(signals), signals)]
 
 
 def causes_of(frames: int, lines: Sequence[Line]) -> Dict[Place, Set[int]]:

@@ -1,6 +1,6 @@
-"""How a verdict is found: what an earlier version had, one frame, then what ABC knows at once, then runs and inductions of growing length, then ABC
-with its whole limit. A formula has only what the property and the constraints read. Each answer is a claim that `aig`
-confirmed about the circuit, and its proofs are those of the search."""
+"""How a verdict is found: what an earlier version had, one frame, then what ABC knows at once, then runs and inductions
+of growing length, then ABC with its whole limit. A formula has only what the property and the constraints read. Each
+answer is a claim that `aig` confirmed about the circuit, and its proofs are those of the search."""
 
 from __future__ import annotations
 
@@ -10,7 +10,8 @@ from typing import Dict, List, NamedTuple, Optional, Union
 
 from . import abc
 from .checked import ALIVE, Wrong
-from .decide import Found, Task
+from .concrete import filled, has_free
+from .decide import BMC, INDUCTION, PDR, Found, Task
 from .hints import claim_of
 from .questions import NO_TIME, Answer, Confirmed, Questions, why
 from .reuse import reused
@@ -59,7 +60,7 @@ class Search:
     """The search for one task. It writes into `found`."""
 
     def __init__(self, task: Task, circuit: bytes, folder: Path, stop: Stop, found: Found):
-        self.task, self.found = task, found
+        self.task, self.found, self.engines = task, found, {*task.programs.engines}
         self.ask = Questions(circuit, task.bounds, task.programs, folder, stop, found.notes)
         self.known = 0  # there is no run of so many frames
         self.base = b""  # the proof of that
@@ -91,7 +92,7 @@ class Search:
         first, *others = growing(self.task.bounds.frames)
         if self.by_frames([first]):
             return
-        known_to_abc = self.by_abc(SHORT)
+        known_to_abc = self.by_abc(SHORT if self.engines != {PDR} else None)
         if known_to_abc or self.by_frames(others) or known_to_abc is None and self.by_abc(None):
             return
         self.bound()
@@ -114,7 +115,7 @@ class Search:
 
     def by_frames(self, numbers: List[int]) -> bool:
         """Runs and inductions of these numbers of frames, until the solver has no answer."""
-        for frames in numbers:
+        for frames in numbers if self.engines & {BMC, INDUCTION} else ():
             if self.gave_up:
                 return False
             if frames > self.known:
@@ -124,6 +125,8 @@ class Search:
                 self.gave_up = said.proof is None
                 if self.gave_up:
                     return False
+            if INDUCTION not in self.engines:
+                continue
             said = self.ask.solve(f"induction of {frames}", "--step", *self.bounded(frames))
             if said.proof is not None:
                 return self.induction(frames, said.proof)
@@ -151,12 +154,14 @@ class Search:
             return False
         found = self.shortest(witness)
         reduced = self.ask.aig("reduce", files=[self.ask.circuit, found])
-        return self.confirmed(reduced, **self.no_run_of(_length(reduced) - 1))
+        concrete = {"concrete": filled(found)} if has_free(reduced) else {}
+        return self.confirmed(reduced, **concrete, **self.no_run_of(_length(reduced) - 1))
 
-    def confirmed(self, witness: bytes, **shorter: bytes) -> bool:
-        """Whether this is a run to the property, and none is shorter if there is a proof of that."""
+    def confirmed(self, witness: bytes, **more: bytes) -> bool:
+        """Whether this is a run to the property. With it come a value for each x, if some of it is x, and a proof that
+        none is shorter, if there is one."""
         try:
-            return self.confirm("run", _length(witness), witness=witness, **shorter)
+            return self.confirm("run", _length(witness), witness=witness, **more)
         except Wrong:
             return False
 
@@ -164,8 +169,8 @@ class Search:
         return self.ask.aig("witness", *self.bounded(frames), files=[self.ask.circuit], named={"--model": model})
 
     def shortest(self, witness: bytes) -> bytes:
-        """The shortest run that the solver finds. Most often it is the one that is known, so one frame less comes first;
-        then halves."""
+        """The shortest run that the solver finds. Most often it is the one that is known, so one frame less comes
+        first; then halves."""
         tried = _length(witness) - 1
         while self.known < _length(witness) - 1:
             said = self.reach(tried)
@@ -212,7 +217,7 @@ class Search:
     def by_abc(self, seconds: Optional[float]) -> Optional[bool]:
         """Whether ABC's answer leads to a verdict; None if it needs more time for one. Without seconds it has all."""
         program = self.task.programs.abc
-        if program is None:
+        if program is None or PDR not in self.engines:
             return False
         said = self.pdr(program, seconds)
         if isinstance(said, Proved):

@@ -16,8 +16,8 @@ from .runs import Story, Told, story
 from .sentences import Remark, counted, fact, how, mark
 from .svg import MOST_COLUMNS, Scene, escape, marked, parts, sheets, shortened
 
-# Pictures have so many bytes of a page, and none is made of a run with more letters. The lines of `why` below those that
-# are seen at once are so many, and have so many causes.
+# Pictures have so many bytes of a page, and none is made of a run with more letters. The lines of `why` below those
+# that are seen at once are so many, and have so many causes.
 MOST_PICTURES, MOST_LETTERS = 1_500_000, 50_000_000
 # Of a long run a paper has all frames if these and its lanes make so many values.
 MOST_PRINTED = 4000
@@ -108,7 +108,8 @@ class Drawn(NamedTuple):
     room: int
 
 
-# Pictures by what they are of, for the next page of the same circuit: while a search goes on, its page is written often.
+# Pictures by what they are of, for the next page of the same circuit: while a search goes on, its page is written
+# often.
 Pictures = Dict[Hashable, Drawn]
 
 
@@ -153,7 +154,8 @@ class Sections:
         file = escape(row.files["witness"])
         letters = row.frames * len(self._told.circuit.entries)
         if self._room > 0 and letters <= MOST_LETTERS:
-            key = (row.label, row.name, row.kind, self._sources.text(row), self._read(row.files["witness"]))
+            key = (row.label, row.name, row.kind, self._sources.text(row), self._read(row.files["witness"]),
+                   self._concrete(row))
             drawn = self._pictures.get(key) or self._drawn(it, file, letters)
             if drawn is not None:
                 self._pictures[key] = drawn
@@ -181,10 +183,14 @@ class Sections:
 
     def _story(self, row: Row) -> Optional[Story]:
         try:
-            return story(self._told, self._read(row.files["witness"]), self._sources.text(row))
+            return story(self._told, self._read(row.files["witness"]), self._sources.text(row), self._concrete(row))
         except (aig.OutOfMemory, aig.Crashed):
             self._room -= MOST_PICTURES // 4  # it took a while
             return None
+
+    def _concrete(self, row: Row) -> Optional[bytes]:
+        """The solver's values of a run, if the folder has them."""
+        return self._read(row.files["concrete"]) if "concrete" in row.files else None
 
     # -- a proof
 
@@ -241,10 +247,11 @@ def _lines(lines: Sequence[str]) -> str:
 
 def _openers(row: Row) -> str:
     """The commands that show a run: as a dump for a waveform viewer, and at a prompt."""
-    file = row.files["witness"]
-    words, dump = f"--witness circuit.aig {file}", f"{row.position}.vcd"
-    zeros = f"$ tr x 0 < {file} | aig wave --witness circuit.aig /dev/stdin > {dump}  # with 0 for each x"
-    lines = (f"$ aig shell {words}", f"$ aig wave {words} > {dump}", zeros)
+    file, dump = row.files["witness"], f"{row.position}.vcd"
+    lines = [f"$ aig shell --witness circuit.aig {file}", f"$ aig wave --witness circuit.aig {file} > {dump}"]
+    if "concrete" in row.files:
+        valued = row.files["concrete"]
+        lines.append(f"$ aig wave --witness circuit.aig {valued} > {dump}  # with the solver's values for x")
     return f"<pre>{chr(10).join(map(escape, lines))}</pre>"
 
 

@@ -7,16 +7,17 @@ import json
 import os
 import sys
 import tempfile
-from concurrent.futures import FIRST_COMPLETED, Executor, Future, ThreadPoolExecutor, wait
+from concurrent.futures import Future, ThreadPoolExecutor, wait
 from contextlib import nullcontext
 from dataclasses import asdict, replace
 from pathlib import Path
-from typing import Any, Callable, Collection, Dict, List, NamedTuple, Optional, Sequence, Tuple, Union
+from queue import SimpleQueue
+from typing import Any, Callable, Collection, Dict, List, Optional, Sequence, Tuple, Union
 
-from .._program import program
+from .._program import OftenRead, program
 from .bundle import MOST_BYTES, Bundle
 from .checked import ALIVE, CIRCUIT, CONSTRAINTS, WAYS, Checked, Claim, Rejected, Wrong, sum_of
-from .decide import Bounds, Found, Hint, Narrow, Programs, Sent, Task
+from .decide import ENGINES, Bounds, Found, Hint, Narrow, Programs, Task
 from .design import Design
 from .folder import TIMES, Folder
 from .hints import by_name
@@ -29,12 +30,10 @@ from .simulated import Simulated
 from .row import ENDINGS, Row
 from .search import LAST_SECONDS, NUMBER
 from .tools import GRACE, Clock, Stop, Stopped, soon, version
-from .workers import Workers, check_all
+from .workers import NO_WORKER, Work, Workers, check_all, result_of, taken
 
 # The manifest is written while rows come in, as long as that takes less than this part of the time.
 WRITING = 0.05
-# How long a wait for a worker takes until the user's wish to stop is looked at.
-LOOK = 0.5
 # The note on a row whose search the user ended.
 STOPPED = "stopped"
 # The proofs of so many rows are read at once, where what they need is searched.
@@ -42,47 +41,27 @@ MOST_PROOFS = 64
 # No search takes longer than this.
 MOST_SECONDS = 10.0**9
 
-# How many rows are done, of how many, and the row that is new.
-Progress = Callable[[int, int, Optional[Row]], None]
-
-
-def _silent(_: int, __: int, ___: Optional[Row]) -> None:
-    """Shows nothing."""
-
-
-class Work(NamedTuple):
-    """Who works, and who sees it.
-
-    executor  any of `concurrent.futures`; without one threads of this process
-    workers   how many of these; 0 for one per processor
-    progress  what is called where a row is done
-    share     puts a circuit where all workers are
-    """
-
-    executor: Optional[Executor] = None
-    workers: int = 0
-    progress: Progress = _silent
-    share: Optional[Callable[[Sent], Any]] = None
-
 
 class Session:
     """The verdicts of a design, in a folder that is always a bundle."""
 
     def __init__(self, design: Design, path: Path, bounds: Bounds = Bounds(), programs: Programs = Programs(),
                  only: Optional[Collection[int]] = None, stop: Optional[Stop] = None):
-        self.design, self.bounds, self.programs, self.only = design, bounds, programs, only
+        self.design = replace(design, circuit=OftenRead.of(design.circuit))
+        self.bounds, self.programs, self.only = bounds, programs, only
         self.stop = stop or Stop()
         self.rows = [Row(CONSTRAINTS, "constraints", "")]
         self.rows += [Row(it.position, it.kind, it.name, it.file, it.first, it.last, it.of,
                           only is not None and it.position not in only) for it in design.assertions]
         self.seconds: Dict[int, float] = {}
         self.hints: Dict[int, Hint] = {}  # what is known of an earlier version, by position
+        self.depths: Dict[int, int] = {}  # the frames of some rows, which have bounds of their own
         self.rejected: List[str] = []
         self.older = 0  # earlier rows whose proofs are about formulas of an older `aig`
         self.versions = self._versions()
         self.folder = Folder(path, max(MOST_BYTES, bounds.proof_megabytes << 20 or sys.maxsize))
         self.simulated = Simulated()
-        self._sum = sum_of(design.circuit)
+        self._sum = sum_of(self.design.circuit)
         self._goes_further = True  # than an earlier run
         self._is_after_older = False  # an earlier run with formulas of an older `aig`
         self._was_stopped = False  # some search
@@ -107,7 +86,8 @@ class Session:
         if self.design.script:
             named["yosys"] = "yosys"
         versions = {key: version(name, self.stop) for key, name in named.items()}
-        return {**versions, "search": f"aig-verdicts: search {NUMBER}", "formulas": FORMULAS}
+        alone = f", {' and '.join(self.programs.engines)} alone" if self.programs.engines != ENGINES else ""
+        return {**versions, "search": f"aig-verdicts: search {NUMBER}{alone}", "formulas": FORMULAS}
 
     # -- the folder
 
@@ -187,9 +167,9 @@ class Session:
         self.stop.look()
 
     def _again(self, earlier: Tuple[Row, Claim, List[str]]) -> Union[Checked, str]:
-        """The check of what an earlier run claims, or what is wrong with it: an empty text, if a proof is about a formula
-        of an older `aig`. The files of a claim that is right get their sums, and its proofs get hints where they are asked
-        for."""
+        """The check of what an earlier run claims, or what is wrong with it: an empty text, if a proof is about a
+        formula of an older `aig`. The files of a claim that is right get their sums, and its proofs get hints where
+        they are asked for."""
         _, claim, notes = earlier
         try:
             files = {role: self.folder.read(claim.files[role]) for role in ENDINGS if role in claim.files}
@@ -221,7 +201,8 @@ class Session:
         translated = {"translated": list(self.design.translated)} if self.design.translated else {}
         return {
             **translated,
-            "format": format_of(self.rows), "name": self.design.name, "notes": self.design.notes, "bounds": asdict(self.bounds),
+            "format": format_of(self.rows), "name": self.design.name, "notes": self.design.notes,
+            "bounds": asdict(self.bounds),
             "options": self.design.options, "sources": list(self.design.sources), "rows": rows_as_json(self.rows),
             "versions": self.versions, "sums": self.folder.sums,
             "timing": self.design.timing.facts() if self.design.timing else {}, "simulated": self.simulated.facts(),
@@ -301,25 +282,35 @@ class Session:
         if row.decided:
             return True
         if row.position == CONSTRAINTS:
-            return row.by == "kept" and row.frames >= self.bounds.frames
+            return row.by == "kept" and row.frames >= self._frames(row)
         if self.only is not None and row.position not in self.only:
             return True
-        if row.by != "bound" or row.frames < self.bounds.frames or self._goes_further:
+        if row.by != "bound" or row.frames < self._frames(row) or self._goes_further:
             return False
         return all(note.endswith((NO_TIME, NO_ANSWER)) for note in row.notes)
 
-    def search(self, executor: Optional[Executor] = None, count: int = 0, progress: Progress = _silent,
-               share: Optional[Callable[[Sent], Any]] = None) -> bool:
+    def search(self, work: Work = Work()) -> bool:
         """Finds what is not known yet. It is false if the user stopped it; what was found until then is kept."""
-        tasks = [(row, Task(None, row.position, self.bounds, self.programs, self.hints.get(row.position)))
-                 for row in self.waiting()]
-        return self._work(tasks, self.take, Work(executor, count, progress, share))
+        return self._work([(row, self._task(row)) for row in self.waiting()], self.take, work)
+
+    def _frames(self, row: Row) -> int:
+        """How far the search for a row goes. Assumptions have to be kept as long as the longest search goes."""
+        if row.position == CONSTRAINTS:
+            return max([self.bounds.frames, *self.depths.values()])
+        return self.depths.get(row.position, self.bounds.frames)
+
+    def _task(self, row: Row) -> Task:
+        hint = self.hints.get(row.position)
+        if hint is not None and row.position in self.depths:
+            hint = replace(hint, is_enough=False)  # an old bound is none of this depth
+        return Task(None, row.position, replace(self.bounds, frames=self._frames(row)), self.programs, hint)
 
     def narrow(self, how: Narrow, work: Work) -> bool:
         """Finds what the proofs of each row without a run need. Whether all of that was done."""
         rows = [row for row in self.rows if self._is_narrowed(row, how.is_minimal or how.is_needed)]
         for at in range(0, len(rows), MOST_PROOFS):
-            tasks = [(row, Task(None, row.position, self.bounds, self.programs, None, replace(how, known=self._known(row))))
+            tasks = [(row, Task(None, row.position, self.bounds, self.programs, None,
+                                replace(how, known=self._known(row))))
                      for row in rows[at : at + MOST_PROOFS]]
             if not self._work(tasks, self.take_core, work):
                 return False
@@ -338,12 +329,11 @@ class Session:
         path = self.folder.path / CIRCUIT
         left: Dict[Future[Found], Row] = {}
         try:
-            with Workers(self.design.circuit, path, self.stop, work.executor, work.workers, work.share) as workers:
+            with Workers(self.design.circuit, path, self.stop, work) as workers:
                 try:
                     for row, task in tasks:
                         left[workers.submit(task)] = row
-                    seconds = LAST_SECONDS + GRACE if work.executor is None else 0.0
-                    return self._collect(left, take, work.progress, seconds)
+                    return self._collect(left, take, work, workers)
                 finally:
                     if left:
                         self.stop()
@@ -352,19 +342,28 @@ class Session:
         finally:
             self.write(True)
 
-    def _collect(self, left: Dict[Future[Found], Row], take: Callable[[Found], None], progress: Progress,
-                 last_seconds: float) -> bool:
-        """Takes what the workers find, until all is found or the user stops it: then workers that know of the stop get
-        some seconds to say what they know. Whether all was searched."""
-        count, stopped = len(left), False
+    def _collect(self, left: Dict[Future[Found], Row], take: Callable[[Found], None], work: Work, workers: Workers
+                 ) -> bool:
+        """Takes what the workers find, until all is found, all workers are gone or the user stops it: then workers that
+        know of the stop get some seconds to say what they know. Whether all was searched."""
+        count, stopped, progress = len(left), False, work.progress
+        last_seconds = LAST_SECONDS + GRACE if work.executor is None else 0.0
+        ended: SimpleQueue[Future[Found]] = SimpleQueue()
+        for future in left:
+            future.add_done_callback(ended.put)
         progress(0, count, None)
         while left and not stopped:
             stopped = self.stop.stopped
             if stopped:
-                ready = wait([future for future in left if not future.cancel()], timeout=last_seconds).done
+                ready = [*wait([future for future in left if not future.cancel()], timeout=last_seconds).done]
             else:
-                ready = wait(left, timeout=LOOK, return_when=FIRST_COMPLETED).done
-            found = [_result(future, left[future]) for future in ready]
+                ready = taken(ended)
+                for future, more in [(it, workers.again(it)) for it in ready]:
+                    if more is not None:
+                        ready.remove(future)
+                        left[more] = left.pop(future)
+                        more.add_done_callback(ended.put)
+            found = [result_of(future, left[future]) for future in ready]
             with soon(LAST_SECONDS) if self.stop.stopped else nullcontext(self.stop) as stop:
                 check_all([*found, *(run for it in found for run in it.needed)], self.design.circuit, stop)
             for future, it in zip(ready, found):
@@ -373,14 +372,10 @@ class Session:
                 progress(count - len(left), count, row)
             if not ready:
                 progress(count - len(left), count, None)
+                if not stopped and work.are_lost():
+                    for future in [*left]:
+                        future.cancel()
+                        take(Found(left.pop(future).position, notes=[NO_WORKER]))
         for row in left.values():
             row.notes = [*row.notes, STOPPED]
         return not left and not self._was_stopped
-
-
-def _result(future: Future[Found], row: Row) -> Found:
-    """What a worker found. If it died, its property is undecided, and the others go on."""
-    try:
-        return future.result()
-    except Exception as error:
-        return Found(row.position, notes=[f"worker: {type(error).__name__}: {str(error)[:200]}"])

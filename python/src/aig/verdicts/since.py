@@ -65,7 +65,7 @@ class Since:
         files: Dict[str, bytes] = {}
         for role, name in claim.named:
             data = self._bundle.summed(name)
-            made = (renamed.witness(data, position) if role == "witness" else
+            made = (renamed.witness(data, position) if role in ("witness", "concrete") else
                     renamed.certificate(data) if role == "certificate" else data)
             expect(made is not None, f"{name} says nothing of the new circuit")
             files[role] = made or b""
@@ -92,7 +92,8 @@ def opened(path: Optional[Path], folder: Path) -> Optional[Bundle]:
         return None
     if not path.exists():
         raise FileNotFoundError(f"there is no bundle {path}")
-    expect(path.resolve() != folder.resolve(), f"--since {path}: this run writes that folder: name another one with --out")
+    expect(path.resolve() != folder.resolve(),
+           f"--since {path}: this run writes that folder: name another one with --out")
     return Bundle(path)
 
 

@@ -15,8 +15,8 @@ from typing import FrozenSet, Iterator, List, NamedTuple, Optional, Sequence, Tu
 CELL, LANE, GAP, LETTER, TOP, BOTTOM = 30, 22, 8, 7.3, 26, 20
 # The columns of a picture on a screen, how many of them are the first frames of a longer run, and the width of a paper.
 MOST_COLUMNS, FIRST_COLUMNS, PAPER = 40, 8, 660
-# How many bits of a value its title shows.
-MOST_BITS = 1024
+# How many bits of a value its title shows, and how many letters of a name.
+MOST_BITS, MOST_NAME = 1024, 200
 STYLE = """\
 .w{font:12px ui-monospace,"DejaVu Sans Mono",Menlo,Consolas,monospace;color:var(--ink);--paper:#fff;--ink:#1b1f24;
 --pale:#6e7781;--grid:#e4e7eb;--band:#fde8e6;--edge:#b42318;--fill:#f4f6f8;--key:#0b57d0}
@@ -41,7 +41,7 @@ class Lane:
 
     keys    frames whose value is a cause
     strong  whether the name stands out
-    filled  the values of a run in which each x of this one is 0, or nothing
+    filled  the values of a run that has one for each x of this one, or nothing
     """
 
     name: str
@@ -207,7 +207,7 @@ class _Picture:
 
     def _elements(self) -> Iterator[str]:
         yield _opened(self.width, self.height, 'role="img"')
-        yield f"<title>{escape(self.scene.title)}</title>"
+        yield f"<title>{escape(shortened(self.scene.title, MOST_NAME))}</title>"
         if self.kind is Kind.ALONE:
             yield f'<style>{STYLE}</style><rect class="p" width="{self.width}" height="{self.height}"/>'
         yield (f'<defs><pattern id="{self.ident}" width="6" height="6" patternUnits="userSpaceOnUse" '
@@ -232,7 +232,8 @@ class _Picture:
             strong = ' class="s"' if lane.strong else ""
             y = TOP + number * (LANE + GAP) + LANE - 6
             short = _quoted(shortened(visible(lane.name)))
-            yield f'<text{strong} {end} y="{y}"><title>{escape(lane.name)}</title>{short}</text>'
+            known = escape(shortened(lane.name, MOST_NAME))
+            yield f'<text{strong} {end} y="{y}"><title>{known}</title>{short}</text>'
 
     def _frame(self, kind: str) -> str:
         """The box around the failing frame."""
@@ -256,7 +257,8 @@ class _Picture:
 
     def _lane(self, lane: Lane, y: int) -> Iterator[str]:
         before: Optional[Tuple[int, str]] = None
-        for begin, end, value, filled, key in _spans(lane, self.shown):
+        edges = () if self.failing is None else (self.failing, self.failing + 1)
+        for begin, end, value, filled, key in _spans(lane, self.shown, edges):
             if set(value) == {"x"}:
                 yield self._unknown(self.x(begin), self.x(end), y, len(value), key)
             elif len(value) == 1:
@@ -264,7 +266,7 @@ class _Picture:
                 yield _level(self.x(begin), self.x(end), y, value, turns, key)
             else:
                 yield _vector(self.x(begin), self.x(end), y, value, key)
-            if len(value) > 1:
+            if len(value) > 1 or filled:
                 yield _number_of(self.x(begin), self.x(end), y, digits(value, filled), key)
             before = end, value
 
@@ -273,16 +275,17 @@ class _Picture:
                 f'height="{LANE - 4}" fill="url(#{self.ident})"><title>{_start("x" * bits)}: any value</title></rect>')
 
 
-def _spans(lane: Lane, shown: Sequence[Optional[int]]) -> List[Tuple[int, int, str, str, bool]]:
+def _spans(lane: Lane, shown: Sequence[Optional[int]], edges: Sequence[int]) -> List[Tuple[int, int, str, str, bool]]:
     """Columns from and to with the same value and the same filled one, and whether it is a cause. Frames that are left
-    out begin a new one."""
+    out begin a new one, and so do edges in what is all x: they would cross its pale digits."""
     spans: List[Tuple[int, int, str, str, bool]] = []
     goes_on = False
     for column, frame in enumerate(shown):
         if frame is not None:
             value, key = lane.values[frame], frame in lane.keys
-            filled = lane.filled[frame] if lane.filled and len(value) > 1 else ""
-            if goes_on and spans[-1][2:] == (value, filled, key):
+            filled = lane.filled[frame] if lane.filled and "x" in value else ""
+            is_cut = filled != "" and set(value) == {"x"} and column in edges
+            if goes_on and not is_cut and spans[-1][2:] == (value, filled, key):
                 spans[-1] = (spans[-1][0], column + 1, value, filled, key)
             else:
                 spans.append((column, column + 1, value, filled, key))

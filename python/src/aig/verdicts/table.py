@@ -39,7 +39,12 @@ def cells(it: Judged) -> List[str]:
     shown = "; ".join(part for part in (it.by or it.why, it.doubt, denial) if part)
     shown = ", ".join(part for part in (shown, origin) if part)
     needs = f"needs {of_needs(it.needs)}" if it.needs is not None else ""
-    return [row.label, place, row.kind, row.name, it.words, shown, needs, " ".join(row.files.values())]
+    return [row.label, place, row.kind, row.name, it.words, shown, needs, " ".join(_showing(row))]
+
+
+def _showing(row: Row) -> List[str]:
+    """The files that show a verdict. The values that a run does not need show nothing more."""
+    return [name for role, name in row.files.items() if role != "concrete"]
 
 
 def text(table: Sequence[Judged]) -> str:
@@ -105,7 +110,7 @@ def suite(name: str, cases: Sequence[Tuple[str, str]], seconds: Dict[int, float]
 def _case(name: str, it: Judged, seconds: float) -> Tuple[str, str]:
     row = it.row
     needs = f"needs {of_needs(it.needs)}" if it.needs is not None else ""
-    parts = [it.by, needs, it.why, it.doubt, it.denied, it.simulated, *row.notes, *row.files.values()]
+    parts = [it.by, needs, it.why, it.doubt, it.denied, it.simulated, *row.notes, *_showing(row)]
     return element(name, Case(row, it.junit, it.words, "\n".join(part for part in parts if part), seconds))
 
 
