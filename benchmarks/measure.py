@@ -19,6 +19,7 @@ Tables:
   grids      both grids of cells side by side
   plot       how the cost of an edit grows with the circuit, beside simulating anew after each edit by `aig sim`, ABC
              and Icarus Verilog, where these are there; --svg FILE draws it
+  scale      what one job of each kind takes from 10,000 to 4,000,000 gates; --svg FILE draws it
 and, which is no table,
   compare    both programs on broken files (--count N, --seed S) and on --circuits FILE..: the same bytes, messages and
              statuses
@@ -39,13 +40,13 @@ import tempfile
 
 sys.path.insert(0, os.path.dirname(os.path.dirname(os.path.abspath(__file__))) + "/tests")
 from library import supervised  # noqa: E402
-from tables import alone, comparing, edits, growing, jobs, proofs  # noqa: E402
+from tables import alone, comparing, edits, growing, jobs, proofs, scale  # noqa: E402
 from tables.programs import Programs  # noqa: E402
 
 TABLES = {made.__name__: made for made in (
     edits.goals, edits.counts, jobs.ratios, edits.edits, jobs.benches, proofs.refute, proofs.hints, proofs.certified,
     growing.sizes, growing.memory, growing.limits, alone.growth, alone.rewires, alone.grids, edits.plot,
-    comparing.compare)}
+    scale.scale, comparing.compare)}
 OPTIONS = (
     ("tables", {"nargs": "+", "choices": list(TABLES), "metavar": "TABLE"}, None),
     ("--aig", {}, "the program that is measured"),
@@ -53,7 +54,7 @@ OPTIONS = (
     ("--times", {"type": int, "default": 5}, None),
     ("--jobs", {"default": ""}, "of ratios, edits and hints, the jobs whose names hold this"),
     ("--shapes", {"default": ""}, "of ratios and edits, the shapes whose names hold this"),
-    ("--svg", {"type": os.path.abspath}, "of plot, the picture that it draws"),
+    ("--svg", {"type": os.path.abspath}, "of plot and scale, the picture that they draw"),
     ("--list", {"action": "store_true"}, "names the jobs of ratios alone"),
     ("--count", {"type": int, "default": 300}, "of compare, how many cases"),
     ("--seed", {"type": int, "default": 1}, "of compare"),

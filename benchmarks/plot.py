@@ -57,9 +57,11 @@ def apart(places, least, lowest):
     return found
 
 
-def drawn(series, across, up, words=COUNTS):
+def drawn(series, across, up, words=COUNTS, paired=False):
     """The picture of these series: names with lists of points, each a count and a time in seconds. `words` are those at
-    the powers of ten of the counts."""
+    the powers of ten of the counts. The second half of the series has dashes, and where these are `paired` the colours
+    of the first half."""
+    half = (len(series) + 1) // 2
     points = [point for each in series.values() for point in each]
     counts = Axis([count for count, _ in points], LEFT, WIDTH - RIGHT)
     times = Axis([time for _, time in points], HEIGHT - BOTTOM, TOP)
@@ -74,8 +76,8 @@ def drawn(series, across, up, words=COUNTS):
     parts += [text((LEFT + WIDTH - RIGHT) / 2, HEIGHT - 10, across, "middle"), text(LEFT, TOP - 6, up)]
     labels = apart({name: times.place(each[-1][1]) for name, each in series.items()}, 15, HEIGHT - BOTTOM - 4)
     for at, (name, each) in enumerate(series.items()):
-        colour = COLOURS[at % len(COLOURS)]
-        dashes = ' stroke-dasharray="5 4"' if at >= (len(series) + 1) // 2 else ""
+        colour = COLOURS[at % (half if paired else len(COLOURS))]
+        dashes = ' stroke-dasharray="5 4"' if at >= half else ""
         places = [(counts.place(count), times.place(time)) for count, time in each]
         parts += curve(places, colour, dashes)
         parts.append(text(WIDTH - RIGHT + 10, labels[name] + 4, name, colour=colour))

@@ -5,7 +5,7 @@ the scripts that tests/wrong_bodies.txt names beside it, and is seen if a check 
 stopped, or that ended otherwise, has seen nothing. Without AIG_WRONG the same parts have to pass.
 
 An edit has lines of prose, then `file:` with the path of a source, and pairs of `old:` and `new:` as planted bugs have
-them (docs/TESTING.md): a piece of one line, in the body of a function, that is in the file exactly once.
+them (tools/planted.py): a piece of one line, in the body of a function, that is in the file exactly once.
 
 The script is no part of the gate. It builds in two minutes, or takes the program that an earlier run left by --keep."""
 

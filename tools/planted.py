@@ -30,6 +30,21 @@ commit chooses that crate. It chooses as many crates as have a tenth of all bugs
 one bug of each crate all libraries would be read. With --all every bug is tried. With --record, too, and a crate whose
 bugs are all refused gets its sum in that file. With --sums the sums of this run go into another file.
 
+A bug is a file NAME.edit. It begins with a sentence: what is wrong with the body. Then come `clause:`, `file:`, and
+pairs of `old:` and `new:`. The clause is one of the function's contract or of its trait's, by its name. It is `ensures`
+for one without a name, and `invariant` for that of a type or a loop. `old:` is a piece of one line that is in the file
+exactly once; a pair sees what those before it made. Before `clause:` there may be `guards:` with the exported call that
+the function serves, and `mistake:`, `relation:` or `law:` with what the bug stands for. To write one:
+
+- Read the goal before you name its clause: the prover also leaves true goals open, above all in a new branch.
+- Turn a value and keep the names. A call whose result is no longer wanted stays as `let _ = call();`.
+- Prefer the wrong answer: a case left out, a write dropped, the neighbour in place of the entry, an error at once. A
+  body that returns out of memory is proved: contracts allow it, and tests refute it.
+- Change code only. A law has no code: its bugs change a function whose contract has the same definitions.
+- A relation may be too weak although each body is right. A helper shows this that nothing calls: its contract is the
+  relation, and it does the wrong thing. It needs no answer in proofs/.
+- Where no caller cites a clause, change the exported function, else the function that is cheaper to prove.
+
 With --list it tries nothing. It prints each bug with its clause and its sentence, the functions that it changes, and
 what it stands for beside them: an exported call that these functions serve (`guards`), a kind of mistake, a relation
 or a law."""

@@ -22,10 +22,9 @@ PLACES = {
     "python/make_wheel.py": (rf'VERSION = "{NUMBER}"',),
     "python/src/aig/__init__.py": (rf'__version__ = "{NUMBER}"',),
     "tests/program/words.py": (rf'b"aig {NUMBER} \(',),
-    "README.md": (rf"aig-{NUMBER}-(?:py3|x86)",),
+    "README.md": (rf"aig-{NUMBER}-(?:py3|x86)", rf"aig_{NUMBER}_amd64"),
     "python/README.md": (rf"aig-{NUMBER}-py3",),
     "docs/CALLING.md": (rf"aig-{NUMBER}-py3",),
-    "docs/FLOW.md": (rf"aig-{NUMBER}-py3", rf"aig_{NUMBER}_amd64"),
 }
 DATED = {"tests/library/manual.py": r'DATE = "([\d-]+)"'}
 CHANGES = "CHANGELOG.md"

@@ -34,7 +34,7 @@ def helps(program, tally, _):
     tally.compare("help: exit statuses", listed(overview, "Exit status:"), table(behaviour, "| status | means |"))
     tally.compare("help: verdicts", listed(verdicts, "count from 0:"), table(behaviour, "| line | means |"))
     tally.compare("help: verdicts with --alive", listed(verdicts, "The verdict is the first of these:"),
-                  table(behaviour, "| line | means with `--alive` |"))
+                  [it for row in table(behaviour, "| line | means with `--alive` |") for it in row.split("`, `")])
     lines = listed(bench, "values are 0, 1 or x:")
     tally.compare("help: lines of a script", lines, table(behaviour, "| line | does | reply |"))
     tally.compare("help: numbers of refusals", listed(bench, "number:"), table(behaviour, "| N | means |"))

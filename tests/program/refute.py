@@ -291,7 +291,7 @@ def groups(rows):
 
 
 def frat(rows):
-    """The script of FORMATS.md makes DRAT of FRAT, which has an unfinished proof here and its end."""
+    """The script of examples/README.md makes DRAT of FRAT, which has an unfinished proof here and its end."""
     wanted = [(False, [2, 3]), (True, [3, 2]), (False, [2]), (False, [])]
     for name, hints in (("without hints", ""), ("with hints", " l 3 1 0")):
         write("design.frat", f"o 1 -1 0\no 2 10 0\na 21 2 3 0{hints}\nd 21 3 2 0\na 22 2 0{hints}\na 23 0{hints}\n"

@@ -1,5 +1,5 @@
-"""Rows that ABC's `sat` finds for unrolled designs of Yosys, each made a witness by the recipe of docs/FORMATS.md: each
-is confirmed."""
+"""Rows that ABC's `sat` finds for unrolled designs of Yosys, each made a witness by the recipe of examples/README.md:
+each is confirmed."""
 
 import os
 import re

@@ -1,6 +1,6 @@
 """Proofs that runs of a queue and a fifo reach no bad state, which cadical does not write by itself: those after
 bounded variable addition (library/families.py), and those of cryptominisat, in FRAT, made DRAT by the script of
-FORMATS.md. The same proofs are refused of a property that a run reaches."""
+examples/README.md. The same proofs are refused of a property that a run reaches."""
 
 import os
 import shutil
@@ -56,7 +56,7 @@ def after_addition(tally, name, formula, style):
 
 
 def of_cryptominisat(program, held):
-    """Whether the script of FORMATS.md makes `design.drat` and checks it; what it says."""
+    """Whether the script of examples/README.md makes `design.drat` and checks it; what it says."""
     if os.path.exists("design.drat"):
         os.remove("design.drat")
     said = shell(program, proving().replace("refute ", f"refute --property {held} "))
