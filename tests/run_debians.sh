@@ -1,21 +1,23 @@
 #!/bin/sh
-# Runs what needs Yosys with the Yosys, ABC, cadical, Icarus Verilog and Python of other versions of Debian. In each version:
-# the tour of README.md, designs with known truth, bundles, run_tools.py with the commands of docs/FLOW.md, COUNT random
-# programs (500), and whether this Yosys makes the circuit of the shipped bundle, or one that does the same
-# (debians/suite.sh). Each version also makes bundles, and checks those of the others. Then the package and the wheel are
-# installed as README says, each where nothing else is, and README and FLOW are typed there (debians/installed.sh).
+# Runs what needs Yosys with the Yosys, ABC, cadical, Icarus Verilog and Python of other versions of Debian. In each
+# version: the tour of README.md, what newer versions of Yosys lose, designs with known truth, bundles, run_tools.py
+# with the commands of docs/FLOW.md, COUNT random programs (500), and whether this Yosys makes the circuit of the
+# shipped bundle, or one that does the same (debians/suite.sh). Each version also makes bundles, and checks those of
+# the others. Then the package and the wheel are installed as README says, each where nothing else is, and README and
+# FLOW are typed there (debians/installed.sh).
 #
 # It makes folders of each version below FOLDER (4 GB), and the next call uses them again. It is no part of the gate.
-# It needs root, debootstrap, unshare, dpkg-deb and a mirror of Debian (MIRROR, else that of debootstrap). STEPS names
-# some of the steps alone, as "designs package"; made only makes the folders, and peers runs benchmarks/peers.py with
-# the options PEERS. Debian 12 has no drat-trim for it.
+# It needs root, debootstrap, unshare, dpkg-deb and a mirror of Debian (MIRROR, else that of debootstrap). JOBS=2 runs
+# two versions beside each other. STEPS names some of the steps alone, as "designs package"; made only makes the
+# folders, and peers runs benchmarks/peers.py with the options PEERS. Debian 12 has no drat-trim for it.
 #
 # usage: run_debians.sh PROGRAM FOLDER SUITE ..     as: run_debians.sh build/aig /var/tmp/debians bookworm trixie sid
 set -eu
 repository=$(cd "$(dirname "$0")/.." && pwd)
 program=$(realpath "$1") folder=$(realpath -m "$2")
 shift 2
-all="tour designs bundles replay tools recheck random"
+suites=$*
+all="tour probes designs bundles replay tools recheck random"
 steps=${STEPS:-$all exchanged package wheel pipx}
 mirror=${MIRROR:-}
 tools="yosys cadical cryptominisat picosat minisat z3 python3 python3-click python3-distributed iverilog g++ gtkwave
@@ -58,36 +60,56 @@ is_step() {
     case " $steps " in *" $1 "*) return 0 ;; *) return 1 ;; esac
 }
 
-for suite; do
-    parts=$(for step in $all; do ! is_step $step || echo $step; done)
-    [ -n "$parts" ] || is_step made || is_step exchanged || is_step peers || continue
-    made "$suite"
-    said=$(chroot "$folder/$suite" sh -c 'yosys -V; iverilog -V; python3 -V; echo cadical $(cadical --version)' 2> /dev/null)
-    echo "== $suite: $(echo "$said" | grep -E '^(Yosys|Icarus Verilog version|Python|cadical)' | tr '\n' ' ')"
-    [ -z "$parts" ] || within "$folder/$suite" suite.sh "${COUNT:-500}" $parts
-    ! is_step exchanged || within "$folder/$suite" exchanged.sh make "$suite"
-    ! is_step peers || within "$folder/$suite" peers.sh ${PEERS:-}
-done
-if is_step exchanged; then
-    for suite; do
-        echo "== $suite: bundles of the other versions"
-        within "$folder/$suite" exchanged.sh check "$suite"
+# tried SUITE: the steps that need the tools. Bundles of other versions are checked when all have made theirs.
+tried() {
+    made "$1"
+    said=$(chroot "$folder/$1" sh -c 'yosys -V; iverilog -V; python3 -V; echo cadical $(cadical --version)' 2>&1)
+    echo "== $(echo "$said" | grep -E '^(Yosys|Icarus Verilog version|Python|cadical)' | tr '\n' ' ')"
+    [ -z "$parts" ] || within "$folder/$1" suite.sh "${COUNT:-500}" $parts
+    ! is_step exchanged || within "$folder/$1" exchanged.sh make "$1"
+    ! is_step peers || within "$folder/$1" peers.sh ${PEERS:-}
+}
+
+checked() {
+    echo "== bundles of the other versions"
+    within "$folder/$1" exchanged.sh check "$1"
+}
+
+installed() {
+    for way in package wheel pipx; do
+        is_step $way || continue
+        echo "== the $way, where nothing else is installed"
+        plain "$1"
+        rm -rf "$folder/$1.$way"
+        cp -a "$folder/$1.plain" "$folder/$1.$way"
+        within "$folder/$1.$way" installed.sh $way
     done
+}
+
+# each FUNCTION: calls it for each version, JOBS of them at once, and puts the version before each line that it prints
+each() {
+    started=0
+    for suite in $suites; do
+        rm -f "$folder/$suite.passed"
+        ( $1 "$suite"; [ $failed = 0 ]; touch "$folder/$suite.passed" ) 2>&1 | sed -u "s/^/$suite: /" &
+        started=$((started + 1))
+        [ $((started % ${JOBS:-1})) != 0 ] || wait
+    done
+    wait
+    for suite in $suites; do
+        [ -e "$folder/$suite.passed" ] || failed=1
+    done
+}
+
+parts=$(for step in $all; do ! is_step $step || echo $step; done)
+if [ -n "$parts" ] || is_step made || is_step exchanged || is_step peers; then
+    each tried
 fi
+! is_step exchanged || each checked
 if is_step package || is_step wheel || is_step pipx; then
     rm -rf "$folder/release"
     mkdir "$folder/release"
     "$repository/tests/debians/release.py" "$program" "$folder/release"
+    each installed
 fi
-for suite; do
-    for way in package wheel pipx; do
-        if is_step $way; then
-            echo "== $suite: the $way, where nothing else is installed"
-            plain "$suite"
-            rm -rf "$folder/$suite.$way"
-            cp -a "$folder/$suite.plain" "$folder/$suite.$way"
-            within "$folder/$suite.$way" installed.sh $way
-        fi
-    done
-done
 exit $failed

@@ -1,6 +1,7 @@
 #!/usr/bin/env python3
 """Runs aig-verdicts on designs with known truth (designs/truth.py), and compares each row with it: the verdict, and the
-length of the shortest run. No answer of ABC may be one about another circuit. Each folder is checked again by `aig`, and each circuit made again by Yosys.
+length of the shortest run. No answer of ABC may be one about another circuit. Each folder is checked again by `aig`,
+and each circuit made again by Yosys.
 
 Icarus Verilog plays each run that fails, and random ones, on the sources.
 
@@ -20,9 +21,8 @@ sys.path[:0] = [str(HERE), str(HERE.parent / "src"), str(HERE.parent.parent / "t
 from aig.verdicts.search import WRONG_CERTIFICATE, WRONG_RUN  # noqa: E402
 from designs.truth import DESIGNS, FREE_CLOCK  # noqa: E402
 from library import supervised  # noqa: E402
+from library.supervised import SCRIPT_SECONDS, SECONDS  # noqa: E402
 
-# How long one design may take: the slowest needs a tenth of it.
-SECONDS = 300
 IS_PLAYED = shutil.which("iverilog") is not None
 # How long a random run is.
 FRAMES = 30
@@ -32,10 +32,11 @@ def called(*words):
     """Status, standard output and standard error of aig-verdicts, and no status where it is over its time."""
     settings = {**os.environ, "PYTHONPATH": str(HERE.parent / "src")}
     try:
-        done = supervised.run([sys.executable, "-m", "aig.verdicts", *map(str, words)], env=settings, stdin=subprocess.DEVNULL,
-                              capture_output=True, text=True, timeout=SECONDS, check=False)
+        done = supervised.run([sys.executable, "-m", "aig.verdicts", *map(str, words)], env=settings,
+                              stdin=subprocess.DEVNULL, capture_output=True, text=True, timeout=SCRIPT_SECONDS,
+                              check=False)
     except subprocess.TimeoutExpired:
-        return None, "", f"not ended within {SECONDS} seconds"
+        return None, "", f"not ended within {SCRIPT_SECONDS} seconds"
     return done.returncode, done.stdout, done.stderr
 
 
@@ -54,7 +55,8 @@ def wrong_in(known, folder):
     words += ["--top", known.top] if known.top else []
     words += [word for it in known.asserts for word in ("--assert", HERE / "designs" / "known" / it)]
     words += ["--module", known.module] if known.module else []
-    status, table, said = called("run", *known.paths, *words, "--out", folder, "--quiet", "--jobs", "1", "--no-simulator")
+    words += ["--quiet", "--jobs", "1", "--no-simulator", "--seconds", SECONDS]
+    status, table, said = called("run", *known.paths, *words, "--out", folder)
     if status not in (0, 4, 5):
         return [f"status {status}: {said}"]
     got, wrong = answers(table), []

@@ -3,7 +3,8 @@
 of Icarus Verilog in each frame, under random inputs, or aig-verdicts rejects the probe by its line.
 
 A paragraph of a file is a probe, with its own modules. A line `// rejected: TEXT` in it has a text of the message, and
-`// noted: TEXT` one of a note, which says that the circuit may have other values.
+`// noted: TEXT` one of a note, which says that the circuit may have other values. `// rejected after 0.52: TEXT` is for
+versions of Yosys that lose assignments.
 
 usage: run_probes.py [PROGRAM] [FILE_OR_PROBE ..]. It needs yosys and iverilog."""
 
@@ -14,13 +15,15 @@ import sys
 import tempfile
 from collections import namedtuple
 from concurrent.futures import ThreadPoolExecutor
+from functools import lru_cache
 from pathlib import Path
 
 HERE = Path(__file__).resolve().parent
 sys.path[:0] = [str(HERE), str(HERE.parent / "src")]
 import simulated  # noqa: E402
 from aig.verdicts.design import Reading, read_verilog  # noqa: E402
-from aig.verdicts.tools import Stop, ToolFailed  # noqa: E402
+from aig.verdicts.tools import Stop, ToolFailed, version  # noqa: E402
+from aig.verdicts.versions import loses_assignments  # noqa: E402
 
 PROBES = HERE / "designs" / "probes"
 DATA = [PROBES / "probe.vh", *PROBES.glob("*.hex"), *PROBES.glob("*.bin")]
@@ -38,6 +41,12 @@ FALLING = "falling"  # the file of probes whose clock falls
 Probe = namedtuple("Probe", "name rejected noted lines")
 
 
+@lru_cache()
+def rejections():
+    """The words before the text of a message, for this version of Yosys."""
+    return "rejected(?: after 0.52)?" if loses_assignments(version("yosys", Stop())) else "rejected"
+
+
 def probes_in(text):
     lines = text.split("\n")
     begin = 0
@@ -45,7 +54,7 @@ def probes_in(text):
         if not line.strip():
             part = "\n".join(lines[begin:end])
             name = re.search(r"^`PROBE\((\w+)\)", part, re.M)
-            rejected, noted = (re.search(rf"^ *// {word}: (.*)", part, re.M) for word in ("rejected", "noted"))
+            rejected, noted = (re.search(rf"^ *// {word}: (.*)", part, re.M) for word in (rejections(), "noted"))
             if name:
                 yield Probe(name[1], rejected and rejected[1], noted and noted[1], (begin, end))
             begin = end + 1

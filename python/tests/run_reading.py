@@ -1,7 +1,9 @@
 #!/usr/bin/env python3
 """What aig-verdicts rejects or changes of a source before Yosys makes a circuit of it, on small trees and texts, without
-Yosys: loops that Yosys counts in another way (`loops`), places where their variables have another value (`places`), comparisons that are wider than a bit (`comparisons`), and parts
-of signed variables in functions that get constants (`signed_parts`); and the gates that it leaves of a circuit (`hashes`). run_probes.py compares circuits with a simulator."""
+Yosys: loops that Yosys counts in another way (`loops`), places where their variables have another value (`places`),
+comparisons that are wider than a bit (`comparisons`), parts of signed variables in functions that get constants
+(`signed_parts`), and assignments that newer versions lose (`lost`); and the gates that it leaves of a circuit
+(`hashes`). run_probes.py compares circuits with a simulator."""
 
 import random
 import re
@@ -10,8 +12,11 @@ from pathlib import Path
 
 PYTHON = Path(__file__).resolve().parent.parent
 sys.path[:0] = [str(PYTHON / "src"), str(PYTHON.parent / "tests")]
-from aig.verdicts import comparisons, counted, evaluated, hashed, loops, registers, rtlil, tree  # noqa: E402
+from aig.verdicts import (  # noqa: E402
+    comparisons, counted, evaluated, findings, hashed, loops, overridden, registers, rtlil, tree,
+)
 from aig.verdicts.scope import Scope  # noqa: E402
+from aig.verdicts.tools import ToolFailed  # noqa: E402
 from library import runs  # noqa: E402
 
 
@@ -274,7 +279,120 @@ RULES = (
 )
 
 
-PARTS = {"hashes": hashes, "registers": named_registers, "loops": counts, "places": places, "comparisons": narrow, "signed_parts": signed_parts}
+def late(name, *index, line=1):
+    """`name[index] <= 0`."""
+    found = [node("RANGE", *[named(it) if isinstance(it, str) else it for it in index])] if index else []
+    return node("ASSIGN_LE", named(name, *found), number("0"), place=f"a.v:{line}.1-2")
+
+
+def bits(name, *index, **more):
+    return late(name, *[number(str(it)) for it in index], **more)
+
+
+def inside(*statements):
+    """`if (e) begin .. end`."""
+    return node("CASE", named("e"), node("COND", number("1"), node("BLOCK", *statements)))
+
+
+def each_k(*statements):
+    first, step = (node("ASSIGN_EQ", named("k"), it) for it in (number("0"), k_and("ADD", "1")))
+    return node("FOR", first, k_and("LT", "6"), step, node("BLOCK", *statements))
+
+
+def call(name):
+    return node("TCALL", name=name)
+
+
+# Statements of a branch. What Yosys 0.66 loses is in line 2.
+LOST = (
+    ("after an if", [inside(late("q")), late("q", line=2)]),
+    ("after an if in an if", [inside(inside(late("q"))), late("q", line=2)]),
+    ("before an if", [late("q"), inside(late("q"))]),
+    ("after and before", [late("q"), inside(late("q")), bits("q", 0)]),
+    ("after, and other bits before", [bits("q", 7, 4), inside(late("q")), bits("q", 3, 0, line=2)]),
+    ("after, and a bit before", [bits("q", 1), inside(late("q")), bits("q", 3, 0)]),
+    ("after, and an unknown bit before", [late("q", "n"), inside(late("q")), bits("q", 3, line=2)]),
+    ("another variable", [inside(late("r")), late("q")]),
+    ("other bits", [inside(bits("q", 7, 4)), bits("q", 3, 0)]),
+    ("a bit of both", [inside(bits("q", 7, 3)), bits("q", 3, 0, line=2)]),
+    ("the other order of bits", [inside(bits("q", 3, 7)), bits("q", 4, line=2)]),
+    ("a member", [inside(late("q")), late("q.a", line=2)]),
+    ("all members", [inside(late("q.a")), late("q", line=2)]),
+    ("a member of what was written", [late("q"), inside(late("q")), late("q.a")]),
+    ("all of what was written in a member", [late("q.a"), inside(late("q")), late("q")]),
+    ("another member", [inside(late("q.b")), late("q.a")]),
+    ("a longer name", [inside(late("q")), late("qa")]),
+    ("a longer member", [inside(late("q.a")), late("q.ab")]),
+    ("in a block", [node("BLOCK", inside(late("q"))), node("BLOCK", late("q", line=2))]),
+    ("in braces", [inside(late("q")), node("ASSIGN_LE", node("CONCAT", named("r"), named("q")), place="a.v:2.1-2")]),
+    ("an index that changes", [inside(late("q")), late("q", "n")]),
+    ("after an index that changes", [inside(late("q", "n")), late("q")]),
+    ("a range of a parameter", [inside(late("q", "P")), bits("q", 0, line=2)]),
+    ("at once", [inside(node("ASSIGN_EQ", named("q"))), late("q")]),
+    ("in each round", [each_k(late("q", "k"), inside(late("q", "k")))]),
+    ("in each round, after", [each_k(inside(late("q", "k")), late("q", "k", line=2))]),
+    ("in the next round", [each_k(late("q", k_and("ADD", "1"), line=2), inside(late("q", "k")))]),
+    ("in a task", [call("only"), late("q", line=2)]),
+    ("in a task of an if", [inside(call("only")), late("q", line=2)]),
+    ("a task", [inside(late("q")), call("late")]),
+    ("a task of its own", [call("itself")]),
+)
+
+
+def lost(_, tally, __):
+    """Assignments that newer versions of Yosys lose, inside of an `if` and, where none is lost, outside of it."""
+    tasks = [node("TASK", inside(late("q")), name="only"), node("TASK", late("q", line=2), name="late"),
+             node("TASK", call("itself"), name="itself")]
+    for name, statements in LOST:
+        wanted = ["a.v:2"] if any(it.line == "a.v:2" for each in [*statements, *tasks[1:2] * (name == "a task")]
+                                  for it in each.all()) else []
+        for outside, where in (([], "outside"), (wanted, "inside")):
+            block = node("BLOCK", *([inside(*statements)] if where == "inside" else statements))
+            own = [variable("q", 8), variable("n", 3), node("PARAMETER", number("7"), name="P")]
+            scope = Scope(node("MODULE", *own, *tasks, node("ALWAYS", block), name="m"))
+            tally.compare(f"lost: {name}, {where}", list(overridden.lost(scope)), outside)
+    deep = node("TASK", inside(inside(late("q")), late("q", line=2)), name="deep")
+    tally.compare("lost: in a task of its own", list(overridden.lost(Scope(node("MODULE", deep, name="m")))), ["a.v:2"])
+    for version, is_lost in (("0.23", False), ("0.52", False), ("0.52+57", False), ("0.53", True), ("0.66", True),
+                             ("1.0", True), ("?", True)):
+        tally.compare(f"lost: Yosys {version}", _said_by(version)[:17], "a.v:2: inside of " if is_lost else "")
+
+
+class _Read:
+    """What a version of Yosys read."""
+
+    TEXTS = {"tree": """    AST_MODULE <sources/a.v:1.1-9.10> str='\\m'
+      AST_BLOCK <sources/a.v:1.1-2>
+        AST_ALWAYS <sources/a.v:1.1-2>
+          AST_CASE <sources/a.v:1.1-2>
+            AST_COND <sources/a.v:1.1-2>
+              AST_CASE <sources/a.v:1.1-2>
+                AST_COND <sources/a.v:1.1-2>
+                  AST_ASSIGN_LE <sources/a.v:1.1-2>
+                    AST_IDENTIFIER <sources/a.v:1.1-2> str='\\q'
+              AST_ASSIGN_LE <sources/a.v:2.1-2>
+                AST_IDENTIFIER <sources/a.v:2.1-2> str='\\q'""", "read.il": "module \\m\nend\n"}
+
+    def __init__(self, version):
+        self._version = version
+
+    def text(self, name):
+        return self.TEXTS[name]
+
+    def version(self):
+        return f"yosys Yosys {self._version} (git sha1 0)"
+
+
+def _said_by(version):
+    try:
+        findings.look_at_sources(_Read(version))
+    except ToolFailed as failed:
+        return str(failed)
+    return ""
+
+
+PARTS = {"lost": lost, "hashes": hashes,
+         "registers": named_registers, "loops": counts, "places": places, "comparisons": narrow, "signed_parts": signed_parts}
 
 if __name__ == "__main__":
     runs.main(__doc__, PARTS)

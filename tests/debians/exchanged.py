@@ -16,6 +16,7 @@ REPOSITORY = Path(__file__).resolve().parents[2]
 sys.path[:0] = [str(REPOSITORY / "python/tests"), str(REPOSITORY / "tests")]
 from designs.truth import DESIGNS  # noqa: E402
 from library import supervised  # noqa: E402
+from library.supervised import SCRIPT_SECONDS  # noqa: E402
 
 # Of the designs with known truth, which have one clock, several, memories, types, conditions and cells without a body.
 CHOSEN = ("queue", "lamps", "unknown_memory", "async_fifo", "async_reset", "latches", "labels", "conditions",
@@ -39,8 +40,8 @@ def called(*words):
     """The status of aig-verdicts, and what it prints."""
     settings = {**os.environ, "PYTHONPATH": str(REPOSITORY / "python/src")}
     done = supervised.run([sys.executable, "-m", "aig.verdicts", *map(str, words)], env=settings,
-                          stdin=subprocess.DEVNULL,
-                          stdout=subprocess.PIPE, stderr=subprocess.STDOUT, text=True, timeout=600, check=False)
+                          stdin=subprocess.DEVNULL, stdout=subprocess.PIPE, stderr=subprocess.STDOUT, text=True,
+                          timeout=SCRIPT_SECONDS, check=False)
     return done.returncode, done.stdout
 
 

@@ -17,7 +17,7 @@ from tools.external import Tools
 sys.path[:0] = [f"{REPOSITORY}/python/src", f"{REPOSITORY}/python/tests"]
 from aig.verdicts import workers  # noqa: E402
 from aig.verdicts.decide import Bounds  # noqa: E402
-from aig.verdicts.design import read_verilog  # noqa: E402
+from aig.verdicts.design import Reading, read_verilog  # noqa: E402
 from aig.verdicts.session import Session  # noqa: E402
 from aig.verdicts.tools import Stop  # noqa: E402
 from bundles.common import (  # noqa: E402
@@ -200,7 +200,7 @@ def same_bytes(tally):
         run(EVERY, *words, "-j", "1", out=f"{name}_1")
         run(EVERY, *words, "-j", "4", out=f"{name}_4")
         tally.check(f"same bytes: {name}", same_manifests(f"{name}_1", f"{name}_4"))
-    design = read_verilog([EVERY], None, Stop())
+    design = read_verilog([EVERY], Reading(), Stop())
     for name, large in (("processes", workers.LARGE), ("by_path", 1)):
         usual, workers.LARGE = workers.LARGE, large
         session = Session(design, Path(name), Bounds(frames=6))

@@ -124,7 +124,7 @@ def content(tally):
         tally.compare(f"checking: about {name}", one.is_about(*words), wanted)
     read = []
     run = decide(Task.of(circuit, 2, Bounds(frames=3), Programs(SMALL_SOLVER, None)))
-    tally.compare("checking: a run", (run.verdict, sorted(run.files)), ("confirmed", ["shorter", "witness"]))
+    tally.compare("checking: a run", (run.verdict, sorted(run.files)), ("confirmed", ["concrete", "shorter", "witness"]))
     names = {name: run.files[role] for role, name in run.checked.claim.named}
     check(run.checked.claim, circuit, lambda name: read.append(name) or names[name], Stop())
     tally.compare("checking: each file is read once", sorted(read), sorted(names))

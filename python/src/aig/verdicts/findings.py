@@ -16,6 +16,7 @@ from .misread import SourceTree, used_modules
 from .netlist import cells, inputs_of
 from .sources import places
 from .tools import ToolFailed
+from .versions import loses_assignments
 from .warnings import shown
 from .wiring import WAITS, undriven
 from .yosys import Yosys
@@ -35,8 +36,12 @@ class Finding(NamedTuple):
 
 def look_at_sources(runs: Yosys) -> None:
     """Rejects what Yosys reads in another way, before anything is made of it."""
-    for found, said in _tree(runs).misread():
+    tree = _tree(runs)
+    for found, said in tree.misread():
         _reject(Finding(found, f": {said}"))
+    for found, said in tree.lost():
+        if loses_assignments(runs.version()):
+            _reject(Finding(found, f": {said}"))
 
 
 def look_at_instances(runs: Yosys) -> None:

@@ -5,7 +5,7 @@ from __future__ import annotations
 
 from typing import Callable, Collection, Iterator, List, NamedTuple, Optional, Sequence, Set, Tuple
 
-from . import counted, evaluated, given, loops, memories, named_types, order, written
+from . import counted, evaluated, given, loops, memories, named_types, order, overridden, written
 from .scope import Scope
 from .tree import modules, nodes
 
@@ -104,6 +104,10 @@ _REJECTED = (
          "an address of a memory of several dimensions may be out of its range, and Yosys then takes a word of "
          "another row: use an index whose width fits, as `i[1:0]`"),
 )
+_LOST = Rule(
+    overridden.lost,
+    "inside of an `if` or a `case`, a variable is written with <= after another `if` or `case` that writes it, too, and "
+    "this version of Yosys lets the first one count: write it before them, or in an `else`")
 _UNTYPED = ("a parameter that is `signed` without a range gets a value without sign, which becomes signed, and Yosys "
             "does not make it so: declare the range of the parameter")
 _CONNECTED = ("an expression is narrower than the input port that gets it, and Yosys leaves out the width of the port: "
@@ -136,6 +140,10 @@ class SourceTree:
             found = list(finds(self._scopes))
             if found:
                 yield found, said
+
+    def lost(self) -> Iterator[Tuple[List[str], str]]:
+        """The places of what some versions of Yosys read in another way, and a message."""
+        yield from self._found([_LOST])
 
     def noted(self) -> Iterator[Tuple[List[str], str]]:
         """The places of what is read in one of several ways, and a note."""

@@ -6,6 +6,8 @@ import re
 
 # With these, all designs with known truth get their verdicts.
 TRIED = ("0.23", "0.52", "0.66")
+# The newest of them that loses no assignments (overridden.py).
+_LOSES_NONE = (0, 52)
 
 
 def yosys_of(said: str) -> str:
@@ -20,3 +22,9 @@ def untried(said: str) -> str:
     if name in [f"Yosys {it}" for it in TRIED]:
         return ""
     return f"{name} was not tried: the tests of aig-verdicts ran with Yosys {', '.join(TRIED[:-1])} and {TRIED[-1]}"
+
+
+def loses_assignments(said: str) -> bool:
+    """Whether this version of Yosys loses the assignments of overridden.py, as far as we know."""
+    match = re.search(r"Yosys (\d+)\.(\d+)", said)
+    return match is None or (int(match[1]), int(match[2])) > _LOSES_NONE

@@ -17,7 +17,7 @@ from .places import with_place
 from .registers import with_even_lines
 from .script import DIRECTED, FREED, reading
 from .sources import places
-from .tools import Stop, ToolFailed, run
+from .tools import Stop, ToolFailed, run, version
 from .warnings import differing
 from .wiring import driven_inouts, free_z, has_loop, has_z, loops
 
@@ -32,6 +32,10 @@ class Yosys:
     def __init__(self, folder: Path, program: str, seconds: float, stop: Stop):
         self.folder, self._program, self._seconds, self._stop = folder, program, seconds, stop
         self.warnings: List[str] = []
+
+    def version(self) -> str:
+        """What the program says of itself."""
+        return version(self._program, self._stop)
 
     def run(self, commands: Sequence[str]) -> None:
         (self.folder / "script.ys").write_text("\n".join(commands) + "\n", encoding="latin-1")
