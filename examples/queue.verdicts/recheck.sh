@@ -35,7 +35,9 @@ of() {
 }
 check alive check --alive --frames=20 circuit.aig alive.wit
 of 0.wit b0 15
+of 0.concrete.wit b0 15
 check confirmed check --property=0 circuit.aig 0.wit
+check confirmed check --property=0 circuit.aig 0.concrete.wit
 check 'unreachable within 10' refute --frames=10 --property=0 circuit.aig 0.shorter.drat
 check unreachable refute --frames=1 --property=1 --step 1.step.drat circuit.aig 1.base.drat
 exit $wrong

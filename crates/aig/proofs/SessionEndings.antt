@@ -22,7 +22,7 @@ use Rattle.aig_program.proofs.Endings.{command_ends, still_broken}
 module _ {Y X Z : Type 0} (passes : Passes Y X Z) (person : Bool) (file : List ℕ) (given : Given (List ℕ)) where
   -- where a read failed, the writer got a beginning of what is said; where a write failed, too
   session_down : (raw : Raw) → IsFileOf file raw → (run : ReadRun) (pair : CircuitAndRows) → IsGiven raw given run
-      → BeginsAt raw run.start run.rows pair → (down : BreaksDown passes person (first_state raw pair))
+      → BeginsAt raw run.start run.rows pair → (down : BreaksDown passes person (first_state raw run.property pair))
       → ((passes.reader.failures passes.reader.old < passes.reader.failures passes.reader.new)
       × (passes.out.failures passes.out.new ≡ passes.out.failures passes.out.old))
       ⊎ (passes.out.failures passes.out.old < passes.out.failures passes.out.new)

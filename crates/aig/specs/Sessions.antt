@@ -22,7 +22,7 @@ abbrev pub IsSomeTalk : Raw → Given (List ℕ) → List ℕ → Type 0
 IsSomeTalk raw given text =
     (run : ReadRun) × (pair : CircuitAndRows) × IsGiven raw given run × BeginsAt raw run.start run.rows pair
     × (person : Bool) × (input : List ℕ) × (calls : List Call) × (quits : Bool)
-    × Talk person (first_state raw pair) input text calls quits
+    × Talk person (first_state raw run.property pair) input text calls quits
 
 -- a beginning of such a text
 abbrev pub BeginsSomeTalk : List ℕ → Given (List ℕ) → List ℕ → Type 0
