@@ -88,17 +88,17 @@ installed() {
 
 # each FUNCTION: calls it for each version, JOBS of them at once, and puts the version before each line that it prints
 each() {
-    started=0
+    started=0 passed=$(mktemp -d)
     for suite in $suites; do
-        rm -f "$folder/$suite.passed"
-        ( $1 "$suite"; [ $failed = 0 ]; touch "$folder/$suite.passed" ) 2>&1 | sed -u "s/^/$suite: /" &
+        ( $1 "$suite"; [ $failed = 0 ]; touch "$passed/$suite" ) 2>&1 | sed -u "s/^/$suite: /" &
         started=$((started + 1))
         [ $((started % ${JOBS:-1})) != 0 ] || wait
     done
     wait
     for suite in $suites; do
-        [ -e "$folder/$suite.passed" ] || failed=1
+        [ -e "$passed/$suite" ] || failed=1
     done
+    rm -r "$passed"
 }
 
 parts=$(for step in $all; do ! is_step $step || echo $step; done)

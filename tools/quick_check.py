@@ -40,6 +40,7 @@ def copy(crate, to, kept):
     stamp, said = to / "copied", f"{sum_of(files, crate.folder)} {sorted(kept)}"
     if stamp.is_file() and stamp.read_text() == said:
         return
+    stamp.unlink(missing_ok=True)  # a copy that is broken off is none
     for part in crate.parts:
         shutil.rmtree(to / part, ignore_errors=True)
         if (crate.folder / part).is_dir():
@@ -62,6 +63,9 @@ def main():
     if chosen.crate not in crates:
         sys.exit(f"{LISTED} lists no crate {chosen.crate}")
     crate = crates[chosen.crate]
+    unknown = {*chosen.only} - {it.name for it in edits_of(crate.folder, (), None)[0]}
+    if unknown:
+        sys.exit(f"{crate.name} has no function {', '.join(sorted(unknown))}")
     named = hashlib.sha256(str(ROOT).encode()).hexdigest()[:8]
     room = chosen.room or pathlib.Path(tempfile.gettempdir()) / f"quick-{named}" / crate.name
     (room / ".git").mkdir(parents=True, exist_ok=True)

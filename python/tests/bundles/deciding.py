@@ -447,7 +447,7 @@ def shared_again(_, tally, __):
         return f"copy {len(count)}"
 
     with unittest.mock.patch.object(workers, "LARGE", 1):
-        others = Scripted(lost(), lost(), Future(), ended_with(OSError("x")), *(lost() for _ in range(9)))
+        others = Scripted(lost(), lost(), Future(), ended_with(OSError("x")), *(lost() for _ in range(99)))
         with Workers(circuit, Path("circuit.aig"), stop, Work(others, share=share)) as given:
             first, second = given.submit(Task(None, 1)), given.submit(Task(None, 2))
             again = given.again(first), given.again(second)
@@ -522,7 +522,10 @@ def lost(tally):
         session.open(1)
         waiting = [row.position for row in session.waiting()]
         futures = [first if at == 0 and first else Future() for at in waiting]
+        late = threading.Timer(60, session.stop)  # a search that goes on would not end
+        late.start()
         complete = session.search(Work(Scripted(*futures), are_lost=are_lost))
+        late.cancel()
         tally.compare(f"lost: {name}", (complete, session.stop.stopped), (True, False))
         session.close()
         rows = manifest_of(f"lost_{name}")["rows"][1:]

@@ -20,6 +20,7 @@ KEPT, ENDS = (1, ), (37, 39, 41, 43)
 SAID = {
     "alive.wit": ("constraints: aig check: witness: text", -1),
     "0.wit": ("the witness of b0 is for another property", 0),
+    "0.concrete.wit": ("the concrete run of b0 is another one than its witness", 0),
     "0.shorter.drat": ("b0: aig refute: proof: no refutation", 0),
     "1.base.drat": ("b1: aig refute: proof: no refutation", 1),
     "2.base.drat": ("b2: aig refute: proof: no refutation", 2),

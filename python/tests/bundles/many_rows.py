@@ -70,6 +70,7 @@ def elsewhere(tally):
 
 def held(tally):
     """The memory file of a circuit: nobody who gets it can write it, and it goes with the circuit."""
+    gc.collect()
     before = len(os.listdir("/proc/self/fd"))
     circuit = OftenRead(large(2, 100))
     descriptor = circuit.file.descriptor
