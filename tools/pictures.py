@@ -6,7 +6,7 @@
 - docs/checks.svg, of docs/PERFORMANCE.md: the table of proofs with hints
 
 Without --write it compares, and fails where a picture is not the one that it would draw. tools/edges.py draws
-docs/floors.svg, and `benchmarks/measure.py plot` measures what docs/edits.svg shows."""
+docs/floors.svg, and `benchmarks/measure.py` measures what docs/edits.svg (`plot`) and docs/scale.svg (`scale`) show."""
 
 import argparse
 import pathlib
