@@ -4,6 +4,7 @@ from __future__ import annotations
 
 import contextlib
 import hashlib
+import itertools
 import json
 import os
 import pickle
@@ -34,6 +35,8 @@ from bundles.common import FEW, called, judged, kept, manifest_of, rows_of, tool
 from library.runs import EXAMPLES
 
 CIRCUIT = "circuit.aig"
+# A search that goes on without workers is stopped after so many looks.
+MOST_LOOKS = 40
 
 
 def right(_, tally, __):
@@ -522,10 +525,13 @@ def lost(tally):
         session.open(1)
         waiting = [row.position for row in session.waiting()]
         futures = [first if at == 0 and first else Future() for at in waiting]
-        late = threading.Timer(60, session.stop)  # a search that goes on would not end
-        late.start()
-        complete = session.search(Work(Scripted(*futures), are_lost=are_lost))
-        late.cancel()
+        looks = itertools.count(1)
+
+        def look(*_, session=session, looks=looks):
+            if next(looks) > MOST_LOOKS:
+                session.stop()
+
+        complete = session.search(Work(Scripted(*futures), progress=look, are_lost=are_lost))
         tally.compare(f"lost: {name}", (complete, session.stop.stopped), (True, False))
         session.close()
         rows = manifest_of(f"lost_{name}")["rows"][1:]
