@@ -12,7 +12,7 @@ ghost use Rattle.aig_base.specs.Levels.{AreLevels};
 ghost use Rattle.aig_base.specs.state.LeastFaulty.{IsLeastAmong, IsKnownLiteral, IsGroundedGate, ReadsSmaller};
 ghost use Rattle.aig_base.specs.state.LeastFaulty.{gate_variable};
 ghost use Rattle.aig_parts.specs.Literal.{variable};
-ghost use Rattle.aig_base.specs.state.Ranged.{AreInRange, AreSectionsInRange, AreDefinedOnce, AreDefinitions};
+ghost use Rattle.aig_base.specs.state.Ranged.{AreInRange, AreSectionsInRange, AreDefinedOnce, AreDefinitions, IsRanged};
 ghost use Rattle.aig_base.specs.Sections.{definitions, uses, IsDefined};
 ghost use Rattle.aig_base.specs.Sound.{IsDefinition, IsSound};
 
@@ -125,8 +125,7 @@ fn are_ascending(gates: &[Gate]) -> bool
 
 // The least gate variable that is not grounded.
 fn least_ungrounded(alloc: Global, raw: &Raw) -> Result<Option<u32>, Memory>
-    requires counts { CountsFit raw.now }
-    requires range { AreInRange raw.now }
+    requires parts { IsRanged raw.now }
     requires sound { IsSound raw.now }
     ensures { IfOk result (IsLeastAmong (IsGroundedGate raw.now) gate_variable raw.now.gates) }
 {
@@ -150,8 +149,7 @@ fn are_in_order(raw: &Raw) -> bool
 // The least variable that something reads and nothing defines, where nothing is defined twice. If as many variables are
 // defined as there are, each is, and nothing is looked up.
 fn least_missing(table: &[u32], raw: &Raw) -> Option<u32>
-    requires counts { CountsFit raw.now }
-    requires range { AreInRange raw.now }
+    requires parts { IsRanged raw.now }
     requires definitions { AreDefinitions raw.now }
     requires entries { AreEntries raw.now.max_var (map variable (definitions raw.now)) table.now None }
     ensures { IsLeastAmong (IsKnownLiteral table.now) variable (uses raw.now) result }
@@ -162,14 +160,17 @@ fn least_missing(table: &[u32], raw: &Raw) -> Option<u32>
     least_undefined(table, raw)
 }
 
-// The table of definitions of parts in range, or the first fault of what they define and use.
-fn listed_definitions(alloc: Global, raw: &Raw) -> Result<Vec<u32>, Fault>
-    requires counts { CountsFit raw.now }
-    requires range { AreInRange raw.now }
-    ensures table { IfOk result (λ table. IsDefinitionTable raw.now table.items) }
+// The definitions of parts in range, or the first fault of what they define and use. Where the definitions are in
+// order, as in every binary file, there is none and no table.
+fn tested_definitions(alloc: Global, raw: &Raw) -> Result<Definitions, Fault>
+    requires { IsRanged raw.now }
+    ensures describes { IfOk result (AreDefinitionsOf raw.now) }
     ensures once { OnOk result (AreDefinedOnce raw.now) }
     ensures fault { IfErr result (λ fault. fault ≢ Fault.Memory → IsFirstFault raw.now fault) }
 {
+    if are_in_order(raw) {
+        return Ok(Definitions::InOrder);
+    }
     if !are_definitions(raw) {
         return Err(Fault::Definition);
     }
@@ -180,22 +181,6 @@ fn listed_definitions(alloc: Global, raw: &Raw) -> Result<Vec<u32>, Fault>
     if let Some(variable) = least_missing(&table, raw) {
         return Err(Fault::Undefined(variable));
     }
-    Ok(table)
-}
-
-// The definitions of parts in range, or the first fault of what they define and use. Where the definitions are in
-// order, as in every binary file, there is none.
-fn tested_definitions(alloc: Global, raw: &Raw) -> Result<Definitions, Fault>
-    requires counts { CountsFit raw.now }
-    requires range { AreInRange raw.now }
-    ensures describes { IfOk result (AreDefinitionsOf raw.now) }
-    ensures once { OnOk result (AreDefinedOnce raw.now) }
-    ensures fault { IfErr result (λ fault. fault ≢ Fault.Memory → IsFirstFault raw.now fault) }
-{
-    if are_in_order(raw) {
-        return Ok(Definitions::InOrder);
-    }
-    let table = listed_definitions(alloc, raw)?;
     Ok(Definitions::Listed(table))
 }
 

@@ -189,8 +189,7 @@ fn selected_symbols(
     into: PropertySection,
     positions: &[u32],
 ) -> Result<Symbols, Memory>
-    requires positions { AreProperties circuit.now from positions.now }
-    requires few { length positions.now ≤ limit }
+    requires { CanSelect circuit.now from positions.now }
     ensures { IfOk result (λ symbols. symbols ≡ flat_map (kept_symbols from into positions.now) circuit.now.symbols) }
 {
     // Its contract says that each symbol names an entry that is there, and no two the same one.
@@ -244,8 +243,7 @@ fn selected_at(
     into: PropertySection,
     positions: &[u32],
 ) -> Result<NewProperties, Memory>
-    requires positions { AreProperties circuit.now from positions.now }
-    requires few { length positions.now ≤ limit }
+    requires { CanSelect circuit.now from positions.now }
     ensures { IfOk result (λ new. with_properties circuit.now new.outputs new.bad new.symbols
         ≡ spec.selected_at circuit.now from into positions.now) }
 {
@@ -278,8 +276,7 @@ fn selected(
     into: PropertySection,
     named: &[u32],
 ) -> Result<NewProperties, Memory>
-    requires named { AreProperties circuit.now from named.now }
-    requires few { length named.now ≤ limit }
+    requires { CanSelect circuit.now from named.now }
     ensures { IfOk result (λ new. with_properties circuit.now new.outputs new.bad new.symbols
         ≡ spec.selected circuit.now from into named.now) }
 {
@@ -296,8 +293,7 @@ fn test_selection(
     from: PropertySection,
     named: &[u32],
 ) -> Result<(), SelectFault>
-    ensures few { OnOk result (length named.now ≤ limit) }
-    ensures named { OnOk result (AreProperties circuit.now from named.now) }
+    ensures possible { OnOk result (CanSelect circuit.now from named.now) }
     ensures fault { IfErr result (RefusesSelection circuit.now from named.now) }
 {
     if named.len() > LIMIT {

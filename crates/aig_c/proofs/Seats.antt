@@ -11,19 +11,16 @@ use Rattle.std_alloc.proofs.BoxSteps.Form.{Bx}
 use Rattle.std_heap.specs.contracts.Global as Heap
 use Rattle.std_heap.specs.contracts.GlobalAllocator.TheImpl.{ghosts, dict}
 use Rattle.std_heap.proofs.Global.TheLaws as heap
-use Rattle.aig_values.specs.contracts.row.plane_row.PlaneRow as plane
-use Rattle.aig_values.specs.contracts.row.plane_row.PlaneRowCellRow.TheImpl as cell_row
-use Rattle.aig_values.proofs.row.plane_row.PlaneRow.TheLaws as plane_laws
-use Rattle.aig_values.specs.contracts.grid.row_grid.RowGrid as grid
-use Rattle.aig_values.specs.contracts.grid.row_grid.RowGridGrid.TheImpl as grid_impl
-use Rattle.aig_values.proofs.grid.row_grid.RowGrid.TheLaws as grid_laws
+use Rattle.aig_values.specs.contracts.grid.plane_grid.PlaneGrid as grid
+use Rattle.aig_values.specs.contracts.grid.plane_grid.PlaneGridGrid.TheImpl as grid_impl
+use Rattle.aig_values.proofs.grid.plane_grid.PlaneGrid.TheLaws as grid_laws
 use Rattle.aig_bench.proofs.bench.Bench.TheLaws as bench_laws
 use Rattle.aig_c.specs.state.Held.{bench_row}
 use Rattle.aig_c.specs.contracts.live.parts.Parts as Parts
 use Rattle.aig_c.specs.contracts.live.handle.Seat as Seat
 
 abbrev pub E : Bx
-E = record { row = bench_row; laws = bench_laws.the_row_laws (grid.the_row plane.the_row cell_row.ghosts) (grid_impl.ghosts plane.the_row cell_row.ghosts grid_impl.no_dict grid_impl.no_dict) (grid_laws.the_row_laws plane.the_row cell_row.ghosts plane_laws.the_row_laws); al = record { row = Heap.the_row; laws = heap.the_row_laws; g = ghosts; d = dict; drops = impl [] tnil dnil } }
+E = record { row = bench_row; laws = bench_laws.the_row_laws grid.the_row grid_impl.ghosts grid_laws.the_row_laws; al = record { row = Heap.the_row; laws = heap.the_row_laws; g = ghosts; d = dict; drops = impl [] tnil dnil } }
 
 abbrev pub FromParts : Slot 0
 FromParts = plain (λ _. Parts.the_row bench_row Heap.the_row ghosts)

@@ -1,6 +1,6 @@
 -- What is kept of a stimulus line that is being read.
 -- Example: of `11` in a stimulus of width 1: that it is too long.
-use Rattle.std.specs.Prelude.{◌≡◌, ◌≢◌, ℕ, ◌<◌, ◌≤◌, List, ◌++◌, length, map, All}
+use Rattle.std.specs.Prelude.{◌≡◌, ◌≢◌, ℕ, ◌<◌, ◌≤◌, List, ◌++◌, length, map, All, Result, OnErr}
 use Rattle.std.specs.List.{flat_map}
 use Rattle.aig_parts.specs.declared.ternary.Tern.{Tern}
 use Rattle.aig_sim.specs.declared.stimulus.fault.StimFault.{StimFault}
@@ -27,6 +27,12 @@ IsKept width line Wrong values = All IsCharacter line → ⊥
 -- the same, of all that is kept
 pub record KeepsLine (width : ℕ) (line : List ℕ) (shape : Shape) (values : List Tern) : Type 0 where
   pub kept : IsKept width line shape values
+
+-- the line has its width and its room after it took bytes; that needs memory only where there is no room for the width
+pub record KeepsReserve {T E : Type 0} (old new : RowParser) (r : Result T E) : Type 0 where
+  pub width : new.width ≡ old.width
+  pub room : old.room ≤ new.room
+  pub err : OnErr r (old.room < old.width)
 
 -- the text so far is these rows and then a line of which this is kept
 pub record HasRead (width : ℕ) (text : List ℕ) (rows : List (List Tern)) (shape : Shape)

@@ -152,17 +152,6 @@ fn spell_codes(text: &mut [u8], codes: &[Code])
     }
 }
 
-// Writes the characters of literals, one by one.
-fn spell_each(text: &mut [u8], cells: &[Code], literals: &[Lit])
-    requires cells { All (λ l. variable l < length cells.now) literals.now }
-    requires room { length text.old ≡ length literals.now }
-    ensures { text.new ≡ map (literal_character cells.now) literals.now }
-{
-    for (place, literal) in literals.iter().enumerate() {
-        text[place] = character_in(cells, *literal);
-    }
-}
-
 /// Writes the characters of literals: those of neighbours are those of a piece of the cells.
 pub fn spell_in(text: &mut [u8], cells: &[Code], literals: &[Lit])
     requires cells { All (λ l. variable l < length cells.now) literals.now }
@@ -171,6 +160,10 @@ pub fn spell_in(text: &mut [u8], cells: &[Code], literals: &[Lit])
 {
     match first_of_contiguous(literals) {
         Some(first) => spell_codes(text, &cells[first..first + literals.len()]),
-        None => spell_each(text, cells, literals),
+        None => {
+            for (place, literal) in literals.iter().enumerate() {
+                text[place] = character_in(cells, *literal);
+            }
+        }
     }
 }

@@ -12,6 +12,7 @@ ghost use Rattle.aig_values.specs.Cells.{HasCells};
 ghost use Rattle.aig_values.specs.InputRows.{with_cell, row_at};
 ghost use Rattle.aig_values.specs.TraceText.{literal_character};
 
+pub(crate) mod plane_grid;
 pub(crate) mod row_grid;
 
 use crate::code::Code;

@@ -12,7 +12,8 @@ pub mod trace_line;
 
 pub use gate_order::stand_in_order;
 pub use grid::Grid;
-pub use grid::row_grid::{ByteGrid, PlaneGrid};
+pub use grid::plane_grid::PlaneGrid;
+pub use grid::row_grid::ByteGrid;
 pub use stimulus::reset::first_value;
 pub use stimulus::{FRAMES, Stimulus};
 pub use trace_line::write_trace;

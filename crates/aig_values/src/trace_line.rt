@@ -175,11 +175,11 @@ fn put_fields<R: Row, W: Write>(
     end: u8,
 ) -> Result<(), Io>
     requires text { length text.old ≡ 256 }
-    requires circuit { IsCircuit circuit.now }
     requires row { (v : ℕ) → v ≤ circuit.now.max_var → R.has row.now v }
     ensures { Gathers W.written W.failures out.old out.new block.old block.new
         (fields_text circuit.now (R.cells row.now) end) result }
 {
+    circuit.facts();
     put_field(
         out,
         block,
@@ -223,12 +223,12 @@ fn put_properties<R: Row, W: Write>(
     row: &R,
 ) -> Result<(), Io>
     requires text { length text.old ≡ 256 }
-    requires circuit { IsCircuit circuit.now }
     requires row { (v : ℕ) → v ≤ circuit.now.max_var → R.has row.now v }
     ensures { Gathers W.written W.failures out.old out.new block.old block.new
         ((map (literal_character (R.cells row.now)) circuit.now.bad ++ 32 ∷ [])
         ++ (map (literal_character (R.cells row.now)) circuit.now.constraints ++ 10 ∷ [])) result }
 {
+    circuit.facts();
     put_field(out, block, text, row, Field::Literals(circuit.bad()), b' ')?;
     put_field(
         out,
@@ -287,7 +287,6 @@ fn put_lines<G: Grid, W: Write>(
     circuit: &Circuit,
     grid: &G,
 ) -> Result<(), Io>
-    requires circuit { IsCircuit circuit.now }
     requires grid { length (G.gate_flags grid.now) ≡ circuit.now.max_var + 1 }
     ensures { Gathers W.written W.failures out.old out.new block.old block.new
         (trace_text circuit.now (G.cells grid.now)) result }

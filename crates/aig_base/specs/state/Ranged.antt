@@ -1,6 +1,7 @@
 -- The first tests of parts.
 use Rattle.std.specs.Prelude.{ℕ, All}
 use Rattle.aig_parts.specs.declared.raw.Raw.{Raw}
+use Rattle.aig_parts.specs.Formed.{CountsFit}
 use Rattle.aig_parts.specs.Literal.{variable}
 use Rattle.aig_base.specs.Sections.{definitions, uses, IsDefined}
 use Rattle.aig_base.specs.Sound.{IsInRange, IsDefinition, IsRedefined}
@@ -25,6 +26,11 @@ pub record AreInRange (raw : Raw) : Type 0 where
   pub justice : All (λ p. All (λ l. IsInRange raw l) p) raw.justice
   pub fairness : All (λ l. IsInRange raw l) raw.fairness
   pub gates : All (λ g. IsInRange raw g.lhs × IsInRange raw g.rhs0 × IsInRange raw g.rhs1) raw.gates
+
+-- the sections are within the limit, and each literal but a reset is in range
+pub record IsRanged (raw : Raw) : Type 0 where
+  pub counts : CountsFit raw
+  pub range : AreInRange raw
 
 -- each literal that an input, a latch or a gate defines is even and not 0
 pub record AreDefinitions (raw : Raw) : Type 0 where

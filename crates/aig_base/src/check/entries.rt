@@ -1,10 +1,10 @@
 //! The table of definitions.
 ghost use Rattle.std.specs.Prelude.{◌≡◌, ◌∷◌, ◌++◌, ◌+◌, ◌<◌, ◌≤◌, List, [], ℕ, length, map, IfOk};
 ghost use Rattle.aig_base.specs.state.Entries.{AreEntries};
-ghost use Rattle.aig_parts.specs.Formed.{CountsFit, limit};
+ghost use Rattle.aig_parts.specs.Formed.{limit};
 ghost use Rattle.aig_base.specs.state.LeastFaulty.{gate_variable, latch_variable};
 ghost use Rattle.aig_parts.specs.Literal.{variable};
-ghost use Rattle.aig_base.specs.state.Ranged.{AreInRange};
+ghost use Rattle.aig_base.specs.state.Ranged.{IsRanged};
 ghost use Rattle.aig_base.specs.Sections.{definitions};
 
 use crate::check::least_faulty::lesser;
@@ -44,8 +44,7 @@ impl Entries {
     }
 
     fn enter_inputs(&mut self, raw: &Raw)
-        requires counts { CountsFit raw.now }
-        requires range { AreInRange raw.now }
+        requires parts { IsRanged raw.now }
         requires entries { AreEntries raw.now.max_var [] self.old.table.items self.old.again }
         ensures { AreEntries raw.now.max_var (map variable raw.now.inputs) self.new.table.items self.new.again }
     {
@@ -55,8 +54,7 @@ impl Entries {
     }
 
     fn enter_latches(&mut self, raw: &Raw)
-        requires counts { CountsFit raw.now }
-        requires range { AreInRange raw.now }
+        requires parts { IsRanged raw.now }
         requires entries { AreEntries raw.now.max_var (map variable raw.now.inputs)
             self.old.table.items self.old.again }
         ensures { AreEntries raw.now.max_var (map variable raw.now.inputs ++ map latch_variable raw.now.latches)
@@ -69,8 +67,7 @@ impl Entries {
     }
 
     fn enter_gates(&mut self, raw: &Raw)
-        requires counts { CountsFit raw.now }
-        requires range { AreInRange raw.now }
+        requires parts { IsRanged raw.now }
         requires entries { AreEntries raw.now.max_var
             (map variable raw.now.inputs ++ map latch_variable raw.now.latches) self.old.table.items self.old.again }
         ensures { AreEntries raw.now.max_var
@@ -85,8 +82,7 @@ impl Entries {
 
     /// The table of these parts' definitions, which are in range.
     pub(crate) fn of(alloc: Global, raw: &Raw) -> Result<Entries, AllocError>
-        requires counts { CountsFit raw.now }
-        requires range { AreInRange raw.now }
+        requires { IsRanged raw.now }
         ensures { IfOk result
             (λ e. AreEntries raw.now.max_var (map variable (definitions raw.now)) e.table.items e.again) }
     {

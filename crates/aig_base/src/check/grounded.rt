@@ -1,7 +1,7 @@
 //! Which variables are grounded: their transitive fan-in ends at inputs, latches and the constant. And their levels.
 ghost use Rattle.std.specs.Prelude.{◌≡◌, ◌↔◌, IsTrue, ◌+◌, ◌/◌, ◌∷◌, ◌++◌, ◌<◌, ◌≤◌, List, [], ℕ, suc, Some, length};
 ghost use Rattle.std.specs.Prelude.{map, All, slice_get, IfOk, OnOk};
-ghost use Rattle.aig_parts.specs.Formed.{CountsFit, limit};
+ghost use Rattle.aig_parts.specs.Formed.{limit};
 ghost use Rattle.aig_base.specs.Levels.{AreLevels};
 ghost use Rattle.aig_base.specs.Sound.{IsSound};
 ghost use Rattle.aig_base.specs.state.LeastFaulty.{latch_variable};
@@ -10,7 +10,7 @@ ghost use Rattle.aig_parts.specs.Literal.{variable};
 ghost use Rattle.aig_base.specs.state.Marks.{sides, AreGroundedMarks, IsGateBelow};
 ghost use Rattle.aig_base.specs.state.Marks.{AreStarted, AddsMark, AddsMarks, IsMarked};
 ghost use Rattle.aig_base.specs.state.Marks.{IsMarking};
-ghost use Rattle.aig_base.specs.state.Ranged.{AreInRange};
+ghost use Rattle.aig_base.specs.state.Ranged.{IsRanged};
 ghost use Rattle.aig_parts.specs.declared.raw.Raw.{Raw};
 
 use crate::check::walk::Walk;
@@ -101,32 +101,6 @@ impl Marking {
         Ok(())
     }
 
-    // Visits the gates of a chain, from this link on.
-    fn visit_chain(
-        &mut self,
-        readers: &KeyChains,
-        gates: &[Gate],
-        levels: &mut [u32],
-        mut link: u32,
-    ) -> Result<(), Memory>
-        requires readers { AreKeyChains (sides gates.now) readers.now.first.items readers.now.next.items }
-        requires gates { All (IsGateBelow (length self.old.walk.met.items)) gates.now }
-        requires levels { length levels.old ≡ length self.old.walk.met.items }
-        requires link { link ≤ length readers.now.next.items }
-        ensures moves { OnOk result (AddsMarks self.old.walk.met.items self.old.walk.pending.items
-            self.new.walk.met.items self.new.walk.pending.items) }
-        ensures marking { OnOk result ((raw : Raw) → raw.gates ≡ gates.now
-            → IsMarking raw readers.now.next.items link self.old.walk.met.items self.old.walk.pending.items levels.old
-            → IsMarking raw readers.now.next.items 0 self.new.walk.met.items self.new.walk.pending.items levels.new) }
-    {
-        while link != 0 {
-            let position = link as usize - 1;
-            self.visit(levels, gates[position / 2])?;
-            link = readers.next(position);
-        }
-        Ok(())
-    }
-
     // Visits the readers of each variable that waits, until none does.
     fn close(
         &mut self,
@@ -147,8 +121,12 @@ impl Marking {
         ensures kept { OnOk result ((v : ℕ) → IsMarked self.old.walk.met.items v → IsMarked self.new.walk.met.items v) }
     {
         while let Some(variable) = self.walk.pending.pop() {
-            let link = readers.first(variable);
-            self.visit_chain(readers, gates, levels, link)?;
+            let mut link = readers.first(variable);
+            while link != 0 {
+                let position = link as usize - 1;
+                self.visit(levels, gates[position / 2])?;
+                link = readers.next(position);
+            }
         }
         Ok(())
     }
@@ -164,8 +142,7 @@ pub(crate) struct GroundedLevels {
 /// For each variable of sound parts whether it rests on variable 0, the inputs and the latches alone, and then its
 /// level. Linear in the parts and M.
 pub(crate) fn grounded_levels(alloc: Global, raw: &Raw) -> Result<GroundedLevels, Memory>
-    requires counts { CountsFit raw.now }
-    requires range { AreInRange raw.now }
+    requires parts { IsRanged raw.now }
     requires sound { IsSound raw.now }
     ensures marks { IfOk result (λ found. AreGroundedMarks raw.now found.marks.items) }
     ensures levels { IfOk result (λ found. AreLevels raw.now found.levels.items) }

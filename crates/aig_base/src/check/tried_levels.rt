@@ -2,10 +2,10 @@
 ghost use Rattle.std.specs.Prelude.{◌≡◌, ◌↔◌, ◌+◌, ◌<◌, ◌≤◌, [], ℕ, length, slice_get, All, Some};
 ghost use Rattle.std.specs.Prelude.{IfOk, IfSome, IsTrue, OnOk};
 ghost use Rattle.std.specs.Bool.{OnTrue};
-ghost use Rattle.aig_parts.specs.Formed.{CountsFit, limit};
+ghost use Rattle.aig_parts.specs.Formed.{limit};
 ghost use Rattle.aig_parts.specs.Literal.{variable};
 ghost use Rattle.aig_base.specs.state.Marks.{IsGateBelow};
-ghost use Rattle.aig_base.specs.state.Ranged.{AreInRange};
+ghost use Rattle.aig_base.specs.state.Ranged.{AreInRange, IsRanged};
 ghost use Rattle.aig_base.specs.state.TriedLevels.{AreStepped, IsStep, ReadsBelow};
 
 use aig_bytes::Memory;
@@ -114,8 +114,7 @@ fn find_levels(alloc: Global, nodes: &mut [Node]) -> Result<(), Memory>
 // A number for each variable, 0 to M. It is tried that they are its levels: no more is said of them, and `are_levels`
 // returns whether it is so.
 fn tried_levels(alloc: Global, raw: &Raw) -> Result<Vec<u32>, Memory>
-    requires counts { CountsFit raw.now }
-    requires range { AreInRange raw.now }
+    requires { IsRanged raw.now }
     ensures { IfOk result (λ levels. length levels.items ≡ raw.now.max_var + 1) }
 {
     let mut nodes = nodes_by_variable(alloc, raw.max_var, raw.gates.as_slice())?;
@@ -177,8 +176,7 @@ fn are_levels(levels: &[u32], raw: &Raw) -> bool
 
 /// The levels of the variables, where they are found. Linear in the parts and M.
 pub(crate) fn found_levels(alloc: Global, raw: &Raw) -> Result<Option<Vec<u32>>, Memory>
-    requires counts { CountsFit raw.now }
-    requires range { AreInRange raw.now }
+    requires { IsRanged raw.now }
     ensures { IfOk result (λ found. IfSome found (λ levels. AreStepped raw.now levels.items)) }
 {
     let levels = tried_levels(alloc, raw)?;

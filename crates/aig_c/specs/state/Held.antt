@@ -9,16 +9,14 @@ use denote.RawPtr.{Ptr}
 use Rattle.std.specs.Global.{Global}
 use Rattle.std_heap.specs.contracts.GlobalAllocator.TheImpl as allocator
 use Rattle.std.specs.Box.Ownership.{box_owns}
-use Rattle.aig_values.specs.contracts.row.plane_row.PlaneRow as plane
-use Rattle.aig_values.specs.contracts.row.plane_row.PlaneRowCellRow.TheImpl as cell_row
-use Rattle.aig_values.specs.contracts.grid.row_grid.RowGrid as grid
-use Rattle.aig_values.specs.contracts.grid.row_grid.RowGridGrid.TheImpl as grid_impl
+use Rattle.aig_values.specs.contracts.grid.plane_grid.PlaneGrid as grid
+use Rattle.aig_values.specs.contracts.grid.plane_grid.PlaneGridGrid.TheImpl as grid_impl
 use Rattle.aig_bench.specs.contracts.bench.Bench as bench
 use Rattle.aig_bench.specs.BenchState.{BenchState}
 
 -- a bench on planes, as the logic holds it
 abbrev pub bench_row : RattleType
-bench_row = bench.the_row (grid.the_row plane.the_row cell_row.ghosts) (grid_impl.ghosts plane.the_row cell_row.ghosts grid_impl.no_dict grid_impl.no_dict)
+bench_row = bench.the_row grid.the_row grid_impl.ghosts
 
 abbrev pub held_coded : Coded (Option BenchState)
 held_coded = coded_option bench_row.coded

@@ -1,5 +1,5 @@
 -- How far a dump has come.
-use Rattle.std.specs.Prelude.{◌≡◌, ℕ, zero, suc, List, [], ◌∷◌, ◌++◌, length, map, replicate, codes, decimal}
+use Rattle.std.specs.Prelude.{◌≡◌, ℕ, zero, suc, ◌^◌, ◌<◌, List, [], ◌∷◌, ◌++◌, length, map, replicate, codes, decimal}
 use Rattle.aig_parts.specs.declared.ternary.Tern.{Tern}
 use Rattle.aig_parts.specs.declared.raw.Raw.{Raw}
 use Rattle.aig_sim.specs.Dump.{signals, changed_lines, AreFrames}
@@ -9,6 +9,11 @@ use Rattle.aig_values.specs.TraceText.{literal_character}
 -- the line of a time of 64 bits
 abbrev pub time_line : ℕ → List ℕ
 time_line t = 35 ∷ (decimal t ++ 10 ∷ [])
+
+-- two characters for each signal: the one before, and the one now
+pub record ArePairs (bs cs : List ℕ) : Type 0 where
+  pub size : length bs ≡ length cs
+  pub few : length cs < 2 ^ 32
 
 -- the text of a frame by the characters that are kept and its own
 abbrev pub dumped_text : ℕ → List ℕ → List ℕ → List ℕ

@@ -1,11 +1,11 @@
 //! Numbers, identifier codes and values in a value change dump.
-ghost use Rattle.std.specs.Prelude.{◌≡◌, ◌<◌, ◌≤◌, ◌^◌, ◌==◌, if◌then◌else◌, [], ◌++◌, length, take, decimal};
+ghost use Rattle.std.specs.Prelude.{◌≡◌, ◌<◌, ◌≤◌, ◌==◌, if◌then◌else◌, [], ◌++◌, length, take, decimal};
 ghost use Rattle.std.specs.Prelude.{false, IsTrue};
 ghost use Rattle.aig_bytes.specs.Bytes.{Writes};
 ghost use Rattle.aig_bytes.specs.Gathered.{Gathers};
 ghost use Rattle.aig_sim.specs.Dump.{value_line, changed_lines};
 ghost use Rattle.aig_names.specs.Names.{identifier_code};
-ghost use Rattle.aig_sim.specs.state.Dumping.{time_line, dumped_text};
+ghost use Rattle.aig_sim.specs.state.Dumping.{time_line, dumped_text, ArePairs};
 
 use aig_base::{Io, Write};
 use aig_values::trace_line::TraceBlock;
@@ -111,8 +111,7 @@ fn put_changes<W: Write>(
     before: &[u8],
     after: &[u8],
 ) -> Result<(), Io>
-    requires size { length before.now ≡ length after.now }
-    requires few { length after.now < 2 ^ 32 }
+    requires { ArePairs before.now after.now }
     ensures { Gathers W.written W.failures out.old out.new block.old block.new
         (changed_lines 0 before.now after.now) result }
 {
@@ -130,8 +129,7 @@ fn put_frame<W: Write>(
     before: &[u8],
     after: &[u8],
 ) -> Result<(), Io>
-    requires size { length before.now ≡ length after.now }
-    requires few { length after.now < 2 ^ 32 }
+    requires { ArePairs before.now after.now }
     ensures { Gathers W.written W.failures out.old out.new block.old block.new
         (dumped_text frame before.now after.now) result }
 {
@@ -153,8 +151,7 @@ pub fn write_frame<W: Write>(
     before: &[u8],
     after: &[u8],
 ) -> Result<(), Io>
-    requires size { length before.now ≡ length after.now }
-    requires few { length after.now < 2 ^ 32 }
+    requires { ArePairs before.now after.now }
     ensures { Writes W.written W.failures out.old out.new (dumped_text frame before.now after.now) result }
 {
     block.clear();

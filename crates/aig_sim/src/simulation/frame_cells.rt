@@ -15,48 +15,30 @@ ghost use Rattle.aig_sim.specs.state.Machine.{Steps};
 use aig_base::{Circuit, Gate, Tern};
 use aig_values::code::{Code, code_in};
 
-// Writes the inputs' values, one by one.
-fn put_each_input(cells: &mut [Code], circuit: &Circuit, row: &[Tern])
-    requires circuit { IsCircuit circuit.now }
-    requires cells { length cells.old ≡ circuit.now.max_var + 1 }
-    requires row { length row.now ≡ length circuit.now.inputs }
-    ensures { PutsInputs circuit.now row.now cells.old cells.new }
-{
-    for (position, input) in circuit.inputs().iter().enumerate() {
-        cells[input.var() as usize] = Code::of(row[position]);
-    }
-}
-
-// Writes the values of inputs that are neighbours from this variable on, many at a time.
-fn put_contiguous(cells: &mut [Code], circuit: &Circuit, row: &[Tern], first: usize)
-    requires circuit { IsCircuit circuit.now }
-    requires cells { length cells.old ≡ circuit.now.max_var + 1 }
-    requires row { length row.now ≡ length circuit.now.inputs }
-    requires contiguous { AreContiguous first circuit.now.inputs }
-    ensures { PutsInputs circuit.now row.now cells.old cells.new }
-{
-    for (position, value) in row.iter().enumerate() {
-        cells[first + position] = Code::of(*value);
-    }
-}
-
-// Writes the inputs' values, which may be known to be neighbours from some variable on.
+// Writes the inputs' values. Those that are known to be neighbours from some variable on are written many at a time.
 fn put_inputs(cells: &mut [Code], circuit: &Circuit, row: &[Tern], first: Option<usize>)
-    requires circuit { IsCircuit circuit.now }
     requires cells { length cells.old ≡ circuit.now.max_var + 1 }
     requires row { length row.now ≡ length circuit.now.inputs }
     requires first { IfSome first (λ v. AreContiguous v circuit.now.inputs) }
     ensures { PutsInputs circuit.now row.now cells.old cells.new }
 {
+    circuit.facts();
     match first {
-        Some(variable) => put_contiguous(cells, circuit, row, variable),
-        None => put_each_input(cells, circuit, row),
+        Some(first) => {
+            for (position, value) in row.iter().enumerate() {
+                cells[first + position] = Code::of(*value);
+            }
+        }
+        None => {
+            for (place, input) in circuit.inputs().iter().enumerate() {
+                cells[input.var() as usize] = Code::of(row[place]);
+            }
+        }
     }
 }
 
 // Writes the latches' values.
 fn put_latches(cells: &mut [Code], circuit: &Circuit, states: &[Code])
-    requires circuit { IsCircuit circuit.now }
     requires cells { length cells.old ≡ circuit.now.max_var + 1 }
     requires states { length states.now ≡ length circuit.now.latches }
     ensures renews { (start : List Tern) (rows : List (List Tern)) (t : ℕ)
@@ -66,30 +48,10 @@ fn put_latches(cells: &mut [Code], circuit: &Circuit, states: &[Code])
         → AreStates circuit.now start rows t states.now →
         HoldsLatches circuit.now start rows t cells.new }
 {
+    circuit.facts();
     for (position, latch) in circuit.latches().iter().enumerate() {
         cells[latch.lit.var() as usize] = states[position];
     }
-}
-
-// Writes the values of variable 0, the inputs and the latches.
-fn put_sources(
-    cells: &mut [Code],
-    circuit: &Circuit,
-    row: &[Tern],
-    first: Option<usize>,
-    states: &[Code],
-)
-    requires circuit { IsCircuit circuit.now }
-    requires cells { length cells.old ≡ circuit.now.max_var + 1 }
-    requires row { length row.now ≡ length circuit.now.inputs }
-    requires first { IfSome first (λ v. AreContiguous v circuit.now.inputs) }
-    requires states { length states.now ≡ length circuit.now.latches }
-    ensures { (start : List Tern) (rows : List (List Tern)) (t : ℕ) → slice_get rows t ≡ Some row.now →
-        AreStates circuit.now start rows t states.now → HoldsSources circuit.now start rows t cells.new }
-{
-    cells[0] = Code::of(Tern::Zero);
-    put_inputs(cells, circuit, row, first);
-    put_latches(cells, circuit, states);
 }
 
 // Evaluates the gates in turn: the cell of each becomes the AND of its right sides. Where the cells of the sources are
@@ -110,11 +72,11 @@ fn evaluate_frame(cells: &mut [Code], gates: &[Gate])
 
 // Replaces the latches' values by those of the next frame.
 fn renew_states(states: &mut [Code], circuit: &Circuit, cells: &[Code])
-    requires circuit { IsCircuit circuit.now }
     requires cells { length cells.now ≡ circuit.now.max_var + 1 }
     requires states { length states.old ≡ length circuit.now.latches }
     ensures { states.new ≡ map (λ x. literal_value cells.now x.next) circuit.now.latches }
 {
+    circuit.facts();
     for (position, latch) in circuit.latches().iter().enumerate() {
         states[position] = code_in(cells, latch.next);
     }
@@ -131,22 +93,6 @@ pub struct FramePlan<'a> {
 }
 
 impl FramePlan<'_> {
-    // Gives the cells of a frame their values, by its row of input values and the latches' values.
-    fn evaluate_row(&self, cells: &mut [Code], row: &[Tern], states: &[Code])
-        requires circuit { IsCircuit self.now.circuit.now }
-        requires gates { IsGateOrder self.now.circuit.now self.now.gates.now }
-        requires first { IfSome self.now.first (λ v. AreContiguous v self.now.circuit.now.inputs) }
-        requires cells { length cells.old ≡ self.now.circuit.now.max_var + 1 }
-        requires row { length row.now ≡ length self.now.circuit.now.inputs }
-        requires states { length states.now ≡ length self.now.circuit.now.latches }
-        ensures { (start : List Tern) (rows : List (List Tern)) (t : ℕ) → slice_get rows t ≡ Some row.now →
-            AreStates self.now.circuit.now start rows t states.now →
-            HoldsAll self.now.circuit.now start rows t cells.new }
-    {
-        put_sources(cells, self.circuit, row, self.first, states);
-        evaluate_frame(cells, self.gates);
-    }
-
     /// Gives the cells the values of a frame, and the latches those after it.
     pub fn run_row(&self, cells: &mut [Code], states: &mut [Code], row: &[Tern])
         requires circuit { IsCircuit self.now.circuit.now }
@@ -159,7 +105,10 @@ impl FramePlan<'_> {
             AreStates self.now.circuit.now start rows (length rows) states.old →
             Steps self.now.circuit.now start rows row.now cells.new states.new }
     {
-        self.evaluate_row(cells, row, states);
+        cells[0] = Code::of(Tern::Zero);
+        put_inputs(cells, self.circuit, row, self.first);
+        put_latches(cells, self.circuit, states);
+        evaluate_frame(cells, self.gates);
         renew_states(states, self.circuit, cells);
     }
 }

@@ -3,7 +3,7 @@ ghost use Rattle.std.specs.Prelude.{◌≡◌, ◌≢◌, ℕ, ◌≤◌, ◌<�
 ghost use Rattle.std.specs.Prelude.{IfOk, IfErr, OnOk, OnErr, IfSome, IfNone, Some, take, slice_get};
 ghost use Rattle.aig_values.specs.Characters.{character};
 ghost use Rattle.aig_sim.specs.StimulusText.{line_number, IsCharacter, EndsLine, HasFault};
-ghost use Rattle.aig_sim.specs.RowParser.{KeepsLine, IsOfLine};
+ghost use Rattle.aig_sim.specs.RowParser.{KeepsLine, KeepsReserve, IsOfLine};
 
 use crate::stimulus::fault::StimFault;
 use aig_base::{Memory, Tern, line_length};
@@ -132,25 +132,6 @@ impl RowParser {
         self.values.clear();
     }
 
-    // Takes a character. It needs memory only where there is no room for the width.
-    fn push_value(&mut self, value: Tern) -> Result<(), Memory>
-        ensures width { self.new.width ≡ self.old.width }
-        ensures keeps { OnOk result ((line : List ℕ) →
-            KeepsLine self.old.width line self.old.shape self.old.values →
-            KeepsLine self.old.width (line ++ character value ∷ []) self.new.shape self.new.values) }
-        ensures err { OnErr result (self.old.room < self.old.width) }
-        ensures room { self.old.room ≤ self.new.room }
-    {
-        if let Shape::Row = self.shape {
-            if self.values.len() < self.width {
-                self.values.push(value)?;
-            } else {
-                self.shape = Shape::Long;
-            }
-        }
-        Ok(())
-    }
-
     /// Takes the line's next byte. It needs memory only where there is no room for the width.
     pub fn push(&mut self, byte: u8) -> Result<(), Memory>
         ensures width { self.new.width ≡ self.old.width }
@@ -161,7 +142,16 @@ impl RowParser {
         ensures room { self.old.room ≤ self.new.room }
     {
         match value_of(byte) {
-            Some(value) => self.push_value(value),
+            Some(value) => {
+                if let Shape::Row = self.shape {
+                    if self.values.len() < self.width {
+                        self.values.push(value)?;
+                    } else {
+                        self.shape = Shape::Long;
+                    }
+                }
+                Ok(())
+            }
             None => {
                 self.shape = Shape::Wrong;
                 Ok(())
@@ -172,12 +162,10 @@ impl RowParser {
     // Takes characters. It needs memory only where there is no room for the width.
     fn extend_values(&mut self, text: &[u8]) -> Result<(), Memory>
         requires { All IsCharacter text.now }
-        ensures width { self.new.width ≡ self.old.width }
+        ensures reserve { KeepsReserve self.old self.new result }
         ensures keeps { OnOk result ((line : List ℕ) →
             KeepsLine self.old.width line self.old.shape self.old.values →
             KeepsLine self.old.width (line ++ text.now) self.new.shape self.new.values) }
-        ensures err { OnErr result (self.old.room < self.old.width) }
-        ensures room { self.old.room ≤ self.new.room }
     {
         if let Shape::Row = self.shape {
             let filled = self.values.len();
@@ -211,15 +199,13 @@ impl RowParser {
     /// Takes the line's bytes up to its LF, or all where there is none, and returns how many it took. It needs memory
     /// only where there is no room for the width.
     pub(crate) fn take_line(&mut self, bytes: &[u8]) -> Result<usize, Memory>
-        ensures width { self.new.width ≡ self.old.width }
+        ensures reserve { KeepsReserve self.old self.new result }
         ensures bound { IfOk result (λ count. count ≤ length bytes.now) }
         ensures no_end { IfOk result (λ count. All (λ b. b ≢ 10) (take count bytes.now)) }
         ensures ended { IfOk result (λ count. count < length bytes.now → slice_get bytes.now count ≡ Some 10) }
         ensures keeps { IfOk result (λ count. (line : List ℕ) →
             KeepsLine self.old.width line self.old.shape self.old.values →
             KeepsLine self.old.width (line ++ take count bytes.now) self.new.shape self.new.values) }
-        ensures err { OnErr result (self.old.room < self.old.width) }
-        ensures room { self.old.room ≤ self.new.room }
     {
         // Most lines are rows. Their length is known, so no LF is searched.
         let width = self.width;

@@ -7,6 +7,10 @@ use Rattle.aig_parts.specs.declared.ternary.Tern.TheVariants.{X}
 use Rattle.aig_parts.specs.Limits.{frame_limit}
 use Rattle.aig_values.specs.InputRows.{row_at}
 
+-- how many cells are asked for at a time: some, and no more than there are variables
+abbrev pub IsRowSize : ℕ → Type 0
+IsRowSize size = (0 < size) × (size ≤ limit + 1)
+
 -- a row for n variables with cells for as many as the room says; all cells after the n are x, as a cell that comes
 -- later has to be
 abbrev pub IsPadded : ℕ → ℕ → List Tern → Type 0

@@ -3,7 +3,7 @@ ghost use Rattle.std.specs.Prelude.{◌≡◌, ℕ, ◌+◌, ◌<◌, ◌≤◌,
 ghost use Rattle.aig_parts.specs.Formed.{limit};
 ghost use Rattle.aig_parts.specs.Literal.{variable};
 ghost use Rattle.aig_values.specs.Cells.{fresh_row, literal_value, with_gate_value, HasVariablesBelow};
-ghost use Rattle.aig_values.specs.state.Padded.{AreLengthened};
+ghost use Rattle.aig_values.specs.state.Padded.{AreLengthened, IsRowSize};
 ghost use Rattle.aig_values.specs.TraceText.{literal_character};
 
 use crate::code::Code;
@@ -11,7 +11,6 @@ use crate::gate_order::gate_flags::GateFlags;
 use crate::grid::Grid;
 use crate::row::byte_row::ByteRow;
 use crate::row::cell_row::CellRow;
-use crate::row::plane_row::PlaneRow;
 use aig_bytes::{Count, Memory};
 use aig_parts::{Gate, Lit, Tern};
 use std::alloc::{AllocError, Global};
@@ -50,9 +49,6 @@ impl<R: CellRow> Drop for RowGrid<R> {
 /// A grid that keeps a byte for each cell.
 pub type ByteGrid = RowGrid<ByteRow>;
 
-/// A grid that keeps two bits for each cell, in two planes.
-pub type PlaneGrid = RowGrid<PlaneRow>;
-
 impl<R: CellRow> Model for RowGrid<R> {
     ghost use Rattle.std.specs.Prelude.{map, take, nat_lt};
     ghost use Rattle.aig_values.specs.Cells.{Cells};
@@ -87,23 +83,15 @@ fn character_in<R: CellRow>(row: &R, literal: Lit) -> u8
     row.get(literal.var() as usize).character(literal.is_neg())
 }
 
-// Evaluates gates one after the other, in the order of the slice.
-fn sweep_in<R: CellRow>(row: &mut R, gates: &[Gate])
-    requires { All (HasVariablesBelow (length (R.cells row.old))) gates.now }
-    ensures { R.cells row.new ≡ fold with_gate_value (R.cells row.old) gates.now }
-{
-    for gate in gates {
-        let _changed = row.evaluate(*gate);
-    }
-}
-
-// Evaluates gates one after the other, at once where the row has a way to.
+// Evaluates gates one after the other, in the order of the slice; at once where the row has a way to.
 fn sweep_row<R: CellRow>(row: &mut R, codes: &mut Vec<Code>, gates: &[Gate])
     requires { All (HasVariablesBelow (length (R.cells row.old))) gates.now }
     ensures { R.cells row.new ≡ fold with_gate_value (R.cells row.old) gates.now }
 {
     if !row.sweep_at_once(codes, gates) {
-        sweep_in(row, gates);
+        for gate in gates {
+            let _changed = row.evaluate(*gate);
+        }
     }
 }
 
@@ -122,8 +110,7 @@ fn make_room<R: CellRow>(rows: &mut [R], size: usize) -> Result<(), AllocError>
 
 // A row with room for this many cells at least, in the memory of the spare one: 0 at variable 0, x everywhere else.
 fn next_row<R: CellRow>(spare: &mut Option<R>, alloc: Global, size: usize) -> Result<R, AllocError>
-    requires positive { 0 < size }
-    requires limit { size ≤ limit + 1 }
+    requires { IsRowSize size }
     ensures { IfOk result (λ row. (room : ℕ) × (size ≤ room) × (R.cells row ≡ fresh_row room)) }
 {
     match spare.take() {

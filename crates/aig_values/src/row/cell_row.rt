@@ -7,7 +7,7 @@ ghost use Rattle.aig_parts.specs.declared.ternary.Tern.TheVariants.{X};
 ghost use Rattle.aig_parts.specs.Literal.{variable};
 ghost use Rattle.aig_values.specs.Cells.{fresh_row, gate_value, literal_value, with_gate_value, HasVariablesBelow};
 ghost use Rattle.aig_values.specs.TraceText.{literal_character};
-ghost use Rattle.aig_values.specs.state.Padded.{IsLengthened};
+ghost use Rattle.aig_values.specs.state.Padded.{IsLengthened, IsRowSize};
 
 use crate::code::Code;
 use aig_parts::{Gate, Lit};
@@ -20,14 +20,12 @@ pub trait CellRow: Sized + Drop {
 
     /// A row with room for this many cells at least: 0 at variable 0, x everywhere else.
     fn new(alloc: Global, size: usize) -> Result<Self, AllocError>
-        requires positive { 0 < size }
-        requires limit { size ≤ limit + 1 }
+        requires { IsRowSize size }
         ensures { IfOk result (λ row. (room : ℕ) × (size ≤ room) × (cells row ≡ fresh_row room)) };
 
     /// A row as `new` makes it, in the memory of this one where it is used again.
     fn renewed(self, alloc: Global, size: usize) -> Result<Self, AllocError>
-        requires positive { 0 < size }
-        requires limit { size ≤ limit + 1 }
+        requires { IsRowSize size }
         ensures { IfOk result (λ row. (room : ℕ) × (size ≤ room) × (cells row ≡ fresh_row room)) }
     {
         Self::new(alloc, size)

@@ -4,7 +4,7 @@ ghost use Rattle.std.specs.Int.{bit_at};
 ghost use Rattle.aig_parts.specs.declared.ternary.Tern.{Tern};
 ghost use Rattle.aig_parts.specs.declared.ternary.Tern.TheVariants.{X};
 ghost use Rattle.aig_values.specs.Cells.{with_gate_value, HasVariablesBelow};
-ghost use Rattle.aig_values.specs.state.LiteralCodes.{by_literal, signed_value};
+ghost use Rattle.aig_values.specs.state.LiteralCodes.{by_literal, signed_value, WritesCodes};
 ghost use Rattle.aig_values.specs.state.Words.{spelled, value_in, group_value, one_of, zero_of, AreWhole};
 
 use crate::code::Code;
@@ -89,9 +89,7 @@ const GROUP_CODES: [u8; 2048] = [
 fn unpack_group(codes: &mut [Code], from: usize, group: usize)
     requires group { group < 256 }
     requires room { from + 8 ≤ length codes.old }
-    ensures there { (k : ℕ) → k < 8
-        → slice_index_or codes.new (from + k) X ≡ signed_value (group_value group (k / 2)) k }
-    ensures before { (k : ℕ) → k < from → slice_index_or codes.new k X ≡ slice_index_or codes.old k X }
+    ensures { WritesCodes from 8 (λ k. signed_value (group_value group (k / 2)) k) codes.old codes.new }
 {
     for place in 0..GROUP {
         codes[from + place] = Code::of_bits(GROUP_CODES[GROUP * group + place]);
@@ -101,9 +99,7 @@ fn unpack_group(codes: &mut [Code], from: usize, group: usize)
 // Writes the codes of 32 cells from a place on, four cells at a time.
 fn unpack_known(codes: &mut [Code], from: usize, bits: u64)
     requires { from + 64 ≤ length codes.old }
-    ensures there { (k : ℕ) → k < 64
-        → slice_index_or codes.new (from + k) X ≡ signed_value (value_in bits (k / 2)) k }
-    ensures before { (k : ℕ) → k < from → slice_index_or codes.new k X ≡ slice_index_or codes.old k X }
+    ensures { WritesCodes from 64 (λ k. signed_value (value_in bits (k / 2)) k) codes.old codes.new }
 {
     let mut rest = bits;
     for group in 0..GROUP {
@@ -115,8 +111,7 @@ fn unpack_known(codes: &mut [Code], from: usize, bits: u64)
 // Writes the codes of 32 cells of x from a place on.
 fn unpack_unknown(codes: &mut [Code], from: usize)
     requires { from + 64 ≤ length codes.old }
-    ensures there { (k : ℕ) → k < 64 → slice_index_or codes.new (from + k) X ≡ X }
-    ensures before { (k : ℕ) → k < from → slice_index_or codes.new k X ≡ slice_index_or codes.old k X }
+    ensures { WritesCodes from 64 (λ k. X) codes.old codes.new }
 {
     for place in 0..CODES {
         codes[from + place] = Code::of(Tern::X);
@@ -126,9 +121,7 @@ fn unpack_unknown(codes: &mut [Code], from: usize)
 // Writes the codes of 32 cells from a place on. In a new frame most words have x alone.
 fn unpack_word(codes: &mut [Code], from: usize, bits: u64)
     requires { from + 64 ≤ length codes.old }
-    ensures there { (k : ℕ) → k < 64
-        → slice_index_or codes.new (from + k) X ≡ signed_value (value_in bits (k / 2)) k }
-    ensures before { (k : ℕ) → k < from → slice_index_or codes.new k X ≡ slice_index_or codes.old k X }
+    ensures { WritesCodes from 64 (λ k. signed_value (value_in bits (k / 2)) k) codes.old codes.new }
 {
     if bits == 0 {
         unpack_unknown(codes, from);

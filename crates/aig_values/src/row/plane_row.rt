@@ -7,6 +7,7 @@ ghost use Rattle.aig_parts.specs.Literal.{variable};
 ghost use Rattle.aig_values.specs.Cells.{fresh_row};
 ghost use Rattle.aig_values.specs.Characters.{character};
 ghost use Rattle.aig_values.specs.TraceText.{literal_character};
+ghost use Rattle.aig_values.specs.state.Padded.{IsRowSize};
 ghost use Rattle.aig_values.specs.state.Words.{spelled, value_in, group_value, AreWhole};
 
 use crate::code::Code;
@@ -199,8 +200,7 @@ fn word_count(size: usize) -> usize
 
 // A row with room for this many cells at least, in this memory: 0 at variable 0, x everywhere else.
 fn fresh(mut words: Vec<u64>, size: usize) -> Result<PlaneRow, AllocError>
-    requires positive { 0 < size }
-    requires limit { size ≤ limit + 1 }
+    requires { IsRowSize size }
     ensures { IfOk result (λ row. (room : ℕ) × (size ≤ room) × (row ≡ fresh_row room)) }
 {
     words.clear();

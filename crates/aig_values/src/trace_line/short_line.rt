@@ -2,7 +2,6 @@
 ghost use Rattle.std.specs.Prelude.{◌≡◌, ℕ, ◌+◌, ◌*◌, ◌<◌, ◌≤◌, [], ◌∷◌, ◌++◌, length, map, take, All, IsTrue, Some};
 ghost use Rattle.std.specs.Prelude.{slice_get};
 ghost use Rattle.aig_bytes.specs.Bytes.{Writes};
-ghost use Rattle.aig_base.specs.Circuit.{IsCircuit};
 ghost use Rattle.aig_parts.specs.Literal.{variable};
 ghost use Rattle.aig_values.specs.TraceText.{literal_character, line_text};
 ghost use Rattle.aig_values.specs.state.Fields.{literals_of};
@@ -65,11 +64,11 @@ pub(crate) fn has_short_lines(circuit: &Circuit) -> bool
 fn spell_line<R: Row>(text: &mut [u8], circuit: &Circuit, row: &R) -> usize
     requires text { length text.old ≡ 64 }
     requires short { 2 * length circuit.now.latches + length circuit.now.inputs + length circuit.now.outputs ≤ 60 }
-    requires circuit { IsCircuit circuit.now }
     requires row { (v : ℕ) → v ≤ circuit.now.max_var → R.has row.now v }
     ensures line { take result text.new ≡ line_text circuit.now (R.cells row.now) }
     ensures bound { result ≤ length text.new }
 {
+    circuit.facts();
     let at = spell_at(text, 0, row, Field::States(circuit.latches()), b' ');
     let at = spell_at(text, at, row, Field::Literals(circuit.inputs()), b' ');
     let at = spell_at(text, at, row, Field::Literals(circuit.outputs()), b' ');
@@ -83,7 +82,6 @@ pub(crate) fn write_short_line<R: Row, W: Write>(
     row: &R,
 ) -> Result<(), Io>
     requires short { 2 * length circuit.now.latches + length circuit.now.inputs + length circuit.now.outputs ≤ 60 }
-    requires circuit { IsCircuit circuit.now }
     requires row { (v : ℕ) → v ≤ circuit.now.max_var → R.has row.now v }
     ensures { Writes W.written W.failures out.old out.new (line_text circuit.now (R.cells row.now)) result }
 {

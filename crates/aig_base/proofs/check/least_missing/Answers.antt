@@ -4,5 +4,5 @@ use Rattle.aig_base.proofs.check.least_missing.Goals as goal
 
 pub returns-then-len-raw : goal.returns-then-len-raw
 returns-then-len-raw c =
-    known_by_count c.args.raw.now c.args.table.now c.requires.range c.requires.definitions c.requires.entries
+    known_by_count c.args.raw.now c.args.table.now c.requires.parts.range c.requires.definitions c.requires.entries
     (omega arith)

@@ -12,7 +12,7 @@ least_unmarked-requires c =
     let n = length c.as_slice.result.now in
     let size : n ≡ raw.max_var + 1 = ap length c.as_slice.ensures.value ∙ marks.size in
     subst (λ (gs : List Gate). All (λ g. variable g.lhs < n) gs) (sym c.as_slice-2.ensures)
-    (λ k d l. let h : (get_or raw.gates k d).lhs ≤ 2 * raw.max_var + 1 = (c.requires.range.gates k d l).0 in
+    (λ k d l. let h : (get_or raw.gates k d).lhs ≤ 2 * raw.max_var + 1 = (c.requires.parts.range.gates k d l).0 in
     omega arith)
 
 pub returns : goal.returns

@@ -16,8 +16,8 @@ reads_marked-requires c =
     let g = c.gate-item.result in
     let at : slice_get raw.gates i ≡ Some g =
     item_at _ _ i g c.gates-gate-items.ensures c.loop-gate-test.true c.gate-item.is in
-    let fits0 = rhs0_in_range raw c.requires.circuit.sound i g at in
-    let fits1 = rhs1_in_range raw c.requires.circuit.sound i g at in
+    let fits0 = rhs0_in_range raw c.facts.ensures.sound i g at in
+    let fits1 = rhs1_in_range raw c.facts.ensures.sound i g at in
     record {
       rhs0 = omega (arith, c.loop-gate.invariant.size);
       rhs1 = omega (arith, c.loop-gate.invariant.size);
@@ -42,7 +42,7 @@ bounds-marks-var c =
     let g = c.gate-item.result in
     let at : slice_get raw.gates i ≡ Some g =
     item_at _ _ i g c.gates-gate-items.ensures c.loop-gate-test.true c.gate-item.is in
-    let fits = gate_in_range raw c.requires.circuit.sound i g at in
+    let fits = gate_in_range raw c.facts.ensures.sound i g at in
     omega (arith, c.var.ensures, c.loop-gate.invariant.size)
 
 pub loop-gate-preserved : goal.loop-gate-preserved
@@ -53,7 +53,7 @@ loop-gate-preserved c =
     let marks = c.loop-gate.marks in
     let at : slice_get raw.gates i ≡ Some g =
     item_at _ _ i g c.gates-gate-items.ensures c.loop-gate-test.true c.gate-item.is in
-    let fits = gate_in_range raw c.requires.circuit.sound i g at in
+    let fits = gate_in_range raw c.facts.ensures.sound i g at in
     let both = c.reads_marked.ensures.0 c.if-not-reads_marked.false in
     record {
       size = length-set _ _ _ ∙ c.loop-gate.invariant.size;

@@ -17,7 +17,7 @@ loop-input-preserved c =
     let l = c.input-item.result in
     let at : slice_get raw.inputs i ≡ Some l =
     item_at _ _ i l c.inputs-input-items.ensures c.loop-input-test.true c.input-item.is in
-    let fits = input_in_range raw c.requires.circuit.sound i l at in
+    let fits = input_in_range raw c.facts.ensures.sound i l at in
     record {
       size = length-set _ _ _ ∙ c.loop-input.invariant.size;
       added = adds_more variable raw.inputs i l c.var.result c.args.marks.now c.loop-input.marks at c.var.ensures

@@ -18,7 +18,7 @@ bounds-marks-var c =
     let l = c.latch-item.result in
     let at : slice_get raw.latches i ≡ Some l =
     item_at _ _ i l c.latches-latch-items.ensures c.loop-latch-test.true c.latch-item.is in
-    let fits = latch_in_range raw c.requires.circuit.sound i l at in
+    let fits = latch_in_range raw c.facts.ensures.sound i l at in
     omega (arith, c.var.ensures, c.loop-latch.invariant.size)
 
 pub loop-latch-preserved : goal.loop-latch-preserved
@@ -28,7 +28,7 @@ loop-latch-preserved c =
     let l = c.latch-item.result in
     let at : slice_get raw.latches i ≡ Some l =
     item_at _ _ i l c.latches-latch-items.ensures c.loop-latch-test.true c.latch-item.is in
-    let fits = latch_in_range raw c.requires.circuit.sound i l at in
+    let fits = latch_in_range raw c.facts.ensures.sound i l at in
     record {
       size = length-set _ _ _ ∙ c.loop-latch.invariant.size;
       added = adds_more (λ (x : Latch). variable x.lit) raw.latches i l c.var.result c.args.marks.now c.loop-latch.marks

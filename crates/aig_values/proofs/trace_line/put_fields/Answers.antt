@@ -11,23 +11,23 @@ pub put_field-requires-clause-row : goal.put_field-requires-clause-row
 put_field-requires-clause-row g c =
     All-map (λ l. g.R.Row.has c.args.row.now (variable l)) (λ (x : Latch). x.lit) c.latches.result.now
     (all_have (g.R.Row.has c.args.row.now) (λ x. x.lit) c.args.circuit.now.max_var c.latches.result.now _ c.latches.ensures c.requires.row
-    (latch_in_range c.args.circuit.now c.requires.circuit.sound))
+    (latch_in_range c.args.circuit.now c.facts.ensures.sound))
 
 pub put_field-requires-2-clause-row : goal.put_field-requires-2-clause-row
 put_field-requires-2-clause-row g c =
     all_have (g.R.Row.has c.args.row.now) (λ l. l) c.args.circuit.now.max_var c.inputs.result.now _ c.inputs.ensures c.requires.row
-    (input_in_range c.args.circuit.now c.requires.circuit.sound)
+    (input_in_range c.args.circuit.now c.facts.ensures.sound)
 
 pub put_field-requires-3-clause-row : goal.put_field-requires-3-clause-row
 put_field-requires-3-clause-row g c =
     all_have (g.R.Row.has c.args.row.now) (λ l. l) c.args.circuit.now.max_var c.outputs.result.now _ c.outputs.ensures c.requires.row
-    (output_in_range c.args.circuit.now c.requires.circuit.sound)
+    (output_in_range c.args.circuit.now c.facts.ensures.sound)
 
 pub put_field-requires-4-clause-row : goal.put_field-requires-4-clause-row
 put_field-requires-4-clause-row g c =
     All-map (λ l. g.R.Row.has c.args.row.now (variable l)) (λ (x : Latch). x.next) c.latches-2.result.now
     (all_have (g.R.Row.has c.args.row.now) (λ x. x.next) c.args.circuit.now.max_var c.latches-2.result.now _ c.latches-2.ensures c.requires.row
-    (next_in_range c.args.circuit.now c.requires.circuit.sound))
+    (next_in_range c.args.circuit.now c.facts.ensures.sound))
 
 pub returns-in_err-put_field : goal.returns-in_err-put_field
 unfolding fields_text

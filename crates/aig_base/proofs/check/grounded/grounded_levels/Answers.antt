@@ -16,7 +16,7 @@ returns-clause-marks c =
     ≡ source_variables raw = rw (c.as_slice.ensures, c.as_slice-2.ensures) refl in
     (marking_ends raw c.requires.sound next marks c.in_ok-marking.marking.walk.pending.items
     (started_same _ (source_variables raw) _ _ same c.in_ok-marking.ensures.started)
-    c.deref_mut.result.now new.met.items c.close.new.levels c.requires.counts.max_var
+    c.deref_mut.result.now new.met.items c.close.new.levels c.requires.parts.counts.max_var
     (c.deref_mut.ensures.value ∙ c.in_ok-levels.ensures.items_if_clones_equal (λ y e. e))
     c.in_ok-marking.ensures.size c.in_ok-close.ensures.size
     (λ i. subst (λ (us : List ℕ). IsMarking raw next 0 new.met.items us c.close.new.levels) c.in_ok-close.ensures.done
@@ -33,7 +33,7 @@ returns-clause-levels c =
     rw (take_at c.close.new.levels _ c.in_ok-levels.levels.len (omega (arith, c.in_ok-levels.levels.ok)))
     (marking_ends raw c.requires.sound next marks c.in_ok-marking.marking.walk.pending.items
     (started_same _ (source_variables raw) _ _ same c.in_ok-marking.ensures.started)
-    c.deref_mut.result.now new.met.items c.close.new.levels c.requires.counts.max_var
+    c.deref_mut.result.now new.met.items c.close.new.levels c.requires.parts.counts.max_var
     (c.deref_mut.ensures.value ∙ c.in_ok-levels.ensures.items_if_clones_equal (λ y e. e))
     c.in_ok-marking.ensures.size c.in_ok-close.ensures.size
     (λ i. subst (λ (us : List ℕ). IsMarking raw next 0 new.met.items us c.close.new.levels) c.in_ok-close.ensures.done

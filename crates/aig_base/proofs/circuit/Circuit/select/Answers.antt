@@ -8,4 +8,4 @@ pub put_properties-requires : goal.put_properties-requires
 put_properties-requires c =
     subst (λ (r : Raw). IsCircuit r) (sym c.in_ok-new.ensures)
     (selected-circuit c.args.self.now c.args.from c.args.into c.args.named.now c.max_var-max_var.ensures.circuit
-    c.in_ok-test_selection.ensures.named c.in_ok-test_selection.ensures.few)
+    c.in_ok-test_selection.ensures.possible.1 c.in_ok-test_selection.ensures.possible.0)

@@ -14,7 +14,7 @@ bounds-cells-var c =
     let at : slice_get raw.latches c.loop-position.position ≡ Some c.latch-item.result =
     item_at _ _ c.loop-position.position c.latch-item.result c.latches-latch-items.ensures c.loop-position-test.true
     c.latch-item.is in
-    let fits = latch_in_range raw c.requires.circuit.sound c.loop-position.position c.latch-item.result at in
+    let fits = latch_in_range raw c.facts.ensures.sound c.loop-position.position c.latch-item.result at in
     omega (arith, c.var.ensures, c.requires.cells)
 
 pub loop-position-preserved : goal.loop-position-preserved
@@ -28,13 +28,13 @@ loop-position-preserved c =
     let at : slice_get raw.latches i
     ≡ Some x = item_at _ _ i x c.latches-latch-items.ensures c.loop-position-test.true c.latch-item.is in
     let lt : i < length states = omega (arith, c.requires.states, ap length c.latches-latch-items.ensures) in
-    let fits = latch_in_range raw c.requires.circuit.sound i x at in
+    let fits = latch_in_range raw c.facts.ensures.sound i x at in
     let wide : c.var.result < length cells = omega (arith, c.var.ensures, c.requires.cells) in
     let value : slice_get states i ≡ Some w =
     item_at states states i w refl lt c.index-states-position.is in
     let put = λ (start : List Tern) (rows : List (List Tern)) (t : ℕ) (h : AreStates raw start rows t states).
     put_value raw start rows t c.args.cells.now cells c.var.result (variable x.lit) w c.var.ensures wide
-    (latch_value raw start rows t states i x w c.requires.circuit.sound h at value)
+    (latch_value raw start rows t states i x w c.facts.ensures.sound h at value)
     (c.loop-position.invariant.renews start rows t h) in
     record {
       renews = λ start rows t h. (put start rows t h).0;

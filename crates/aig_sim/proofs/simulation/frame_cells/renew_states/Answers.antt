@@ -9,5 +9,5 @@ code_in-requires c =
     let at : slice_get raw.latches c.loop-position.position ≡ Some c.latch-item.result =
     item_at _ _ c.loop-position.position c.latch-item.result c.latches-latch-items.ensures c.loop-position-test.true
     c.latch-item.is in
-    let fits = next_in_range raw c.requires.circuit.sound c.loop-position.position c.latch-item.result at in
+    let fits = next_in_range raw c.facts.ensures.sound c.loop-position.position c.latch-item.result at in
     omega (arith, c.requires.cells)

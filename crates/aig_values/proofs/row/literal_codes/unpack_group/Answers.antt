@@ -29,5 +29,8 @@ loop-place-preserved c =
       before = λ k below. get_or-set_other codes (from + place) k x X (λ e. omega arith) ∙ i.before k below;
     }
 
-pub returns-clause-there : goal.returns-clause-there
-returns-clause-there c k lt = c.loop-place.invariant.there k (omega (arith, c.loop-place-test.false, lt))
+pub returns : goal.returns
+returns c = record {
+  there = λ k lt. c.loop-place.invariant.there k (omega (arith, c.loop-place-test.false, lt));
+  before = c.loop-place.invariant.before;
+}

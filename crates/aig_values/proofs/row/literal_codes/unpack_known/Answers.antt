@@ -35,5 +35,8 @@ loop-group-preserved c =
       before = λ k below. c.unpack_group.ensures.before k (omega arith) ∙ i.before k below;
     }
 
-pub returns-clause-there : goal.returns-clause-there
-returns-clause-there c k lt = c.loop-group.invariant.there k (omega (arith, c.loop-group-test.false, lt))
+pub returns : goal.returns
+returns c = record {
+  there = λ k lt. c.loop-group.invariant.there k (omega (arith, c.loop-group-test.false, lt));
+  before = c.loop-group.invariant.before;
+}

@@ -1,9 +1,6 @@
-use Rattle.std.proofs.Common.{◌≡◌, ℕ, ◌+◌, ◌<◌, get_or}
 use Rattle.aig_parts.specs.declared.ternary.Tern.TheVariants.{X}
+use Rattle.aig_values.specs.state.LiteralCodes.{WritesCodes}
 use Rattle.aig_values.proofs.row.literal_codes.unpack_unknown.Given as goal
 
 abbrev pub invariant-loop-place : goal.invariant-loop-place
-invariant-loop-place l = record {
-  there : (k : ℕ) → k < l.place → get_or l.codes (l.from + k) X ≡ X;
-  before : (k : ℕ) → k < l.from → get_or l.codes k X ≡ get_or l.fn.codes k X;
-}
+invariant-loop-place l = WritesCodes l.from l.place (λ k. X) l.fn.codes l.codes

@@ -7,7 +7,7 @@ use Rattle.aig_values.proofs.row.plane_row.fresh.Goals as goal
 pub returns : goal.returns
 returns c =
     let k : ℕ = c.word_count.result in
-    let pos : 0 < k = omega (arith, c.word_count.ensures.least, c.requires.positive) in
+    let pos : 0 < k = omega (arith, c.word_count.ensures.least, c.requires.0) in
     let none : vec_len c.clear.new.self ≡ 0 = omega (arith, ap length c.clear.ensures.items) in
     let words : c.resize.new.self.items ≡ replicate k 0 =
     made_longer c.resize.new.self.items c.clear.new.self.items k (vec_len c.clear.new.self) 0 c.clear.ensures.items none
@@ -20,7 +20,7 @@ returns c =
 pub invariant_of-result : goal.invariant_of-result
 invariant_of-result c =
     let k : ℕ = c.word_count.result in
-    let pos : 0 < k = omega (arith, c.word_count.ensures.least, c.requires.positive) in
+    let pos : 0 < k = omega (arith, c.word_count.ensures.least, c.requires.0) in
     let none : vec_len c.clear.new.self ≡ 0 = omega (arith, ap length c.clear.ensures.items) in
     let words : c.resize.new.self.items ≡ replicate k 0 =
     made_longer c.resize.new.self.items c.clear.new.self.items k (vec_len c.clear.new.self) 0 c.clear.ensures.items none

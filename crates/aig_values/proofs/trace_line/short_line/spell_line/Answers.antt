@@ -12,23 +12,23 @@ pub spell_at-at-requires-clause-row : goal.spell_at-at-requires-clause-row
 spell_at-at-requires-clause-row g c =
     All-map (λ l. g.R.Row.has c.args.row.now (variable l)) (λ (x : Latch). x.lit) c.latches.result.now
     (all_have (g.R.Row.has c.args.row.now) (λ x. x.lit) c.args.circuit.now.max_var c.latches.result.now _ c.latches.ensures c.requires.row
-    (latch_in_range c.args.circuit.now c.requires.circuit.sound))
+    (latch_in_range c.args.circuit.now c.facts.ensures.sound))
 
 pub spell_at-at-requires-2-clause-row : goal.spell_at-at-requires-2-clause-row
 spell_at-at-requires-2-clause-row g c =
     all_have (g.R.Row.has c.args.row.now) (λ l. l) c.args.circuit.now.max_var c.inputs.result.now _ c.inputs.ensures c.requires.row
-    (input_in_range c.args.circuit.now c.requires.circuit.sound)
+    (input_in_range c.args.circuit.now c.facts.ensures.sound)
 
 pub spell_at-at-requires-3-clause-row : goal.spell_at-at-requires-3-clause-row
 spell_at-at-requires-3-clause-row g c =
     all_have (g.R.Row.has c.args.row.now) (λ l. l) c.args.circuit.now.max_var c.outputs.result.now _ c.outputs.ensures c.requires.row
-    (output_in_range c.args.circuit.now c.requires.circuit.sound)
+    (output_in_range c.args.circuit.now c.facts.ensures.sound)
 
 pub spell_at-requires-clause-row : goal.spell_at-requires-clause-row
 spell_at-requires-clause-row g c =
     All-map (λ l. g.R.Row.has c.args.row.now (variable l)) (λ (x : Latch). x.next) c.latches-2.result.now
     (all_have (g.R.Row.has c.args.row.now) (λ x. x.next) c.args.circuit.now.max_var c.latches-2.result.now _ c.latches-2.ensures c.requires.row
-    (next_in_range c.args.circuit.now c.requires.circuit.sound))
+    (next_in_range c.args.circuit.now c.facts.ensures.sound))
 
 pub returns-clause-line : goal.returns-clause-line
 unfolding line_text fields_text

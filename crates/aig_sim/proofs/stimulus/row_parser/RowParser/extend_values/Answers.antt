@@ -19,9 +19,7 @@ pub returns-in_default : goal.returns-in_default
 returns-in_default c =
     let v = c.args.self.now in
     record {
-      width = refl;
       keeps = λ line k. keeps_more_pieces v.width line v.shape v.values c.args.text.now
           (λ h. c.in_default.not-Row (ap (λ (l : RowParser). l.shape) c.self.view_is ∙ h)) c.requires k;
-      err = tt;
-      room = omega arith;
+      reserve = record { width = refl; room = omega arith; err = tt };
     }
