@@ -11,7 +11,8 @@ use Rattle.aig_sim.specs.declared.witness.breaks.Break.{Break}
 use Rattle.aig_sim.specs.declared.witness.breaks.Break.TheVariants as breaks
 use Rattle.aig_sim.specs.declared.witness.verdict.Verdict.{Verdict}
 use Rattle.aig_sim.specs.declared.witness.verdict.Verdict.TheVariants.{Initial, Constraint, NotBad, Confirmed}
-use Rattle.aig_commands.specs.Check.{HoldsConfirmed, Prints, ShowsVerdict, verdict_text}
+use Rattle.aig_sim.specs.Verdict.{ShowsVerdict}
+use Rattle.aig_commands.specs.Check.{HoldsConfirmed, Prints, verdict_text}
 use Rattle.aig_commands.specs.CheckAlive.{HoldsAlive, ShowsRun, alive_text}
 
 -- what was printed is the front of what was to be written

@@ -8,9 +8,8 @@ use Rattle.aig_sim.specs.declared.witness.verdict.Verdict.{Verdict}
 use Rattle.aig_command.specs.declared.run_fault.RunFault.{RunFault}
 use Rattle.aig_command.specs.declared.run_fault.RunFault.TheVariants as run_faults
 use Rattle.aig_sim.specs.declared.witness.verdict.Verdict.TheVariants.{Confirmed}
-use Rattle.aig_sim.specs.Verdict.{IsVerdict, IsConfirmed}
+use Rattle.aig_sim.specs.Verdict.{IsVerdict, IsConfirmed, ShowsVerdict}
 use Rattle.aig_sim.specs.WitnessText.{Witness, SpellsWitness, IsAdmitted}
-use Rattle.aig_commands.specs.Check.{ShowsVerdict}
 
 -- a witness that is admitted shows its verdict
 pub shows_so : (raw : Raw) (text : List ℕ) (v : Verdict) (w : Witness) → SpellsWitness raw text w → IsAdmitted raw w

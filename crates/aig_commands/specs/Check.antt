@@ -8,8 +8,8 @@ use Rattle.aig_parts.specs.declared.raw.Raw.{Raw}
 use Rattle.aig_sim.specs.declared.witness.verdict.Verdict.{Verdict}
 use Rattle.aig_sim.specs.declared.witness.verdict.Verdict.TheVariants.{Initial, Constraint, NotBad, Confirmed}
 use Rattle.aig_sim.specs.Replayed.{ReportsRun}
-use Rattle.aig_sim.specs.Verdict.{IsVerdict, IsConfirmed}
-use Rattle.aig_sim.specs.WitnessText.{Witness, SpellsWitness, IsAdmitted, IsWitnessOf, HasWitnessFault}
+use Rattle.aig_sim.specs.Verdict.{IsConfirmed, ShowsVerdict}
+use Rattle.aig_sim.specs.WitnessText.{Witness, SpellsWitness, IsWitnessOf, HasWitnessFault}
 use Rattle.aig_values.specs.PropertyTrace.{IsPropertyTrace}
 use Rattle.aig_values.specs.Trace.{IsTrace}
 use Rattle.aig_command.specs.Command.{IsFileOf}
@@ -25,15 +25,6 @@ verdict_text (Constraint frame constraint) =
     codes "constraint " ++ (decimal frame ++ (codes " " ++ (decimal constraint ++ codes "\n")))
 verdict_text NotBad = codes "not bad\n"
 verdict_text Confirmed = codes "confirmed\n"
-
--- The text is an admitted witness of the circuit, which shows this verdict. One that is confirmed reaches the bad state
--- whatever its x turn out to be.
-pub record ShowsVerdict (raw : Raw) (text : List ℕ) (verdict : Verdict) : Type 0 where
-  pub witness : Witness
-  pub text_is : SpellsWitness raw text witness
-  pub admitted : IsAdmitted raw witness
-  pub verdict_is : IsVerdict raw witness verdict
-  pub confirmed : verdict ≡ Confirmed → IsConfirmed raw witness
 
 -- a witness of a circuit is refused with this fault, and nothing is written
 abbrev pub RefusesWitness : List ℕ → Raw → RunFault → List ℕ → Type 0

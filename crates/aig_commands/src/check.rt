@@ -1,14 +1,15 @@
 //! `check`: the verdict on a witness.
-ghost use Rattle.std.specs.Prelude.{◌≡◌, ◌≢◌, ℕ, ◌+◌, ◌≤◌, Err, IfErr, IfSome, None, OnOk, codes};
+ghost use Rattle.std.specs.Prelude.{◌≡◌, ◌≢◌, ℕ, ◌+◌, ◌≤◌, Err, IfErr, IfOk, IfSome, None, OnOk, codes};
 ghost use Rattle.aig_bytes.specs.Bytes.{Writes};
 ghost use Rattle.aig_bytes.specs.Flow.{flow};
 ghost use Rattle.aig_command.specs.Command.{OfFile};
 ghost use Rattle.aig_command.specs.Command.{CommandEnds};
-ghost use Rattle.aig_commands.specs.GoesWell.{GoesWell};
+ghost use Rattle.aig_commands.specs.GoesWell.{GoesWell, WritesOnce};
 ghost use Rattle.aig_commands.specs.Check.{verdict_text, AreConfirmed, Checks, ChecksAndTraces, HoldsConfirmed, IsShown};
 ghost use Rattle.aig_commands.specs.Check.{OfProperty, Prints};
 ghost use Rattle.aig_commands.specs.state.Asked.{RefusesAsked};
 ghost use Rattle.aig_sim.specs.Replayed.{Replays};
+ghost use Rattle.aig_sim.specs.Verdict.{ShowsVerdict};
 ghost use Rattle.aig_sim.specs.WitnessText.{IsWitnessOf};
 
 use aig_base::{Circuit, Io, Write, write_all, write_number};
@@ -70,9 +71,7 @@ fn check_circuit<W: Write>(
         HoldsConfirmed circuit.now witness.now }
     ensures ends { CommandEnds (flow W.written W.failures out.old out.new) RunFault.Output
         (Checks witness.now circuit.now) result }
-    ensures count { W.failures out.new ≤ W.failures out.old + 1 }
-    ensures refused { IfErr result (λ fault. fault ≢ RunFault.Output → out.new ≡ out.old) }
-    ensures output { result ≡ Err RunFault.Output → GoesWell (Checks witness.now circuit.now) }
+    ensures once { WritesOnce (Checks witness.now circuit.now) (flow W.written W.failures out.old out.new) result }
 {
     let verdict = check_witness(alloc, circuit, witness)?;
     match write_verdict(verdict, out) {
@@ -140,16 +139,17 @@ pub fn check<W: Write>(
     check_circuit(alloc, &circuit, witness, out)
 }
 
-/// Writes the trace of a witness's run.
+/// Writes the trace of a witness's run, and returns its verdict.
 fn write_trace<W: Write>(
     alloc: Global,
     circuit: &Circuit,
     witness: &[u8],
     shown: Shown,
     out: &mut W,
-) -> Result<(), ReplayFault>
-    ensures { Replays (λ raw start rows text. IsShown shown raw start rows text) circuit.now witness.now
+) -> Result<Verdict, ReplayFault>
+    ensures text { Replays (λ raw start rows text. IsShown shown raw start rows text) circuit.now witness.now
         (flow W.written W.failures out.old out.new) result }
+    ensures verdict { IfOk result (ShowsVerdict circuit.now witness.now) }
 {
     match shown {
         Shown::Trace => trace_witness(alloc, circuit, witness, out),
@@ -157,7 +157,7 @@ fn write_trace<W: Write>(
     }
 }
 
-/// Writes the trace of a witness's run, and then the line of its verdict, which is known.
+/// Writes the trace of a witness's run, and then the line of its verdict.
 fn write_run<W: Write>(
     alloc: Global,
     circuit: &Circuit,
@@ -168,12 +168,13 @@ fn write_run<W: Write>(
     ensures { CommandEnds (flow W.written W.failures out.old out.new) RunFault.Output
         (ChecksAndTraces shown witness.now circuit.now) result }
 {
-    let verdict = check_witness(alloc, circuit, witness)?;
-    match write_trace(alloc, circuit, witness, shown, out) {
-        Ok(()) => {}
+    // Its contract says that this is a circuit: then each witness of it has a verdict.
+    circuit.facts();
+    let verdict = match write_trace(alloc, circuit, witness, shown, out) {
+        Ok(verdict) => verdict,
         Err(ReplayFault::Witness(why)) => return Err(RunFault::Witness(why)),
         Err(ReplayFault::Io) => return Err(RunFault::Output),
-    }
+    };
     match write_verdict(verdict, out) {
         Ok(()) => Ok(verdict),
         Err(Io) => Err(RunFault::Output),

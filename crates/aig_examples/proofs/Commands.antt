@@ -52,7 +52,8 @@ use Rattle.aig_refute.specs.Checked.{check_reads_failed}
 use Rattle.aig_refute.specs.Unreachable.{HasNoRun, IsUnreachable, IsUnreachableWithin}
 use Rattle.aig_script.specs.BenchFiles.{circuit_text, stimulus_rows_text}
 use Rattle.aig_commands.specs.declared.check.Shown.TheVariants.{Properties, Trace}
-use Rattle.aig_commands.specs.Check.{Checks, ChecksAndTraces, ShowsVerdict}
+use Rattle.aig_sim.specs.Verdict.{ShowsVerdict}
+use Rattle.aig_commands.specs.Check.{Checks, ChecksAndTraces}
 use Rattle.aig_commands.specs.Cnf.{WritesFormula}
 use Rattle.aig_signals.specs.declared.form.Form.TheVariants.{Json, Text}
 use Rattle.aig_commands.specs.Names.{entries_text, entry_line, entry_lines}

@@ -6,6 +6,7 @@ pub mod DumpLines
 pub mod DumpReading
 pub mod DumpRuns
 pub mod DumpedLemmas
+pub mod JudgingLemmas
 pub mod LineLemmas
 pub mod OneText
 pub mod ReachedLemmas
@@ -13,6 +14,7 @@ pub mod ReplayLemmas
 pub mod RunTexts
 pub mod SimulationLemmas
 pub mod StepLemmas
+pub mod VerdictExists
 pub mod VerdictLemmas
 pub mod WitnessLemmas
 pub mod WrittenWitness

@@ -23,7 +23,7 @@ use Rattle.aig_sim.specs.state.Reaching.{ReadsFirstBad, ReadsNoBad, HasSearched}
 use Rattle.aig_sim.proofs.VerdictLemmas.{shows_not_one, shown_not_one, reached}
 use Rattle.aig_values.proofs.PropertyLines.{bad_defined, constraint_defined}
 
-one_or_not : (w : Tern) → (w ≡ One) ⊎ (w ≢ One)
+pub one_or_not : (w : Tern) → (w ≡ One) ⊎ (w ≢ One)
 one_or_not Zero = inr (λ e. let no : ⊥ = cc in no)
 one_or_not One = inl refl
 one_or_not X = inr (λ e. let no : ⊥ = cc in no)

@@ -1,9 +1,9 @@
 -- The replay of a witness, frame by frame.
 use Rattle.std.proofs.Common.{◌≡◌, ℕ, ◌+◌, ◌-◌, ◌^◌, ◌<◌, ◌≤◌, min, List, [], ◌∷◌, ◌++◌, length, map, take, drop}
 use Rattle.std.proofs.Common.{get_or, refl, sym, ap, ◌∙◌, subst, arith, Ok, Err, IsErr}
-use Rattle.std.specs.Prelude.{Option, Result}
+use Rattle.std.specs.Prelude.{IfOk, OnOk, Option, Result}
 use Rattle.std.specs.Result.{IsErrAnd}
-use Rattle.std.proofs.lemmas.List.{length-take-le, take_more, take_all}
+use Rattle.std.proofs.lemmas.List.{length-take-le, take-append-drop, take_more, take_all}
 use Rattle.std.proofs.lemmas.Bool.{false≢true}
 use Rattle.aig_parts.specs.declared.ternary.Tern.{Tern}
 use Rattle.aig_parts.specs.declared.raw.Raw.{Raw}
@@ -22,25 +22,24 @@ use Rattle.aig_sim.specs.state.Dumping.{AreDumped, ending}
 use Rattle.aig_sim.specs.state.Checking.{ArePartsOf}
 use Rattle.aig_values.specs.state.Frame.{HoldsAll, AreStates}
 use Rattle.aig_sim.specs.state.Machine.{Steps}
-use Rattle.aig_sim.specs.state.Replaying.{BeginsRun, NoneReported, HasReplayed, WritesFrames, WritesRun}
+use Rattle.aig_sim.specs.state.Replaying.{BeginsRun, HasReplayed, IsReady, NoneReported, WritesFrames, WritesRun}
 use Rattle.aig_sim.specs.state.Running.{RunText, Recorded}
 use Rattle.aig_values.specs.Characters.{character}
-use Rattle.aig_values.specs.PropertyTrace.{IsPropertyTrace}
-use Rattle.aig_values.specs.Trace.{IsTrace}
 use Rattle.aig_sim.specs.WitnessText.{Witness, SpellsWitness, IsAdmitted, HasWitnessFault, witness_rows_text}
 use Rattle.aig_sim.proofs.DumpedLemmas.{ending_is}
-use Rattle.aig_sim.proofs.RunTexts.{trace_goes_on, properties_go_on, dump_goes_on}
-use Rattle.aig_values.proofs.TraceLemmas.{first_states}
+use Rattle.aig_sim.proofs.RunTexts.{dump_goes_on}
+use Rattle.aig_values.proofs.TraceLemmas.{first_states, holds_still}
 use Rattle.aig_sim.proofs.VerdictLemmas.{row_was_read}
 
 module _ {T : Type 0} {is_text : RunText} {recorded : Recorded T} {raw : Raw} {w : Witness} where
   -- before the first frame
-  pub replay_begins : {states : List Tern} {rows : List ℕ} {frames : ℕ} {recorder : T} (written : Option (List ℕ))
+  pub replay_begins : {states : List Tern} (cells : List Tern) {rows : List ℕ} {frames : ℕ} {recorder : T} (written : Option (List ℕ))
       (failures : ℕ) → BeginsRun raw w states rows frames → NoneReported is_text recorded raw w recorder
-      → HasReplayed is_text recorded raw w 0 rows states recorder written failures written failures
-  replay_begins written failures h none = record {
+      → HasReplayed is_text recorded raw w 0 rows states cells recorder written failures written failures
+  replay_begins cells written failures h none = record {
     rest_is = h.rows_are.text_is;
     states_are = subst (λ (s : List Tern). AreStates raw w.start [] 0 s) (sym h.states_are) (first_states raw w.start h.latches);
+    cells_are = λ u e. absurd (omega (arith, e));
     recorded_are = none.none_recorded;
     reported = [];
     reported_is = none.no_text;
@@ -49,9 +48,9 @@ module _ {T : Type 0} {is_text : RunText} {recorded : Recorded T} {raw : Raw} {w
   }
 
   -- one frame, whose text is `piece`
-  module _ {t : ℕ} {rest : List ℕ} {states : List Tern} {recorder : T} {start : Option (List ℕ)} {count : ℕ}
+  module _ {t : ℕ} {rest : List ℕ} {states cells : List Tern} {recorder : T} {start : Option (List ℕ)} {count : ℕ}
       {written : Option (List ℕ)} {failures : ℕ}
-      (h : HasReplayed is_text recorded raw w t rest states recorder start count written failures) (lt : t < length w.rows)
+      (h : HasReplayed is_text recorded raw w t rest states cells recorder start count written failures) (lt : t < length w.rows)
       (rest' : List ℕ) (row cells' states' : List Tern) (read : rest ≡ map character row ++ (10 ∷ rest'))
       (step : (start : List Tern) (rows : List (List Tern)) → AreStates raw start rows (length rows) states
       → Steps raw start rows row cells' states')
@@ -75,6 +74,13 @@ module _ {T : Type 0} {is_text : RunText} {recorded : Recorded T} {raw : Raw} {w
     stepped = step w.start (take t w.rows)
         (subst (λ (n : ℕ). AreStates raw w.start (take t w.rows) n states) (sym len) h.states_are)
 
+    cells_hold : HoldsAll raw w.start w.rows t cells'
+    cells_hold =
+        subst (λ (rows : List (List Tern)). HoldsAll raw w.start rows t cells') (take-append-drop (t + 1) w.rows)
+        (holds_still (drop (t + 1) w.rows)
+        (subst (λ (rows : List (List Tern)). HoldsAll raw w.start rows t cells') rows_so_far
+        (subst (λ (n : ℕ). HoldsAll raw w.start (take t w.rows ++ row ∷ []) n cells') len stepped.cells_are)))
+
     reported_more : is_text raw w.start (take (t + 1) w.rows) (h.reported ++ piece)
     reported_more =
         subst (λ (rows : List (List Tern)). is_text raw w.start rows (h.reported ++ piece)) rows_so_far
@@ -86,11 +92,12 @@ module _ {T : Type 0} {is_text : RunText} {recorded : Recorded T} {raw : Raw} {w
         → HoldsAll raw start (rows ++ row ∷ []) (length rows) cells' → t ≡ min (length rows) (2 ^ 64 - 1)
         → recorded recorder' raw start (rows ++ row ∷ []))
         → written' ≡ after written piece → failures' ≡ failures + 0
-        → HasReplayed is_text recorded raw w (t + 1) rest' states' recorder' start count written' failures'
+        → HasReplayed is_text recorded raw w (t + 1) rest' states' cells' recorder' start count written' failures'
     replay_more recorder' written' failures' kept wrote none = record {
       rest_is = was_read.1;
       states_are = subst (λ (rows : List (List Tern)). AreStates raw w.start rows (t + 1) states') rows_so_far
           (subst (λ (n : ℕ). AreStates raw w.start (take t w.rows ++ row ∷ []) (n + 1) states') len stepped.states_are);
+      cells_are = λ u e. subst (λ (n : ℕ). HoldsAll raw w.start w.rows n cells') (omega (arith, e)) cells_hold;
       recorded_are = subst (λ (rows : List (List Tern)). recorded recorder' raw w.start rows) rows_so_far
           (kept w.start (take t w.rows) row h.recorded_are stepped.cells_are number_is);
       reported = h.reported ++ piece;
@@ -123,6 +130,28 @@ module _ {T : Type 0} {is_text : RunText} {recorded : Recorded T} {raw : Raw} {w
         }
     replay_stops {s = Ok x} a b c d k is = absurd (false≢true is)
 
+-- all frames were written
+pub replay_ends : {T X E : Type 0} {is_text : RunText} {recorded : Recorded T} {raw : Raw} {w : Witness} {t : ℕ} {rest : List ℕ}
+    {states cells : List Tern} {recorder : T} {written : X → Option (List ℕ)} {failures : X → ℕ} {old new : X}
+    → HasReplayed is_text recorded raw w t rest states cells recorder (written old) (failures old) (written new) (failures new)
+    → t ≡ length w.rows → WritesFrames {E = E} is_text raw w written failures old new (Ok tt)
+replay_ends {t} h all = record {
+  frames = t;
+  few = omega (arith, all);
+  reported = h.reported;
+  reported_is = h.reported_is;
+  writes = record { ok = h.wrote; err = tt; count = omega (arith, h.no_failure) };
+  whole = all;
+}
+
+pub not_ok : {A E : Type 0} (P : Type 0) (r : Result A E) → IsErr r → OnOk r P
+not_ok P (Err e) is = tt
+not_ok P (Ok x) is = absurd (false≢true is)
+
+pub not_ok_if : {A E : Type 0} (P : A → Type 0) (Q : E → Type 0) (r : Result A E) → IsErrAnd r Q → IfOk r P
+not_ok_if P Q (Err e) is = tt
+not_ok_if P Q (Ok x) is = absurd is
+
 -- a text of the first frames, of which a beginning was written, goes on to one of all frames
 pub run_written : {X E : Type 0} {is_text : RunText} {raw : Raw} {w : Witness} {written : X → Option (List ℕ)} {failures : X → ℕ}
     {old new : X} {r : Result (Unit {0}) E}
@@ -139,35 +168,15 @@ run_written {r = Err e} goes_on h =
     let (rest, all) = goes_on h.frames h.reported h.few h.reported_is in
     record { reported = h.reported ++ rest; reported_is = all; writes = writes_stop rest h.writes refl }
 
--- ---- traces and dumps
+-- ---- dumps
 module _ {raw : Raw} {w : Witness} {states : List Tern} {rows : List ℕ} {frames : ℕ}
     (ready : BeginsRun raw w states rows frames) where
-  trace_on : (t : ℕ) (text : List ℕ) → t ≤ length w.rows → IsTrace raw w.start (take t w.rows) text
-      → (rest : List ℕ) × IsTrace raw w.start w.rows (text ++ rest)
-  trace_on =
-      trace_goes_on raw ready.circuit w.start w.rows (record { latches = ready.latches; inputs = ready.rows_are.widths })
-
-  properties_on : (t : ℕ) (text : List ℕ) → t ≤ length w.rows → IsPropertyTrace raw w.start (take t w.rows) text
-      → (rest : List ℕ) × IsPropertyTrace raw w.start w.rows (text ++ rest)
-  properties_on =
-      properties_go_on raw ready.circuit w.start w.rows (record { latches = ready.latches; inputs = ready.rows_are.widths })
-
   dump_on : (t : ℕ) (text : List ℕ) → t ≤ length w.rows → AreDumped raw w.start (take t w.rows) text
       → (rest : List ℕ) × AreDumped raw w.start w.rows (text ++ rest)
   dump_on =
       dump_goes_on raw ready.circuit w.start w.rows (record { latches = ready.latches; inputs = ready.rows_are.widths })
 
   module _ {X E : Type 0} {written : X → Option (List ℕ)} {failures : X → ℕ} where
-    pub trace_written : {old new : X} {r : Result (Unit {0}) E}
-        → WritesFrames (λ raw start rows text. IsTrace raw start rows text) raw w written failures old new r
-        → WritesRun (λ raw start rows text. IsTrace raw start rows text) raw w written failures old new r
-    trace_written h = run_written trace_on h
-
-    pub properties_written : {old new : X} {r : Result (Unit {0}) E}
-        → WritesFrames (λ raw start rows text. IsPropertyTrace raw start rows text) raw w written failures old new r
-        → WritesRun (λ raw start rows text. IsPropertyTrace raw start rows text) raw w written failures old new r
-    properties_written h = run_written properties_on h
-
     pub dump_no_header : {F : Type 0} {old new : X} {e : F} {r : Result (Unit {0}) E}
         → Writes {T = Unit {0}} written failures old new (header raw) (Err e) → IsErr r
         → WritesRun (λ raw start rows text. IsDump raw start rows text) raw w written failures old new r
@@ -218,12 +227,23 @@ ready_is {raw} {raw'} {parts} {w} {states} h same circuit is =
       frames_are = h.frames_are;
     })
 
+-- the same of the parts of a witness that is admitted
+pub ready_of : {raw raw' : Raw} {parts : WitnessParts} {w : Witness} {states : List Tern} → ArePartsOf raw parts w → IsAdmitted raw w
+    → raw' ≡ raw → IsCircuit raw' → states ≡ w.start → IsReady raw' w parts states
+ready_of {parts} {w} {states} h admitted same circuit is =
+    subst (λ (r : Raw). IsReady r w parts states) (sym same)
+    (record { circuit = subst IsCircuit same circuit; parts_are = h; admitted = admitted; states_are = is })
+
+pub begins_judged : {raw : Raw} {w : Witness} {parts : WitnessParts} {states : List Tern} → IsReady raw w parts states
+    → BeginsRun raw w states parts.rows.now parts.frames
+begins_judged h = ready_is h.parts_are refl h.circuit h.states_are
+
 -- the text is refused, or no memory was found
-pub not_replayed : {X : Type 0} (is_text : RunText) (raw : Raw) (text : List ℕ) (written : X → Option (List ℕ)) (failures : X → ℕ)
-    (old new : X) (why : WitnessFault) (r : Result (Unit {0}) ReplayFault) → IsErrAnd r (λ f. f ≡ fault.Witness why)
+pub not_replayed : {X A : Type 0} (is_text : RunText) (raw : Raw) (text : List ℕ) (written : X → Option (List ℕ)) (failures : X → ℕ)
+    (old new : X) (why : WitnessFault) (r : Result A ReplayFault) → IsErrAnd r (λ f. f ≡ fault.Witness why)
     → HasWitnessFault raw text why → new ≡ old → Replays is_text raw text (flow written failures old new) r
-not_replayed is_text raw text written failures old new why (Err f) is h same =
-    subst (λ (f : ReplayFault). Replays is_text raw text (flow written failures old new) (Err f)) (sym is) (h, same)
+not_replayed {A} is_text raw text written failures old new why (Err f) is h same =
+    subst (λ (f : ReplayFault). Replays {A = A} is_text raw text (flow written failures old new) (Err f)) (sym is) (h, same)
 not_replayed is_text raw text written failures old new why (Ok x) is h same = absurd is
 
 reports : (is_text : RunText) {raw : Raw} {text : List ℕ} (w : Witness) → SpellsWitness raw text w → IsAdmitted raw w
@@ -237,19 +257,19 @@ same_circuit : {X E : Type 0} (is_text : RunText) {raw raw' : Raw} {w : Witness}
 same_circuit is_text {w} {written} {failures} {old} {new} {r} same h =
     subst (λ (c : Raw). WritesRun is_text c w written failures old new r) same h
 
-module _ {X E : Type 0} (is_text : RunText) {raw raw' : Raw} {text : List ℕ} {written : X → Option (List ℕ)} {failures : X → ℕ}
+module _ {X A E : Type 0} (is_text : RunText) {raw raw' : Raw} {text : List ℕ} {written : X → Option (List ℕ)} {failures : X → ℕ}
     {old new : X} (w : Witness) (spells : SpellsWitness raw text w) (admitted : IsAdmitted raw w) (same : raw' ≡ raw) where
-  pub replayed : {x : Unit {0}} → WritesRun {E = E} is_text raw' w written failures old new (Ok x)
-      → Replays is_text raw text (flow written failures old new) (Ok tt)
-  replayed run =
+  pub replayed : {x : Unit {0}} (a : A) → WritesRun {E = E} is_text raw' w written failures old new (Ok x)
+      → Replays is_text raw text (flow written failures old new) (Ok a)
+  replayed a run =
       let h = same_circuit is_text same run in
       (h.reported, reports is_text w spells admitted h.reported h.reported_is, h.writes.ok, omega (arith, h.writes.count))
 
-  pub replay_failed : {e : E} (r : Result (Unit {0}) ReplayFault) → IsErrAnd r (λ f. f ≡ fault.Io)
+  pub replay_failed : {e : E} (r : Result A ReplayFault) → IsErrAnd r (λ f. f ≡ fault.Io)
       → WritesRun is_text raw' w written failures old new (Err e) → Replays is_text raw text (flow written failures old new) r
   replay_failed (Err f) is run =
       let h = same_circuit is_text same run in
       let (done, begins, wrote) = h.writes.err in
-      subst (λ (f : ReplayFault). Replays is_text raw text (flow written failures old new) (Err f)) (sym is)
+      subst (λ (f : ReplayFault). Replays {A = A} is_text raw text (flow written failures old new) (Err f)) (sym is)
       (h.reported, done, reports is_text w spells admitted h.reported h.reported_is, begins, wrote, h.writes.count)
   replay_failed (Ok x) is run = absurd is

@@ -20,10 +20,10 @@ pub record ReportsRun (IsText : Raw → List Tern → List (List Tern) → List 
   pub admitted : IsAdmitted raw witness
   pub reported_is : IsText raw witness.start witness.rows reported
 
--- What the replay of a witness's text wrote. All went well: the whole text of the run. A failed write: a prefix of
+-- What the replay of a witness's text wrote, whatever it returns beside. All went well: the whole text of the run. A failed write: a prefix of
 -- it. A witness that is refused, or no memory: nothing.
-abbrev pub Replays : {X : Type 0} → (Raw → List Tern → List (List Tern) → List ℕ → Type 0) → Raw → List ℕ
-    → Flow X → Result (Unit {0}) ReplayFault → Type 0
+abbrev pub Replays : {X A : Type 0} → (Raw → List Tern → List (List Tern) → List ℕ → Type 0) → Raw → List ℕ
+    → Flow X → Result A ReplayFault → Type 0
 Replays IsText raw text out (Ok _) =
     (reported : List ℕ) × ReportsRun IsText raw text reported × (out.bytes out.new ≡ after (out.bytes out.old) reported)
     × (out.failures out.new ≡ out.failures out.old)

@@ -11,7 +11,7 @@ use Rattle.aig_base.specs.Runs.{Allows, ReachesProperty}
 use Rattle.aig_base.specs.Value.{Value}
 use Rattle.aig_sim.specs.declared.witness.verdict.Verdict.{Verdict}
 use Rattle.aig_sim.specs.declared.witness.verdict.Verdict.TheVariants as verdict
-use Rattle.aig_sim.specs.WitnessText.{Witness}
+use Rattle.aig_sim.specs.WitnessText.{IsAdmitted, SpellsWitness, Witness}
 
 -- latch p starts at a value that its reset does not allow
 pub record StartsWrong (raw : Raw) (start : List Tern) (p : ℕ) : Type 0 where
@@ -58,3 +58,12 @@ pub record IsVerdict (raw : Raw) (w : Witness) (v : Verdict) : Type 0 where
 abbrev pub IsConfirmed : Raw → Witness → Type 0
 IsConfirmed raw w = (start : List Tern) (rows : List (List Tern)) → IsCompletion w.start w.rows start rows
     → ReachesProperty raw start rows (length rows - 1) w.property
+
+-- The text is an admitted witness of the circuit, which shows this verdict. One that is confirmed reaches the bad state
+-- whatever its x turn out to be.
+pub record ShowsVerdict (raw : Raw) (text : List ℕ) (shown : Verdict) : Type 0 where
+  pub witness : Witness
+  pub text_is : SpellsWitness raw text witness
+  pub admitted : IsAdmitted raw witness
+  pub verdict_is : IsVerdict raw witness shown
+  pub confirmed : shown ≡ verdict.Confirmed → IsConfirmed raw witness

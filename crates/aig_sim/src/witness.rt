@@ -12,6 +12,7 @@ ghost use Rattle.aig_sim.specs.WitnessText.{Witness, SpellsWitness, IsAdmitted, 
 
 pub(crate) mod breaks;
 pub(crate) mod fault;
+pub(crate) mod judging;
 pub(crate) mod reach_fault;
 pub(crate) mod reached;
 pub(crate) mod reader;

@@ -1,12 +1,12 @@
 use Rattle.std.proofs.Common.{◌≡◌, ℕ, ◌-◌, ◌^◌, min, List, [], ◌∷◌, ◌++◌, length, map, sym, ap, ◌∙◌, refl, subst, arith}
-use Rattle.std.proofs.lemmas.List.{with_items_is}
+use Rattle.std.proofs.lemmas.List.{take_all, with_items_is}
 use Rattle.aig_parts.specs.declared.ternary.Tern.{Tern}
 use Rattle.aig_parts.specs.declared.raw.Raw.{Raw}
 use Rattle.aig_values.specs.Characters.{character}
 use Rattle.aig_sim.specs.state.Checking.{BeginsWithRow}
 use Rattle.aig_values.specs.state.Frame.{HoldsAll, AreStates}
 use Rattle.aig_sim.specs.state.Machine.{Steps}
-use Rattle.aig_sim.proofs.ReplayLemmas.{replay_begins, replay_more, replay_stops}
+use Rattle.aig_sim.proofs.ReplayLemmas.{not_ok, replay_begins, replay_ends, replay_more, replay_stops}
 use Rattle.aig_sim.proofs.VerdictLemmas.{begins_with_row, row_was_read}
 use Rattle.aig_sim.proofs.witness.WitnessRun.write_frames.Goals as goal
 
@@ -18,7 +18,7 @@ loop-frame-init g c =
       row = c.requires.row;
       fits = c.requires.fits;
       rows = (w.rows, sym h.frames_are, h.rows_are.widths, h.rows_are.text_is);
-      so_far = λ v ready none. replay_begins (g.W.Write.written c.args.out.now) (g.W.Write.failures c.args.out.now) ready none;
+      so_far = λ v ready none. replay_begins c.args.self.now.machine.cells (g.W.Write.written c.args.out.now) (g.W.Write.failures c.args.out.now) ready none;
     }
 
 pub read_values-rest-requires : goal.read_values-rest-requires
@@ -48,20 +48,25 @@ returns-in_err-record g c = λ w ready none.
     let read = subst (λ (r : List Tern). c.loop-frame.rest.now ≡ map character r ++ (10 ∷ rest))
     (sym (c.deref.ensures.value ∙ same)) c.read_values-rest.ensures in
     let e = c.in_err-record.ensures in
-    replay_stops (i.so_far w ready none) (omega (arith, ready.frames_are, c.loop-frame-test.true))
-    rest row c.step.new.self.cells c.step.new.self.states read
-    (λ start rows are. subst (λ (r : Raw). Steps r start rows row c.step.new.self.cells c.step.new.self.states) i.circuit
-    (c.step.ensures.step start rows
-    (subst (λ (r : Raw). AreStates r start rows (length rows) c.loop-frame.self.machine.states) (sym i.circuit) are)))
-    _
-    (subst (λ (r : Raw). (start : List Tern) (rows : List (List Tern)) (row : List Tern) (text : List ℕ)
-    → g.T.Recorder.is_text r start rows text → g.T.Recorder.has_recorded c.loop-frame.recorder r start rows
-    → HoldsAll r start (rows ++ row ∷ []) (length rows) c.step.new.self.cells
-    → c.loop-frame.frame ≡ min (length rows) (2 ^ 64 - 1)
-    → g.T.Recorder.is_text r start (rows ++ row ∷ []) (text ++ g.T.Recorder.frame_text c.loop-frame.recorder
-    c.step.new.self.circuit c.loop-frame.frame c.step.new.self.cells)) circuit e.text)
-    (omega (arith, c.loop-frame-test.true))
-    refl refl refl refl e.written c.from_residual.ensures.0
+    record {
+      text =
+          replay_stops (i.so_far w ready none) (omega (arith, ready.frames_are, c.loop-frame-test.true))
+          rest row c.step.new.self.cells c.step.new.self.states read
+          (λ start rows are. subst (λ (r : Raw). Steps r start rows row c.step.new.self.cells c.step.new.self.states) i.circuit
+          (c.step.ensures.step start rows
+          (subst (λ (r : Raw). AreStates r start rows (length rows) c.loop-frame.self.machine.states) (sym i.circuit) are)))
+          _
+          (subst (λ (r : Raw). (start : List Tern) (rows : List (List Tern)) (row : List Tern) (text : List ℕ)
+          → g.T.Recorder.is_text r start rows text → g.T.Recorder.has_recorded c.loop-frame.recorder r start rows
+          → HoldsAll r start (rows ++ row ∷ []) (length rows) c.step.new.self.cells
+          → c.loop-frame.frame ≡ min (length rows) (2 ^ 64 - 1)
+          → g.T.Recorder.is_text r start (rows ++ row ∷ []) (text ++ g.T.Recorder.frame_text c.loop-frame.recorder
+          c.step.new.self.circuit c.loop-frame.frame c.step.new.self.cells)) circuit e.text)
+          (omega (arith, c.loop-frame-test.true))
+          refl refl refl refl e.written c.from_residual.ensures.0;
+      circuit = circuit;
+      run = not_ok _ c.from_residual.result c.from_residual.ensures.0;
+    }
 
 pub loop-frame-preserved : goal.loop-frame-preserved
 loop-frame-preserved g c =
@@ -102,4 +107,18 @@ loop-frame-preserved g c =
           → HoldsAll r start (rows ++ row ∷ []) (length rows) c.step.new.self.cells → t ≡ min (length rows) (2 ^ 64 - 1)
           → g.T.Recorder.has_recorded c.record.new.self r start (rows ++ row ∷ [])) circuit e.recorded)
           e.written.ok e.written.count;
+    }
+
+pub returns : goal.returns
+returns g c w ready none =
+    let h = c.loop-frame.invariant.so_far w ready none in
+    let all : c.loop-frame.frame ≡ length w.rows = omega (arith, ready.frames_are, c.loop-frame-test.false, c.loop-frame.auto.frame-end) in
+    record {
+      text = replay_ends h all;
+      circuit = c.loop-frame.invariant.circuit;
+      run = record {
+        recorded_are = subst (λ (rows : List (List Tern)). g.T.Recorder.has_recorded c.loop-frame.recorder
+            c.args.self.now.machine.circuit w.start rows) (take_all c.loop-frame.frame w.rows (omega (arith, all))) h.recorded_are;
+        cells_are = λ u e. h.cells_are u (omega (arith, e, all));
+      };
     }

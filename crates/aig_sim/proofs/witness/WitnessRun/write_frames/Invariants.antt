@@ -16,6 +16,6 @@ invariant-loop-frame g l = record {
       → BeginsRun l.initial.self.machine.circuit w l.initial.self.machine.states l.rows l.frames
       → NoneReported g.T.Recorder.is_text g.T.Recorder.has_recorded l.initial.self.machine.circuit w l.initial.recorder
       → HasReplayed g.T.Recorder.is_text g.T.Recorder.has_recorded l.initial.self.machine.circuit w l.frame l.rest
-      l.self.machine.states l.recorder (g.W.Write.written l.initial.out) (g.W.Write.failures l.initial.out)
+      l.self.machine.states l.self.machine.cells l.recorder (g.W.Write.written l.initial.out) (g.W.Write.failures l.initial.out)
       (g.W.Write.written l.out) (g.W.Write.failures l.out);
 }

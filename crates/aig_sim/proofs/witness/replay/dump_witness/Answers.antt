@@ -58,7 +58,7 @@ returns-in_err-write_frames g c =
     replay_failed (λ raw start rows text. IsDump raw start rows text) w spells admitted e.circuit
     c.from_residual-in_err-write_frames.result c.from_residual-in_err-write_frames.ensures.1
     (dump_no_frames ready (writes_same c.in_ok-write_all.ensures is) {r = Err c.in_err-write_frames.field-0.0}
-    (c.in_err-write_frames.ensures w ready (record { no_text = refl; none_recorded = last })) refl)
+    (c.in_err-write_frames.ensures w ready (record { no_text = refl; none_recorded = last })).text refl)
 
 pub returns-in_err-write_end : goal.returns-in_err-write_end
 returns-in_err-write_end g c =
@@ -71,7 +71,7 @@ returns-in_err-write_end g c =
     replay_failed (λ raw start rows text. IsDump raw start rows text) w spells admitted e.circuit
     c.from_residual-in_err-write_end.result c.from_residual-in_err-write_end.ensures.1
     (dump_written ready (writes_same c.in_ok-write_all.ensures is)
-    (c.in_ok-write_frames.ensures w ready (record { no_text = refl; none_recorded = last }))
+    (c.in_ok-write_frames.ensures w ready (record { no_text = refl; none_recorded = last })).text
     few c.in_err-write_end.ensures)
 
 pub returns : goal.returns
@@ -82,7 +82,7 @@ returns g c =
     let is = c.as_slice.ensures.value ∙ c.in_ok-header.ensures ∙ ap header (sym e.circuit) in
     let last = c.in_ok-recorder.ensures.last ∙ ap (λ (raw : Raw). replicate (length (signals raw)) 0) (sym e.circuit) in
     let few : c.in_ok-parts.parts.frames < 2 ^ 32 = omega (arith, parts.frames_are, admitted.1) in
-    replayed (λ raw start rows text. IsDump raw start rows text) w spells admitted e.circuit
+    replayed (λ raw start rows text. IsDump raw start rows text) w spells admitted e.circuit (tt {0})
     (dump_written ready (writes_same c.in_ok-write_all.ensures is)
-    (c.in_ok-write_frames.ensures w ready (record { no_text = refl; none_recorded = last }))
+    (c.in_ok-write_frames.ensures w ready (record { no_text = refl; none_recorded = last })).text
     few c.in_ok-write_end.ensures)

@@ -1,7 +1,0 @@
-use Rattle.std.proofs.Common.{refl}
-use Rattle.aig_sim.proofs.ReplayLemmas.{trace_written}
-use Rattle.aig_sim.proofs.witness.WitnessRun.write_trace.Goals as goal
-
-pub returns : goal.returns
-returns g c = λ w ready.
-    trace_written ready (c.write_frames.ensures w ready (record { no_text = refl; none_recorded = tt }))
