@@ -12,6 +12,7 @@ mod marks;
 mod places;
 mod propagator;
 mod refutation;
+mod walk;
 mod watches;
 
 pub use refutation::Refutation;

@@ -4,6 +4,8 @@ mod assignment;
 mod fault;
 mod law;
 mod number;
+mod place;
+mod progress;
 mod reader;
 
 pub use assignment::Assignment;

@@ -3,6 +3,7 @@
 
 mod binary;
 mod bytes;
+mod either;
 mod fault;
 mod hinted;
 mod literal;

@@ -10,12 +10,11 @@ use Rattle.aig_sat.specs.declared.checker.checker.Checker.{Checker}
 use Rattle.aig_sat.specs.declared.checker.clauses.Clauses.{Clauses}
 use Rattle.aig_sat.specs.declared.checker.ids.Entry.{Entry}
 use Rattle.aig_sat.specs.declared.checker.ids.Ids.{Ids}
-use Rattle.aig_sat.specs.declared.checker.propagator.Propagator.{Propagator}
 use Rattle.aig_sat.specs.checker.Basis.{Basis, KeepsNumbers, TakesNumber, basis}
 use Rattle.aig_sat.specs.checker.Distinct.{Has, HasAll}
 use Rattle.aig_sat.specs.checker.Entries.{Forgets, entry}
 use Rattle.aig_sat.specs.checker.Hints.{IsNumbered, Numbered}
-use Rattle.aig_sat.specs.checker.Numbers.{is_numbered, numbered_at, variables}
+use Rattle.aig_sat.specs.checker.Numbers.{KeepsClauses, is_numbered, numbered_at}
 use Rattle.aig_sat.specs.checker.Words.{IsAdded, IsClauseAt, IsLaidOut, RemovesNamed, StandsAt}
 use Rattle.aig_sat.specs.checker.Words.{literal_at, size_at}
 use Rattle.aig_sat.proofs.checking.ForgetLemmas.{in_from_has}
@@ -234,22 +233,18 @@ pub err_on_ok : {X E : Type 0} → (r : Result X E) (P : Type 0) (Q : E → Type
 err_on_ok (Ok x) P Q h = absurd h
 err_on_ok (Err e) P Q h = tt
 
--- clauses, numbers and variables are those of a state before
-abbrev pub Stays : (old mid : Propagator) → Type 0
-Stays old mid = (mid.clauses ≡ old.clauses) × (mid.ids ≡ old.ids) × (variables mid ≡ variables old)
-
-pub numbers_from : (old mid : Checker) (new : Basis) (clause : List ℕ) → Stays old.propagator mid.propagator
+pub numbers_from : (old mid : Checker) (new : Basis) (clause : List ℕ) → KeepsClauses old.propagator mid.propagator
     → mid.is_hinted ≡ old.is_hinted → KeepsNumbers (basis mid) new → KeepsNumbers (basis old) new
-numbers_from old mid new clause (clauses, ids, as_many) hinted keeps = record {
+numbers_from old mid new clause stays hinted keeps = record {
   hinted = keeps.hinted ∙ hinted;
-  variables = omega (arith, keeps.variables, as_many);
+  variables = omega (arith, keeps.variables, stays.variables);
   others = λ n it ne h.
       keeps.others n it ne
-      (subst (λ (x : Clauses). IsNumbered (numbered_at x.words.items mid.propagator.ids.entries.items) n it) (sym clauses)
-      (subst (λ (x : Ids). IsNumbered (numbered_at old.propagator.clauses.words.items x.entries.items) n it) (sym ids) h));
+      (subst (λ (x : Clauses). IsNumbered (numbered_at x.words.items mid.propagator.ids.entries.items) n it) (sym stays.clauses)
+      (subst (λ (x : Ids). IsNumbered (numbered_at old.propagator.clauses.words.items x.entries.items) n it) (sym stays.ids) h));
 }
 
-pub takes_from : (old mid : Checker) (new : Basis) (clause : List ℕ) → Stays old.propagator mid.propagator
+pub takes_from : (old mid : Checker) (new : Basis) (clause : List ℕ) → KeepsClauses old.propagator mid.propagator
     → mid.is_hinted ≡ old.is_hinted → mid.next ≡ old.next → TakesNumber clause (basis mid) new
     → TakesNumber clause (basis old) new
 takes_from old mid new clause stays hinted next t = record {

@@ -16,7 +16,7 @@ use Rattle.aig_sat.specs.declared.model.fault.ModelFault.{ModelFault}
 use Rattle.aig_sat.specs.declared.model.fault.ModelFault.TheVariants.{Memory}
 use Rattle.aig_sat.specs.declared.model.reader.Phase.{Phase}
 use Rattle.aig_sat.specs.declared.model.reader.Phase.TheVariants.{Before, Within, After}
-use Rattle.aig_sat.specs.declared.model.reader.Reader.{Reader}
+use Rattle.aig_sat.specs.declared.model.progress.Reader.{Reader}
 use Rattle.aig_sat.specs.model.state.Reading.{GoesOnLine, HasRead, ReadUpTo}
 
 -- before the literals none was named

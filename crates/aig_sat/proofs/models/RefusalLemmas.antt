@@ -13,7 +13,7 @@ use Rattle.aig_parts.specs.declared.ternary.Tern.{Tern}
 use Rattle.aig_sat.specs.model.ModelText.{BeginsLine, IsModelOf, SaysSatisfiable, IsSpace, Names, number_text}
 use Rattle.aig_sat.specs.model.Named.{AreNamed}
 use Rattle.aig_sat.specs.declared.model.reader.Phase.TheVariants.{Before, After}
-use Rattle.aig_sat.specs.declared.model.reader.Reader.{Reader}
+use Rattle.aig_sat.specs.declared.model.progress.Reader.{Reader}
 use Rattle.aig_sat.specs.model.state.Reading.{BeginsLineAt, IsAnswerByte, ReadUpTo}
 use Rattle.aig_sat.proofs.models.ModelLemmas.{line_stands}
 use Rattle.aig_sat.proofs.models.NamedLemmas.{both_signs}

@@ -2,7 +2,7 @@
 use Rattle.std.proofs.Common.{◌≡◌, ◌≢◌, ◌⊎◌, inl, inr, ℕ, suc, ◌+◌, ◌-◌, ◌*◌, ◌/◌, ◌%◌, ◌<◌, ◌≤◌, List, [], ◌∷◌, ◌++◌}
 use Rattle.std.proofs.Common.{length, slice_set, take, drop, get_or, All, Option, Some, None, slice_get, refl, sym, ap}
 use Rattle.std.proofs.Common.{◌∙◌, subst, arith, append_assoc}
-use Rattle.std.specs.Prelude.{Bool, true, false}
+use Rattle.std.specs.Prelude.{Bool, true, false, IfSome}
 use borrow.Rule.Slice.PartMut.{put_mid}
 use Rattle.std.proofs.Common.{take-take}
 use Rattle.std.proofs.lemmas.List.{append-nil, drop-take, length-take-le}
@@ -119,6 +119,12 @@ clause_on {f} {p} xs leads (SpellsClause.end {gap = gap} ends h e) =
 clause_on {f} {p} xs leads (SpellsClause.literal {gap = gap} {rest = rest} {clause = clause} l b h below space more) =
     subst (λ (t : List ℕ). SpellsClause f p t (l ∷ clause)) (append_assoc xs gap (number_text l ++ b ∷ rest))
     (SpellsClause.literal l b (leads gap h) below space more)
+
+-- the literal of a word is of a variable that there may be
+pub word_below : (f : Bool) (r : ℕ) (word : List ℕ) (next : Option ℕ) → LeadsWord f r word next
+    → IfSome next (λ l. variable l < 2147483647)
+word_below f r word (Some l) (below, space, is) = below
+word_below f r word None leads = tt
 
 -- a word behind a gap
 pub word_on : (f : Bool) (p q r : ℕ) (xs word : List ℕ) (next : Option ℕ) → LeadsGap p q xs → LeadsWord f r word next

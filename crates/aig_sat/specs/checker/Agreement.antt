@@ -1,5 +1,5 @@
 -- What propagation keeps.
-use Rattle.std.specs.Prelude.{◌≡◌, ℕ, Bool, true, false, List}
+use Rattle.std.specs.Prelude.{◌≡◌, ℕ, Bool, true, false, List, Result, IfOk, IsTrue}
 use Rattle.aig_sat.specs.declared.checker.propagator.Propagator.{Propagator}
 use Rattle.aig_sat.specs.checker.Clause.{meets}
 use Rattle.aig_sat.specs.checker.Knowledge.{IsFound, IsKnown, MakesTrue}
@@ -35,3 +35,18 @@ Implies p clause = (values : ℕ → Bool) → Agrees values p → meets values 
 pub record Narrows (old new : Propagator) : Type 0 where
   pub same : Shrinks old.clauses.words.items new.clauses.words.items
   pub fewer : (l : ℕ) → IsKnown new.known.truths.items l → IsKnown old.known.truths.items l
+
+-- A search for a conflict: what it finds follows. Where it answers yes, no assignment agreed before.
+pub record Searches {E : Type 0} (old new : Propagator) (r : Result Bool E) : Type 0 where
+  pub propagates : Propagates old new
+  pub contradicts : IfOk r (λ yes. IsTrue yes → Contradicts old)
+
+-- The same where the literals of a clause are taken to be false. Where it answers yes, the clause was implied.
+pub record Refutes {E : Type 0} (clause : List ℕ) (old new : Propagator) (r : Result Bool E) : Type 0 where
+  pub assumes : Assumes clause old new
+  pub implied : IfOk r (λ yes. IsTrue yes → Implies old clause)
+
+-- A test whether a clause follows, which forgets what it found. Where it answers yes, the clause was implied.
+pub record Tests {E : Type 0} (clause : List ℕ) (old new : Propagator) (r : Result Bool E) : Type 0 where
+  pub narrows : Narrows old new
+  pub implied : IfOk r (λ yes. IsTrue yes → Implies old clause)

@@ -2,6 +2,7 @@
 use Rattle.std.specs.Prelude.{◌≡◌, ℕ, Bool, true, false, List}
 use Rattle.aig_sat.specs.declared.checker.checker.Checker.{Checker}
 use Rattle.aig_sat.specs.checker.Agreement.{Agrees}
+use Rattle.aig_sat.specs.checker.Basis.{KeepsNumbers, basis}
 use Rattle.aig_sat.specs.checker.Clause.{meets}
 
 -- the formula is not refuted, and the assignment agrees with what stands and is known
@@ -19,3 +20,8 @@ KeepsSomeHolding old new = (values : ℕ → Bool) → Holds values old → (oth
 -- each assignment that holds, and meets the clause, holds
 abbrev pub KeepsMeeting : List ℕ → Checker → Checker → Type 0
 KeepsMeeting clause old new = (values : ℕ → Bool) → Holds values old → meets values clause ≡ true → Holds values new
+
+-- variables were added: what held still holds, and each clause keeps its number
+pub record AddsVariables (old new : Checker) : Type 0 where
+  pub holding : KeepsHolding old new
+  pub numbered : KeepsNumbers (basis old) (basis new)

@@ -22,6 +22,10 @@ abbrev pub Lists : List ℕ → List Link → ℕ → ℕ → Type 0
 Lists heads links literal place =
     is_within links place (length links) (slice_index heads (literal % length heads)) ≡ true
 
+-- the lists keep their places
+abbrev pub KeepsLists : List ℕ → List Link → List ℕ → List Link → Type 0
+KeepsLists heads links heads' links' = (l p : ℕ) → Lists heads links l p → Lists heads' links' l p
+
 -- each clause that stands at a place before the end is in the list of each of its literals
 abbrev pub ListsAll : List ℕ → List Link → List ℕ → ℕ → Type 0
 ListsAll heads links words end =

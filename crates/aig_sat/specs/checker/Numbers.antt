@@ -42,6 +42,12 @@ pub record Walks (old new : Propagator) : Type 0 where
   pub variables : length new.known.truths.items ≡ length old.known.truths.items
   pub known : (l : ℕ) → IsKnown old.known.truths.items l → IsKnown new.known.truths.items l
 
+-- the clauses, their numbers and the variables stay
+pub record KeepsClauses (old new : Propagator) : Type 0 where
+  pub clauses : new.clauses ≡ old.clauses
+  pub ids : new.ids ≡ old.ids
+  pub variables : variables new ≡ variables old
+
 -- these are known to be true
 abbrev pub AreKnown : List Bool → List ℕ → Type 0
 AreKnown truths literals = (l : ℕ) → IsIn literals l → IsKnown truths l

@@ -1,11 +1,11 @@
 //! Checking clause by clause.
-ghost use Rattle.std.specs.Prelude.{◌≡◌, ℕ, ◌+◌, Bool, true, IsTrue, IfOk, IfSome, OnOk};
+ghost use Rattle.std.specs.Prelude.{◌≡◌, ◌+◌, ℕ, Bool, true, IsTrue, IfOk, IfSome, OnOk};
 ghost use Rattle.aig_parts.specs.Literal.{variable};
-ghost use Rattle.aig_sat.specs.checker.Agreement.{Agrees, Implies, Narrows};
-ghost use Rattle.aig_sat.specs.checker.Basis.{KeepsNumbers, KeepsOthers, NumbersStep, TakesNumber, basis};
+ghost use Rattle.aig_sat.specs.checker.Agreement.{Tests};
+ghost use Rattle.aig_sat.specs.checker.Basis.{KeepsOthers, NumbersStep, TakesNumber, basis};
 ghost use Rattle.aig_sat.specs.checker.Clause.{is_true, meets};
-ghost use Rattle.aig_sat.specs.checker.Holding.{Holds, KeepsHolding, KeepsMeeting};
-ghost use Rattle.aig_sat.specs.checker.Numbers.{IsShownBy, variables};
+ghost use Rattle.aig_sat.specs.checker.Holding.{AddsVariables, Holds, KeepsHolding, KeepsMeeting};
+ghost use Rattle.aig_sat.specs.checker.Numbers.{IsShownBy, KeepsClauses};
 
 use crate::checker::credit::Credit;
 use crate::checker::finder::Finder;
@@ -59,8 +59,7 @@ impl Checker {
 
     // Adds a variable that no clause has.
     fn add_variable(&mut self) -> Result<(), Memory>
-        ensures holding { KeepsHolding self.old self.new }
-        ensures numbered { KeepsNumbers (basis self.old) (basis self.new) }
+        ensures { AddsVariables self.old self.new }
     {
         self.marks.add_variable()?;
         self.propagator.add_variable()
@@ -68,8 +67,7 @@ impl Checker {
 
     /// Adds variables until there are so many.
     pub(crate) fn add_variables(&mut self, variables: usize) -> Result<(), Memory>
-        ensures holding { KeepsHolding self.old self.new }
-        ensures numbered { KeepsNumbers (basis self.old) (basis self.new) }
+        ensures { AddsVariables self.old self.new }
     {
         for _ in self.propagator.known.len() / 2..variables {
             self.add_variable()?;
@@ -172,13 +170,9 @@ impl Checker {
         ensures same { self.new.refuted ≡ self.old.refuted }
         ensures hinted { self.new.is_hinted ≡ self.old.is_hinted }
         ensures next { self.new.next ≡ self.old.next }
-        ensures stays { IfSome hints.entry (λ _. (self.new.propagator.clauses ≡ self.old.propagator.clauses)
-            × (self.new.propagator.ids ≡ self.old.propagator.ids)
-            × (variables self.new.propagator ≡ variables self.old.propagator)) }
-        ensures narrows { Narrows self.old.propagator self.new.propagator }
-        ensures implied { IfOk result (λ follows. IsTrue follows → Implies self.old.propagator clause.now) }
-        ensures shown { IfSome hints.entry
-            (λ hints. IsShownBy self.old.propagator clause.now hints.now → IfOk result IsTrue) }
+        ensures stays { IfSome hints.entry (λ _. KeepsClauses self.old.propagator self.new.propagator) }
+        ensures implied { Tests clause.now self.old.propagator self.new.propagator result }
+        ensures shown { IfSome hints.entry (λ h. IsShownBy self.old.propagator clause.now h.now → IfOk result IsTrue) }
     {
         match hints {
             None => self.propagator.follows(clause, Way::Search),
@@ -191,8 +185,7 @@ impl Checker {
         ensures stands { KeepsHolding self.old self.new }
         ensures follows { IfOk result (λ taken. IsTrue taken
             → (values : ℕ → Bool) → Holds values self.old → meets values clause.now ≡ true) }
-        ensures shown { IfSome hints.entry
-            (λ hints. IsShownBy self.old.propagator clause.now hints.now → IfOk result IsTrue) }
+        ensures shown { IfSome hints.entry (λ h. IsShownBy self.old.propagator clause.now h.now → IfOk result IsTrue) }
         ensures numbered { IsTrue self.old.is_hinted → IfSome hints.entry
             (λ _. IfOk result (NumbersStep clause.now (basis self.old) (basis self.new))) }
     {

@@ -1,13 +1,13 @@
 //! The clauses that stand, in one list of words.
-ghost use Rattle.std.specs.Prelude.{◌≡◌, ◌≢◌, ◌⊎◌, ℕ, ◌+◌, ◌%◌, ◌<◌, ◌≤◌, length, slice_set};
+ghost use Rattle.std.specs.Prelude.{◌≡◌, ◌≢◌, ◌⊎◌, ◌+◌, ◌%◌, ◌<◌, ◌≤◌, ℕ, length, slice_set, Bool, true, false, IsTrue};
+ghost use Rattle.std.specs.Prelude.{IfNone, IfSome, IfOk, OnOk, slice_index};
 ghost use Rattle.aig_parts.specs.Literal.{variable};
-ghost use Rattle.std.specs.Prelude.{Bool, true, false, IsTrue, IfNone, IfSome, IfOk, OnOk, slice_index};
 ghost use Rattle.aig_sat.specs.checker.Clause.{meets};
 ghost use Rattle.aig_sat.specs.checker.Knowledge.{IsIn, IsWithout};
 ghost use Rattle.aig_sat.specs.checker.Listing.{FindsAll, ListsAll};
 ghost use Rattle.aig_sat.specs.checker.Words.{AreLiterals, AreNamed, Begins, IsAdded, IsClauseAt, IsLaidOut, IsLast};
-ghost use Rattle.aig_sat.specs.checker.Words.{IsPut, KeepsMet, MeetsAll, RemovesNamed, Shrinks, StandsAt};
-ghost use Rattle.aig_sat.specs.checker.Words.{literal_at, size_at};
+ghost use Rattle.aig_sat.specs.checker.Words.{IsPut, KeepsMet, MeetsAll, RemovesNamed, Shrinks, StandsAt, literal_at};
+ghost use Rattle.aig_sat.specs.checker.Words.{size_at};
 
 use crate::checker::places::Places;
 use aig_bytes::Memory;
@@ -321,17 +321,6 @@ impl Clauses {
         Ok(())
     }
 
-    // Finds the clauses that have a literal by the lists.
-    fn find_listed(&mut self, literal: u32, found: &mut Vec<usize>) -> Result<(), Memory>
-        ensures same { self.new.words.items ≡ self.old.words.items }
-        ensures all { OnOk result (FindsAll self.new.words.items literal found.new.items) }
-    {
-        self.list_all()?;
-        self.places.find(literal, found)?;
-        self.read = self.read.saturating_add(found.len());
-        Ok(())
-    }
-
     /// Finds the place of each clause that stands and has a literal, the last one first. It may find other places. It
     /// goes through the words until it has read as many as there are. From then on clauses are listed by their literals,
     /// and the lists are made anew where as many places of them were read: those of deleted clauses are gone then.
@@ -343,7 +332,10 @@ impl Clauses {
         let words = self.words.len().saturating_sub(start);
         let left = self.words.len().saturating_sub(self.read);
         if self.listed > 0 || words > left {
-            return self.find_listed(literal, found);
+            self.list_all()?;
+            self.places.find(literal, found)?;
+            self.read = self.read.saturating_add(found.len());
+            return Ok(());
         }
         self.read = self.read.saturating_add(words);
         self.scan(start, literal, found)

@@ -86,25 +86,17 @@ impl Finder {
         }
     }
 
-    // Makes twice as many chains.
+    // Makes twice as many chains where there are more clauses than chains.
     fn grow(&mut self, clauses: &mut Clauses) -> Result<(), Memory>
-        requires { length self.old.chains.items < 0x8000_0000 }
         ensures { KeepsMet clauses.old.words.items clauses.new.words.items }
     {
+        if self.clauses <= self.chains.len() || self.chains.len() >= HEAD as usize {
+            return Ok(());
+        }
         let more = vec![in self.alloc; 0; 2 * self.chains.len()]?;
         let chains = mem::replace(&mut self.chains, more);
         for first in &chains {
             self.link_chain(clauses, *first);
-        }
-        Ok(())
-    }
-
-    // Makes more chains where there are more clauses than chains.
-    fn make_room(&mut self, clauses: &mut Clauses) -> Result<(), Memory>
-        ensures { KeepsMet clauses.old.words.items clauses.new.words.items }
-    {
-        if self.clauses > self.chains.len() && self.chains.len() < HEAD as usize {
-            return self.grow(clauses);
         }
         Ok(())
     }
@@ -142,15 +134,16 @@ impl Finder {
         if !self.is_linked {
             return Ok(());
         }
-        self.make_room(clauses)?;
+        self.grow(clauses)?;
         self.link(clauses, place);
         Ok(())
     }
 
-    // Deletes a clause that has the literals of the marks, if one is among the first 1,024 of its chain.
-    fn unlink(&mut self, clauses: &mut Clauses, marks: &Marks)
+    /// Deletes a clause that has the literals of the marks, if one is among the first 1,024 of its chain.
+    pub(crate) fn delete(&mut self, clauses: &mut Clauses, marks: &Marks)
         ensures { KeepsMet clauses.old.words.items clauses.new.words.items }
     {
+        self.link_all(clauses);
         let chain = self.chain_of(&marks.literals);
         let mut before = 0;
         let mut place = self.chains[chain];
@@ -172,13 +165,5 @@ impl Finder {
             before = place;
             place = next;
         }
-    }
-
-    /// Deletes a clause that has the literals of the marks, if one is among the first 1,024 of its chain.
-    pub(crate) fn delete(&mut self, clauses: &mut Clauses, marks: &Marks)
-        ensures { KeepsMet clauses.old.words.items clauses.new.words.items }
-    {
-        self.link_all(clauses);
-        self.unlink(clauses, marks);
     }
 }

@@ -3,9 +3,8 @@
 //! made true: each clause that has the negation of that literal has another one that is true.
 ghost use Rattle.std.specs.Prelude.{◌≡◌, ◌≢◌, ◌⊎◌, ℕ, Bool, true, false, IsTrue, IfOk, OnOk};
 ghost use Rattle.aig_parts.specs.Literal.{negation};
-ghost use Rattle.aig_sat.specs.checker.Agreement.{Narrows};
 ghost use Rattle.aig_sat.specs.checker.Clause.{is_true, meets};
-ghost use Rattle.aig_sat.specs.checker.First.{IsSettled, MayStand, MeetsOther};
+ghost use Rattle.aig_sat.specs.checker.First.{AreSettled, IsSettled, MayStand, MeetsOther, Tries};
 ghost use Rattle.aig_sat.specs.checker.Holding.{KeepsHolding, KeepsMeeting, KeepsSomeHolding};
 ghost use Rattle.aig_sat.specs.checker.Knowledge.{IsKnown};
 ghost use Rattle.aig_sat.specs.checker.Listing.{FindsAll};
@@ -64,11 +63,8 @@ impl Checker {
         lie: u32,
         place: usize,
     ) -> Result<bool, Memory>
-        ensures same { self.new.refuted ≡ self.old.refuted }
         ensures candidates { self.new.candidates.items ≡ self.old.candidates.items }
-        ensures narrows { Narrows self.old.propagator self.new.propagator }
-        ensures settled { IfOk result (λ settled. IsTrue settled
-            → IsSettled self.old.propagator self.new.propagator clause.now lie place) }
+        ensures settled { Tries self.old self.new result (λ old new. IsSettled old new clause.now lie place) }
     {
         let Some(literals) = self.propagator.clauses.literals(place) else {
             return Ok(true);
@@ -81,7 +77,7 @@ impl Checker {
         resolve(literals, lie, clause, &mut self.resolvent)?;
         let id = self.propagator.clauses.number(place);
         let way = self.groups.way(hints, id);
-        self.propagator.follows_soon(&self.resolvent, way)
+        self.propagator.follows(&self.resolvent, way)
     }
 
     // Whether each of the candidates has another literal that is true where the clause that is added is not met, if it
@@ -93,10 +89,7 @@ impl Checker {
         lie: u32,
     ) -> Result<bool, Memory>
         requires { FindsAll self.old.propagator.clauses.words.items lie self.old.candidates.items }
-        ensures same { self.new.refuted ≡ self.old.refuted }
-        ensures narrows { Narrows self.old.propagator self.new.propagator }
-        ensures settled { IfOk result (λ settled. IsTrue settled
-            → (p : ℕ) → IsSettled self.old.propagator self.new.propagator clause.now lie p) }
+        ensures settled { Tries self.old self.new result (λ old new. AreSettled old new clause.now lie) }
     {
         let count = self.candidates.len();
         for tried in 0..count {
@@ -116,10 +109,7 @@ impl Checker {
         hints: Option<&[Lit]>,
         lie: u32,
     ) -> Result<bool, Memory>
-        ensures same { self.new.refuted ≡ self.old.refuted }
-        ensures narrows { Narrows self.old.propagator self.new.propagator }
-        ensures settled { IfOk result (λ settled. IsTrue settled
-            → (p : ℕ) → IsSettled self.old.propagator self.new.propagator clause.now lie p) }
+        ensures settled { Tries self.old self.new result (λ old new. AreSettled old new clause.now lie) }
     {
         self.propagator.clauses.find(lie, &mut self.candidates)?;
         let found = self.candidates.len() as u64;
@@ -137,14 +127,12 @@ impl Checker {
         hints: Option<&[Lit]>,
         literal: u32,
     ) -> Result<bool, Memory>
-        ensures same { self.new.refuted ≡ self.old.refuted }
-        ensures narrows { Narrows self.old.propagator self.new.propagator }
         ensures true_unknown { IfOk result
             (λ may. IsTrue may → IsKnown self.old.propagator.known.truths.items literal → ⊥) }
         ensures false_unknown { IfOk result (λ may. IsTrue may
             → IsKnown self.old.propagator.known.truths.items (negation literal) → ⊥) }
-        ensures settled { IfOk result (λ may. IsTrue may
-            → (p : ℕ) → IsSettled self.old.propagator self.new.propagator clause.now (negation literal) p) }
+        ensures settled { Tries self.old self.new result
+            (λ old new. AreSettled old new clause.now (negation literal)) }
     {
         if self.propagator.known.is_true(literal) || self.propagator.known.is_false(literal) {
             return Ok(false);
@@ -154,10 +142,7 @@ impl Checker {
 
     // Whether a clause may stand on its first literal.
     fn may_stand_on_first(&mut self, clause: &[Lit], hints: Option<&[Lit]>) -> Result<bool, Memory>
-        ensures same { self.new.refuted ≡ self.old.refuted }
-        ensures narrows { Narrows self.old.propagator self.new.propagator }
-        ensures may { IfOk result (λ may. IsTrue may
-            → MayStand self.old.propagator self.new.propagator clause.now) }
+        ensures may { Tries self.old self.new result (λ old new. MayStand old new clause.now) }
     {
         match clause.first() {
             Some(literal) => self.may_stand_on(clause, hints, literal.value()),
@@ -167,10 +152,7 @@ impl Checker {
 
     // Whether a clause may stand on its first literal, as the looks show that the proof has left.
     fn may_stand(&mut self, clause: &[Lit], hints: Option<&[Lit]>) -> Result<bool, Memory>
-        ensures same { self.new.refuted ≡ self.old.refuted }
-        ensures narrows { Narrows self.old.propagator self.new.propagator }
-        ensures may { IfOk result (λ may. IsTrue may
-            → MayStand self.old.propagator self.new.propagator clause.now) }
+        ensures may { Tries self.old self.new result (λ old new. MayStand old new clause.now) }
     {
         self.groups.put(hints)?;
         self.propagator.looks = self.credit.looks;

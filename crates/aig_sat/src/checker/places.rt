@@ -1,7 +1,7 @@
 //! The places of clauses by literal.
-ghost use Rattle.std.specs.Prelude.{◌≡◌, ℕ, ◌%◌, ◌<◌, OnOk, length, slice_index};
+ghost use Rattle.std.specs.Prelude.{◌≡◌, ◌%◌, ◌<◌, ℕ, OnOk, length, slice_index};
 ghost use Rattle.aig_sat.specs.checker.Knowledge.{IsIn};
-ghost use Rattle.aig_sat.specs.checker.Listing.{Lists, ListsAll};
+ghost use Rattle.aig_sat.specs.checker.Listing.{KeepsLists, Lists, ListsAll};
 ghost use Rattle.aig_sat.specs.checker.Words.{literal_at, size_at};
 
 use crate::checker::clauses::{BEFORE, HEAD};
@@ -67,8 +67,7 @@ impl Places {
 
     // Puts a place at the front of the list of a literal.
     fn add(&mut self, literal: u32, place: u32) -> Result<(), Memory>
-        ensures kept { (l p : ℕ) → Lists self.old.heads.items self.old.links.items l p
-            → Lists self.new.heads.items self.new.links.items l p }
+        ensures kept { KeepsLists self.old.heads.items self.old.links.items self.new.heads.items self.new.links.items }
         ensures added { OnOk result (Lists self.new.heads.items self.new.links.items literal place) }
     {
         let number = self.links.len();
@@ -85,8 +84,7 @@ impl Places {
     // Puts the place of a clause into the list of each of its literals.
     fn add_clause(&mut self, words: &[u32], place: usize) -> Result<(), Memory>
         requires { place < 0x8000_0000 }
-        ensures kept { (l p : ℕ) → Lists self.old.heads.items self.old.links.items l p
-            → Lists self.new.heads.items self.new.links.items l p }
+        ensures kept { KeepsLists self.old.heads.items self.old.links.items self.new.heads.items self.new.links.items }
         ensures added { OnOk result ((k : ℕ) → k < size_at words.now place
             → Lists self.new.heads.items self.new.links.items (literal_at words.now place k) place) }
     {

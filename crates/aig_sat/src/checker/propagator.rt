@@ -1,26 +1,20 @@
 //! Unit propagation.
-ghost use Rattle.std.specs.Prelude.{◌≡◌, ℕ, ◌+◌, ◌-◌, ◌<◌, ◌≤◌, Bool, true, false, IsTrue, IfOk, List, length, map};
+ghost use Rattle.std.specs.Prelude.{◌≡◌, ◌+◌, ◌-◌, ◌<◌, ◌≤◌, ℕ, Bool, true, false, IsTrue, IfOk, length, map};
 ghost use Rattle.aig_parts.specs.Literal.{negation};
-ghost use Rattle.aig_sat.specs.checker.Agreement.{Agrees, Assumes, Contradicts, Implies, Narrows, Propagates};
+ghost use Rattle.aig_sat.specs.checker.Agreement.{Agrees, Contradicts, Narrows, Propagates, Refutes, Searches, Tests};
 ghost use Rattle.aig_sat.specs.checker.Clause.{is_true};
-ghost use Rattle.aig_sat.specs.checker.Hints.{IsShown, Shows};
-ghost use Rattle.aig_sat.specs.checker.Numbers.{AreKnown, IsKnownBut, IsShownBy, Leaves, Walks, numbered};
-ghost use Rattle.aig_sat.specs.checker.Numbers.{variables};
+ghost use Rattle.aig_sat.specs.checker.Numbers.{AreKnown, Walks, variables};
 ghost use Rattle.aig_sat.specs.checker.Visits.{OnConflict};
-ghost use Rattle.aig_sat.specs.checker.Words.{AreNamed, Shrinks, StandsAt, size_at};
+ghost use Rattle.aig_sat.specs.checker.Words.{AreNamed, Shrinks};
 
 use crate::checker::clauses::Clauses;
-use crate::checker::hints::{Way, id_of};
+use crate::checker::hints::Way;
 use crate::checker::ids::Ids;
-use crate::checker::known::{Free, Known, Left, negated};
+use crate::checker::known::{Free, Known, negated};
 use crate::checker::watches::{Watch, Watches, close_gap};
 use aig_bytes::Memory;
 use aig_parts::Lit;
 use std::alloc::Global;
-
-/// A step with hints may take as many looks to follow by them as there are words of clauses, and this many more: a long
-/// clause could be hinted again and again.
-const MORE_LOOKS: u64 = 65536;
 
 /// The clauses that stand, their watches, and the literals that are known.
 #[derive(Drop)]
@@ -146,8 +140,7 @@ impl Propagator {
     // Looks at the clauses of a list, which watch a literal that has become false; answers whether all literals of one
     // are false.
     fn visit_list(&mut self, list: &mut Vec<Watch>, lie: u32) -> Result<bool, Memory>
-        ensures propagates { Propagates self.old self.new }
-        ensures conflict { IfOk result (λ conflict. IsTrue conflict → Contradicts self.old) }
+        ensures conflict { Searches self.old self.new result }
     {
         let mut kept = 0;
         for place in 0..list.len() {
@@ -174,8 +167,7 @@ impl Propagator {
 
     // Looks at the clauses that watch a literal that has become false.
     fn visit_all(&mut self, lie: u32) -> Result<bool, Memory>
-        ensures propagates { Propagates self.old self.new }
-        ensures conflict { IfOk result (λ conflict. IsTrue conflict → Contradicts self.old) }
+        ensures conflict { Searches self.old self.new result }
     {
         let mut list = self.watches.lend(lie);
         self.looks = self.looks.saturating_sub(list.len() as u64);
@@ -195,8 +187,7 @@ impl Propagator {
     // Takes the literals that follow from those of the trail; answers whether there is a conflict. It ends without one
     // where no looks are left.
     fn propagate(&mut self) -> Result<bool, Memory>
-        ensures propagates { Propagates self.old self.new }
-        ensures conflict { IfOk result (λ conflict. IsTrue conflict → Contradicts self.old) }
+        ensures conflict { Searches self.old self.new result }
     {
         // A literal comes into the trail once.
         for place in 0..self.known.len() {
@@ -210,82 +201,24 @@ impl Propagator {
         Ok(false)
     }
 
-    // Takes what a clause leaves, if it is one literal; answers whether it leaves none.
-    #[inline]
-    fn look_at(&mut self, place: u32) -> Result<bool, Memory>
-        ensures propagates { Propagates self.old self.new }
-        ensures conflict { IfOk result (λ conflict. IsTrue conflict → Contradicts self.old) }
-        ensures walks { Walks self.old self.new }
-        ensures looks { StandsAt self.old.clauses.words.items place
-            → self.new.looks ≡ self.old.looks - (1 + size_at self.old.clauses.words.items place) }
-        ensures left { (k : ℕ) → StandsAt self.old.clauses.words.items place
-            → IsKnownBut self.old.clauses.words.items self.old.known.truths.items place k
-            → IfOk result (Leaves self.old self.new place k) }
-    {
-        self.looks = self.looks.saturating_sub(1);
-        let Some(literals) = self.clauses.literals(place as usize) else {
-            return Ok(false);
-        };
-        let size = literals.len() as u64;
-        let left = self.known.left(literals);
-        self.looks = self.looks.saturating_sub(size);
-        match left {
-            Left::Nothing => Ok(true),
-            Left::One(literal) => {
-                self.known.take(literal)?;
-                Ok(false)
-            }
-            Left::More => Ok(false),
-        }
-    }
-
-    // Looks at the clauses that hints name, up to a negative one; answers whether there is a conflict. A hint that
-    // gives nothing is passed over. It ends without a conflict where no looks are left.
-    fn walk(&mut self, hints: &[Lit]) -> Result<bool, Memory>
-        ensures propagates { Propagates self.old self.new }
-        ensures conflict { IfOk result (λ conflict. IsTrue conflict → Contradicts self.old) }
-        ensures walks { Walks self.old self.new }
-        ensures shown { (truths : List ℕ) → AreKnown self.old.known.truths.items truths
-            → Shows (numbered self.old) (variables self.old) self.old.looks truths hints.now → IfOk result IsTrue }
-    {
-        for hint in hints {
-            if hint.is_neg() || self.looks == 0 {
-                return Ok(false);
-            }
-            let place = self.ids.place(id_of(*hint));
-            if self.look_at(place)? {
-                return Ok(true);
-            }
-        }
-        Ok(false)
-    }
-
-    // The same for two lists of hints.
-    fn walk_both(&mut self, first: &[Lit], second: &[Lit]) -> Result<bool, Memory>
-        ensures propagates { Propagates self.old self.new }
-        ensures conflict { IfOk result (λ conflict. IsTrue conflict → Contradicts self.old) }
-    {
-        if self.walk(first)? {
-            return Ok(true);
-        }
-        self.walk(second)
-    }
-
     // Takes the literals that follow; answers whether there is a conflict.
     fn deduce(&mut self, way: Way<'_>) -> Result<bool, Memory>
-        ensures propagates { Propagates self.old self.new }
-        ensures conflict { IfOk result (λ conflict. IsTrue conflict → Contradicts self.old) }
+        ensures conflict { Searches self.old self.new result }
     {
         match way {
             Way::Search => self.propagate(),
-            Way::Named(first, second) => self.walk_both(first, second),
+            Way::Named(first, second) => {
+                if self.walk(first)? {
+                    return Ok(true);
+                }
+                self.walk(second)
+            }
         }
     }
 
     // Takes the literals of a clause to be false; answers whether one is known to be true.
-    fn assume(&mut self, clause: &[Lit]) -> Result<bool, Memory>
-        ensures assumes { Assumes clause.now self.old self.new }
-        ensures implied { IfOk result (λ conflict. IsTrue conflict → Implies self.old clause.now) }
+    pub(crate) fn assume(&mut self, clause: &[Lit]) -> Result<bool, Memory>
+        ensures implied { Refutes clause.now self.old self.new result }
         ensures walks { Walks self.old self.new }
         ensures looks { self.new.looks ≡ self.old.looks }
         ensures known { AreNamed clause.now (variables self.old)
@@ -303,8 +236,7 @@ impl Propagator {
 
     // Whether there is a conflict where the literals of a clause are false.
     fn try_clause(&mut self, clause: &[Lit], way: Way<'_>) -> Result<bool, Memory>
-        ensures assumes { Assumes clause.now self.old self.new }
-        ensures implied { IfOk result (λ conflict. IsTrue conflict → Implies self.old clause.now) }
+        ensures implied { Refutes clause.now self.old self.new result }
     {
         if self.assume(clause)? {
             return Ok(true);
@@ -312,64 +244,18 @@ impl Propagator {
         self.deduce(way)
     }
 
-    /// Whether a clause follows by unit propagation.
-    pub(crate) fn follows(&mut self, clause: &[Lit], way: Way<'_>) -> Result<bool, Memory>
-        ensures narrows { Narrows self.old self.new }
-        ensures implied { IfOk result (λ follows. IsTrue follows → Implies self.old clause.now) }
-    {
-        let follows = self.try_clause(clause, way);
-        self.known.undo();
-        follows
-    }
-
-    // How many looks a step may take to follow by its hints.
-    fn limit(&self) -> u64
-        ensures { result ≡ 65536 + length self.now.clauses.words.items }
-    {
-        MORE_LOOKS + self.clauses.len() as u64
-    }
-
-    // Whether there is a conflict where the literals of a clause are false, as hints show.
-    fn try_hints(&mut self, clause: &[Lit], hints: &[Lit]) -> Result<bool, Memory>
-        ensures assumes { Assumes clause.now self.old self.new }
-        ensures implied { IfOk result (λ conflict. IsTrue conflict → Implies self.old clause.now) }
-        ensures walks { Walks self.old self.new }
-        ensures shown { IsShown (numbered self.old) (variables self.old) self.old.looks clause.now hints.now
-            → IfOk result IsTrue }
-    {
-        if self.assume(clause)? {
-            return Ok(true);
-        }
-        self.walk(hints)
-    }
-
-    /// Whether a clause follows by hints. It takes a limited number of looks.
-    pub(crate) fn follows_by(&mut self, clause: &[Lit], hints: &[Lit]) -> Result<bool, Memory>
-        ensures narrows { Narrows self.old self.new }
-        ensures implied { IfOk result (λ follows. IsTrue follows → Implies self.old clause.now) }
-        ensures clauses { self.new.clauses ≡ self.old.clauses }
-        ensures ids { self.new.ids ≡ self.old.ids }
-        ensures variables { variables self.new ≡ variables self.old }
-        ensures shown { IsShownBy self.old clause.now hints.now → IfOk result IsTrue }
-    {
-        self.looks = self.limit();
-        let follows = self.try_hints(clause, hints);
-        self.looks = u64::MAX;
-        self.known.undo();
-        follows
-    }
-
     /// Whether a clause follows by unit propagation, as the looks that are left show.
-    pub(crate) fn follows_soon(&mut self, clause: &[Lit], way: Way<'_>) -> Result<bool, Memory>
-        ensures narrows { Narrows self.old self.new }
-        ensures implied { IfOk result (λ follows. IsTrue follows → Implies self.old clause.now) }
+    pub(crate) fn follows(&mut self, clause: &[Lit], way: Way<'_>) -> Result<bool, Memory>
+        ensures implied { Tests clause.now self.old self.new result }
     {
         let looks = clause.len() as u64;
         if looks > self.looks {
             return Ok(false);
         }
         self.looks = self.looks.saturating_sub(looks);
-        self.follows(clause, way)
+        let follows = self.try_clause(clause, way);
+        self.known.undo();
+        follows
     }
 
     /// Takes a literal to be true for good; answers whether there is a conflict.

@@ -1,5 +1,5 @@
 //! The numbers of a model.
-ghost use Rattle.std.specs.Prelude.{◌≡◌, ◌+◌, ◌<◌, ◌≤◌, ℕ, ◌++◌, IfSome, None};
+ghost use Rattle.std.specs.Prelude.{◌≡◌, ◌+◌, ◌<◌, ◌≤◌, ◌++◌, ℕ, IfSome, None};
 ghost use Rattle.std.specs.Fmt.{decimal};
 ghost use Rattle.aig_parts.specs.Literal.{variable};
 ghost use Rattle.aig_sat.specs.model.ModelText.{number_text};
@@ -12,8 +12,7 @@ fn longer_number(first: u32, digits: &[u8], most: u32) -> Option<u32>
     requires most { first ≤ most }
     ensures spelled { IfSome result (λ n. decimal first ++ digits.now ≡ decimal n) }
     ensures none { result ≡ None → (n : ℕ) → n ≤ most → decimal first ++ digits.now ≡ decimal n → ⊥ }
-    ensures some { IfSome result (λ n. 0 < n) }
-    ensures most { IfSome result (λ n. n ≤ most) }
+    ensures bounds { IfSome result (λ n. (0 < n) × (n ≤ most)) }
 {
     let mut number = first;
     for digit in digits {
@@ -33,8 +32,7 @@ fn longer_number(first: u32, digits: &[u8], most: u32) -> Option<u32>
 fn positive_number(bytes: &[u8], most: u32) -> Option<u32>
     ensures spelled { IfSome result (λ n. bytes.now ≡ decimal n) }
     ensures none { result ≡ None → (n : ℕ) → 0 < n → n ≤ most → bytes.now ≡ decimal n → ⊥ }
-    ensures some { IfSome result (λ n. 0 < n) }
-    ensures most { IfSome result (λ n. n ≤ most) }
+    ensures bounds { IfSome result (λ n. (0 < n) × (n ≤ most)) }
 {
     let (first, rest) = bytes.split_first()?;
     if !first.is_ascii_digit() || *first == b'0' {

@@ -1,17 +1,19 @@
 //! Reading models.
-ghost use Rattle.std.specs.Prelude.{◌≡◌, ◌≢◌, ◌↔◌, ◌+◌, ◌-◌, ◌<◌, ◌≤◌, ℕ, List, [], ◌∷◌, ◌++◌, length, take, drop, All};
-ghost use Rattle.std.specs.Prelude.{Contains, None, Some, Err, IfErr, IfOk, IfSome, IsTrue, OnOk, false, slice_get};
+ghost use Rattle.std.specs.Prelude.{◌≡◌, ◌≢◌, ◌↔◌, ◌+◌, ◌-◌, ◌<◌, ◌≤◌, ◌∷◌, ◌++◌, ℕ, List, [], take, Contains, None};
+ghost use Rattle.std.specs.Prelude.{Some, Err, IfErr, IfOk, IfSome, IsTrue, OnOk, false, slice_get};
 ghost use Rattle.aig_parts.specs.Literal.{negation, variable};
 ghost use Rattle.aig_parts.specs.declared.ternary.Tern.{Tern};
-ghost use Rattle.aig_sat.specs.model.ModelText.{BeginsLine, HasStatus, IsModelOf, IsSpace, number_text};
-ghost use Rattle.aig_sat.specs.model.ModelText.{SaysSatisfiable, SaysUnknown, SaysUnsatisfiable};
+ghost use Rattle.aig_sat.specs.model.ModelText.{BeginsLine, HasStatus, IsModelOf, IsSpace, SaysSatisfiable};
+ghost use Rattle.aig_sat.specs.model.ModelText.{SaysUnknown, SaysUnsatisfiable, number_text};
 ghost use Rattle.aig_sat.specs.model.Named.{AreNamed};
-ghost use Rattle.aig_sat.specs.model.state.Reading.{BeginsLineAt, GoesOn, GoesOnLine, HasRead, IsAnswerByte, ReadUpTo};
-ghost use Rattle.aig_sat.specs.model.state.Reading.{Says};
+ghost use Rattle.aig_sat.specs.model.state.Reading.{BeginsLineAt, GoesOn, HasRead, IsAnswerByte, ReadUpTo, Says};
+ghost use Rattle.aig_sat.specs.model.state.Reading.{TakesAt};
 
 use crate::model::assignment::Assignment;
 use crate::model::fault::ModelFault;
 use crate::model::number::parse_literal;
+use crate::model::place::TextPlace;
+use crate::model::progress::Reader;
 use std::alloc::Global;
 
 /// How far the text of a model was read.
@@ -31,66 +33,6 @@ pub enum Answer {
     Satisfiable,
     Unsatisfiable,
     Unknown,
-}
-
-/// The values that were read, and how far the text was read.
-#[derive(Drop)]
-pub struct Reader {
-    values: Assignment,
-    phase: Phase,
-}
-
-fn is_space(byte: u8) -> bool
-    ensures { IsTrue result ↔ IsSpace byte }
-{
-    byte == b' ' || byte == b'\t' || byte == b'\n'
-}
-
-// The byte at a place, or the LF that ends the last line.
-fn byte_at(text: &[u8], at: usize) -> u8
-    requires { at ≤ length text.now }
-    ensures is { slice_get (text.now ++ 10 ∷ []) at ≡ Some result }
-    ensures inside { result ≢ 10 → at < length text.now }
-{
-    if at < text.len() { text[at] } else { b'\n' }
-}
-
-// Whether a line begins at a place.
-fn begins_line(text: &[u8], at: usize) -> bool
-    requires { at ≤ length text.now }
-    ensures { IsTrue result ↔ BeginsLine (take at (text.now ++ 10 ∷ [])) }
-{
-    at == 0 || text[at - 1] == b'\n'
-}
-
-// Where the first LF at or after a place stands, or the length.
-fn line_end(text: &[u8], at: usize) -> usize
-    requires { at ≤ length text.now }
-    ensures after { at ≤ result }
-    ensures bound { result ≤ length text.now }
-    ensures ended { slice_get (text.now ++ 10 ∷ []) result ≡ Some 10 }
-    ensures no_end { All (λ b. b ≢ 10) (take (result - at) (drop at text.now)) }
-{
-    let mut end = at;
-    while end < text.len() && text[end] != b'\n' {
-        end += 1;
-    }
-    end
-}
-
-// Where the first space at or after a place stands, or the length.
-fn word_end(text: &[u8], at: usize) -> usize
-    requires { at ≤ length text.now }
-    ensures after { at ≤ result }
-    ensures bound { result ≤ length text.now }
-    ensures ended { (b : ℕ) → slice_get (text.now ++ 10 ∷ []) result ≡ Some b → IsSpace b }
-    ensures no_space { All (λ b. IsSpace b → ⊥) (take (result - at) (drop at text.now)) }
-{
-    let mut end = at;
-    while end < text.len() && !is_space(text[end]) {
-        end += 1;
-    }
-    end
 }
 
 // What a solver's line says.
@@ -114,6 +56,21 @@ fn answer_of(line: &[u8]) -> Option<Answer>
         return Some(Answer::Unknown);
     }
     None
+}
+
+// Rejects a line by which a solver answers, unless it says that there is a model.
+fn check_answer(line: &[u8], at: u64) -> Result<(), ModelFault>
+    ensures satisfiable { OnOk result (SaysSatisfiable line.now) }
+    ensures unsatisfiable { result ≡ Err ModelFault.Unsatisfiable → SaysUnsatisfiable line.now }
+    ensures unknown { result ≡ Err ModelFault.Unknown → SaysUnknown line.now }
+    ensures refused { (a : ℕ) → result ≡ Err (ModelFault.Text a) → SaysSatisfiable line.now → ⊥ }
+{
+    match answer_of(line) {
+        Some(Answer::Satisfiable) => Ok(()),
+        Some(Answer::Unsatisfiable) => Err(ModelFault::Unsatisfiable),
+        Some(Answer::Unknown) => Err(ModelFault::Unknown),
+        None => Err(ModelFault::Text(at)),
+    }
 }
 
 // Whether a line that begins so may be a solver's answer.
@@ -147,66 +104,45 @@ fn is_end(word: &[u8]) -> bool
 impl Reader {
     // Nothing was read.
     fn new(alloc: Global, variables: u32) -> Result<Reader, ModelFault>
+        requires { variables ≤ 2147483648 }
         ensures nothing { IfOk result (λ reader. HasRead reader [] []) }
-        ensures count { IfOk result (λ reader. length reader.values ≡ variables) }
+        ensures count { IfOk result (λ reader. reader.variables ≡ variables) }
         ensures memory { IfErr result (λ fault. fault ≡ ModelFault.Memory) }
     {
         Ok(Reader {
             values: Assignment::new(alloc, variables)?,
+            variables,
             phase: Phase::Before,
         })
     }
 
-    // Reads the line by which a solver answers.
-    fn take_answer(&mut self, line: &[u8], at: u64) -> Result<(), ModelFault>
-        requires { self.old.phase ≡ Phase.Before }
-        ensures goes_on { OnOk result (GoesOnLine self.old self.new line.now 10) }
-        ensures unsatisfiable { result ≡ Err ModelFault.Unsatisfiable → SaysUnsatisfiable line.now }
-        ensures unknown { result ≡ Err ModelFault.Unknown → SaysUnknown line.now }
-        ensures refused { (a : ℕ) → result ≡ Err (ModelFault.Text a) → SaysSatisfiable line.now → ⊥ }
-        ensures count { length self.new.values ≡ length self.old.values }
-    {
-        match answer_of(line) {
-            Some(Answer::Satisfiable) => {
-                self.phase = Phase::Within;
-                Ok(())
-            }
-            Some(Answer::Unsatisfiable) => Err(ModelFault::Unsatisfiable),
-            Some(Answer::Unknown) => Err(ModelFault::Unknown),
-            None => Err(ModelFault::Text(at)),
-        }
-    }
-
     // Reads a literal, and answers whether the word is one.
-    fn take_literal(&mut self, word: &[u8], variables: u32) -> bool
-        requires variables { variables ≤ 2147483648 }
-        requires count { length self.old.values ≡ variables }
-        requires phase { self.old.phase ≢ Phase.After }
+    fn take_literal(&mut self, word: &[u8]) -> bool
+        requires { self.old.phase ≢ Phase.After }
         ensures goes_on { IsTrue result → (b : ℕ) → IsSpace b → GoesOn self.old self.new word.now b }
-        ensures refused { result ≡ false → (l : ℕ) → variable l < variables → word.now ≡ number_text l →
-            (literals : List ℕ) → AreNamed literals variables self.old.values → Contains literals (negation l) }
-        ensures count { length self.new.values ≡ length self.old.values }
+        ensures refused { result ≡ false → (l : ℕ) → variable l < self.old.variables → word.now ≡ number_text l →
+            (literals : List ℕ) → AreNamed literals self.old.variables self.old.values →
+            Contains literals (negation l) }
+        ensures count { self.new.variables ≡ self.old.variables }
     {
         self.phase = Phase::Within;
-        match parse_literal(word, variables) {
+        match parse_literal(word, self.variables) {
             Some(literal) => self.values.name(literal),
             None => false,
         }
     }
 
     // Reads a word that is not empty, and answers whether it may stand there. It may be a `v` where a line begins.
-    fn take_word(&mut self, word: &[u8], variables: u32, begins_line: bool) -> bool
-        requires variables { variables ≤ 2147483648 }
-        requires count { length self.old.values ≡ variables }
+    fn take_word(&mut self, word: &[u8], begins_line: bool) -> bool
         ensures goes_on { IsTrue result → (b : ℕ) → IsSpace b → (text literals : List ℕ) →
             (IsTrue begins_line → BeginsLine text) → HasRead self.old text literals →
             (more : List ℕ) × HasRead self.new (text ++ (word.now ++ b ∷ [])) more }
         ensures no_mark { result ≡ false → self.old.phase ≢ Phase.After → IsTrue begins_line → word.now ≢ 118 ∷ [] }
         ensures no_end { result ≡ false → self.old.phase ≢ Phase.After → word.now ≢ 48 ∷ [] }
-        ensures no_literal { result ≡ false → self.old.phase ≢ Phase.After → (l : ℕ) → variable l < variables →
-            word.now ≡ number_text l → (literals : List ℕ) → AreNamed literals variables self.old.values →
-            Contains literals (negation l) }
-        ensures count { length self.new.values ≡ length self.old.values }
+        ensures no_literal { result ≡ false → self.old.phase ≢ Phase.After → (l : ℕ) →
+            variable l < self.old.variables → word.now ≡ number_text l → (literals : List ℕ) →
+            AreNamed literals self.old.variables self.old.values → Contains literals (negation l) }
+        ensures count { self.new.variables ≡ self.old.variables }
     {
         if self.phase == Phase::After {
             return false;
@@ -218,7 +154,7 @@ impl Reader {
             self.phase = Phase::After;
             return true;
         }
-        self.take_literal(word, variables)
+        self.take_literal(word)
     }
 
     // Whether a line begins by which a solver may answer.
@@ -229,76 +165,60 @@ impl Reader {
     }
 
     // Reads the line at a place by which a solver answers, and gives the place after it.
-    fn take_line(&mut self, text: &[u8], at: usize) -> Result<usize, ModelFault>
-        requires variables { length self.old.values ≤ 2147483648 }
-        requires at { at ≤ length text.now }
-        requires first { (x : ℕ) → slice_get (text.now ++ 10 ∷ []) at ≡ Some x → IsAnswerByte x }
-        requires begins { BeginsLine (take at (text.now ++ 10 ∷ [])) }
+    fn take_line(&mut self, place: TextPlace<'_>) -> Result<usize, ModelFault>
+        requires first { (x : ℕ) → slice_get (place.text.now ++ 10 ∷ []) place.at ≡ Some x → IsAnswerByte x }
+        requires begins { BeginsLine (take place.at (place.text.now ++ 10 ∷ [])) }
         requires before { self.old.phase ≡ Phase.Before }
-        ensures goes_on { IfOk result (λ next. ReadUpTo self.old text.now at → ReadUpTo self.new text.now next) }
-        ensures after { IfOk result (λ next. at < next) }
-        ensures count { length self.new.values ≡ length self.old.values }
-        ensures unsatisfiable { result ≡ Err ModelFault.Unsatisfiable → ReadUpTo self.old text.now at →
-            HasStatus SaysUnsatisfiable (length self.old.values) text.now }
-        ensures unknown { result ≡ Err ModelFault.Unknown → ReadUpTo self.old text.now at →
-            HasStatus SaysUnknown (length self.old.values) text.now }
-        ensures refused { (a : ℕ) → result ≡ Err (ModelFault.Text a) → ReadUpTo self.old text.now at →
-            (values : List Tern) → IsModelOf (length self.old.values) text.now values → ⊥ }
+        ensures { TakesAt self.old self.new place.entry.text.now place.entry.at result }
     {
-        let end = line_end(text, at);
-        self.take_answer(&text[at..end], at as u64)?;
+        let end = place.line_end();
+        check_answer(&place.text[place.at..end], place.at as u64)?;
+        self.phase = Phase::Within;
         Ok(end + 1)
     }
 
     // Reads the word or the space at a place, and gives the place after it, or none where no such word may stand there.
-    fn take_piece(&mut self, text: &[u8], at: usize, variables: u32, begins: bool) -> Option<usize>
-        requires variables { variables ≤ 2147483648 }
-        requires count { length self.old.values ≡ variables }
-        requires at { at ≤ length text.now }
-        requires begins { IsTrue begins ↔ BeginsLine (take at (text.now ++ 10 ∷ [])) }
-        ensures goes_on { IfSome result (λ next. ReadUpTo self.old text.now at → ReadUpTo self.new text.now next) }
-        ensures after { IfSome result (λ next. at < next) }
-        ensures count { length self.new.values ≡ length self.old.values }
-        ensures refused { result ≡ None → ReadUpTo self.old text.now at → (values : List Tern) →
-            IsModelOf variables text.now values → BeginsLineAt self.old text.now at }
+    fn take_piece(&mut self, place: TextPlace<'_>, begins: bool) -> Option<usize>
+        requires { IsTrue begins ↔ BeginsLine (take place.at (place.text.now ++ 10 ∷ [])) }
+        ensures goes_on { IfSome result
+            (λ next. ReadUpTo self.old place.entry.text.now place.entry.at →
+            ReadUpTo self.new place.entry.text.now next) }
+        ensures after { IfSome result (λ next. place.entry.at < next) }
+        ensures count { self.new.variables ≡ self.old.variables }
+        ensures refused { result ≡ None → ReadUpTo self.old place.entry.text.now place.entry.at → (values : List Tern) →
+            IsModelOf self.old.variables place.entry.text.now values →
+            BeginsLineAt self.old place.entry.text.now place.entry.at }
     {
-        let end = word_end(text, at);
-        if end == at {
+        let end = place.word_end();
+        if end == place.at {
             return Some(end + 1);
         }
-        if self.take_word(&text[at..end], variables, begins) {
+        if self.take_word(&place.text[place.at..end], begins) {
             Some(end + 1)
         } else {
             None
         }
     }
 
-    // Reads what stands at a place up to the space that ends it, and gives the place after that.
-    fn take(&mut self, text: &[u8], at: usize, variables: u32) -> Result<usize, ModelFault>
-        requires variables { variables ≤ 2147483648 }
-        requires count { length self.old.values ≡ variables }
-        requires at { at ≤ length text.now }
-        ensures goes_on { IfOk result (λ next. ReadUpTo self.old text.now at → ReadUpTo self.new text.now next) }
-        ensures after { IfOk result (λ next. at < next) }
-        ensures count { length self.new.values ≡ length self.old.values }
-        ensures unsatisfiable { result ≡ Err ModelFault.Unsatisfiable → ReadUpTo self.old text.now at →
-            HasStatus SaysUnsatisfiable (length self.old.values) text.now }
-        ensures unknown { result ≡ Err ModelFault.Unknown → ReadUpTo self.old text.now at →
-            HasStatus SaysUnknown (length self.old.values) text.now }
-        ensures refused { (a : ℕ) → result ≡ Err (ModelFault.Text a) → ReadUpTo self.old text.now at →
-            (values : List Tern) → IsModelOf variables text.now values → ⊥ }
+    // Reads what is at a place up to the space that ends it, and gives the place after that.
+    fn take(&mut self, place: TextPlace<'_>) -> Result<usize, ModelFault>
+        ensures { TakesAt self.old self.new place.entry.text.now place.entry.at result }
     {
-        let first = byte_at(text, at);
-        let begins = begins_line(text, at);
+        let first = place.byte();
+        let begins = place.begins_line();
         if is_comment(begins, first) {
-            return Ok(line_end(text, at + 1) + 1);
+            let rest = TextPlace {
+                text: place.text,
+                at: place.at + 1,
+            };
+            return Ok(rest.line_end() + 1);
         }
         if self.may_answer(begins, first) {
-            return self.take_line(text, at);
+            return self.take_line(place);
         }
-        match self.take_piece(text, at, variables, begins) {
+        match self.take_piece(place, begins) {
             Some(next) => Ok(next),
-            None => Err(ModelFault::Text(at as u64)),
+            None => Err(ModelFault::Text(place.at as u64)),
         }
     }
 }
@@ -318,7 +238,7 @@ pub fn read_model(alloc: Global, text: &[u8], variables: u32) -> Result<Assignme
     let mut reader = Reader::new(alloc, variables)?;
     let mut at = 0;
     while at <= text.len() {
-        at = reader.take(text, at, variables)?;
+        at = reader.take(TextPlace { text, at })?;
     }
     if reader.phase != Phase::After {
         return Err(ModelFault::Text(text.len() as u64));

@@ -1,14 +1,14 @@
 //! The binary form of a proof: `a` or `d`, a number for each literal, and 0. A number is twice the variable, which
 //! counts from 1, and one more where the literal is negated; it stands in groups of seven bits, the lowest first.
-ghost use Rattle.std.specs.Prelude.{◌≡◌, ◌≢◌, ◌⊎◌, ◌+◌, ◌<◌, ◌≤◌, ℕ, List, [], ◌∷◌, Err, IfOk, IfSome, IsTrue, None};
+ghost use Rattle.std.specs.Prelude.{◌≡◌, ◌≢◌, ◌⊎◌, ◌+◌, ◌<◌, ◌≤◌, ◌∷◌, ℕ, List, [], Err, IfOk, IfSome, IsTrue, None};
 ghost use Rattle.std.specs.Prelude.{false};
 ghost use Rattle.std.specs.Option.{IsSomeAnd};
 ghost use Rattle.aig_bytes.specs.Bytes.{IsAtEnd};
 ghost use Rattle.aig_parts.specs.Literal.{variable};
 ghost use Rattle.aig_sat.specs.proof.ProofBytes.{Groups, first_byte};
-ghost use Rattle.aig_sat.specs.proof.Reads.{reads_failed};
 ghost use Rattle.aig_sat.specs.proof.Steps.{BinaryStepToCome, bytes_to_come};
-ghost use Rattle.aig_sat.specs.proof.state.Taking.{LeadsLiterals, LiteralsToCome, NumberToCome, TakesBytes, to_take};
+ghost use Rattle.aig_sat.specs.proof.state.Taking.{LeadsLiterals, LiteralsToCome, NumberToCome, Refuses, TakesBytes};
+ghost use Rattle.aig_sat.specs.proof.state.Taking.{TakesSome};
 
 use crate::proof::bytes::ProofBytes;
 use crate::proof::fault::ReadFault;
@@ -25,15 +25,14 @@ pub(crate) fn binary_kind<R: Read>(
     bytes: &mut ProofBytes,
     reader: &mut R,
 ) -> Result<Option<StepKind>, ReadFault>
-    ensures count { R.failures reader.new ≡ R.failures reader.old + reads_failed result }
     ensures kind { IfOk result (λ kind. IfSome kind (λ k.
         TakesBytes bytes.old bytes.new (R.left reader.old) (R.left reader.new) (first_byte k ∷ []))) }
     ensures none { IfOk result (λ kind. kind ≡ None → IsAtEnd (bytes_to_come bytes.old (R.left reader.old))) }
     ensures goes_on { IfOk result (λ kind. IfSome kind (λ k.
         IsSomeAnd (bytes_to_come bytes.old (R.left reader.old)) BinaryStepToCome →
         IsSomeAnd (bytes_to_come bytes.new (R.left reader.new)) LiteralsToCome)) }
-    ensures refused { (at : ℕ) → result ≡ Err (ReadFault.Text at) →
-        IsSomeAnd (bytes_to_come bytes.old (R.left reader.old)) BinaryStepToCome → ⊥ }
+    ensures refused { Refuses R.failures reader.old reader.new result
+        (IsSomeAnd (bytes_to_come bytes.old (R.left reader.old)) BinaryStepToCome → ⊥) }
 {
     let at = bytes.at();
     match bytes.next(reader)? {
@@ -64,13 +63,10 @@ fn may_end(byte: u8, power: u64) -> bool
 
 /// The next number, in its shortest spelling. A number of more than five groups is over the limit, and rejected.
 fn binary_number<R: Read>(bytes: &mut ProofBytes, reader: &mut R) -> Result<u64, ReadFault>
-    ensures count { R.failures reader.new ≡ R.failures reader.old + reads_failed result }
     ensures number { IfOk result (λ n. (taken : List ℕ) × Groups n taken
         × TakesBytes bytes.old bytes.new (R.left reader.old) (R.left reader.new) taken) }
-    ensures lowers { IfOk result (λ _.
-        to_take (R.reads_left reader.new) bytes.new < to_take (R.reads_left reader.old) bytes.old) }
-    ensures refused { (at : ℕ) → result ≡ Err (ReadFault.Text at) →
-        IsSomeAnd (bytes_to_come bytes.old (R.left reader.old)) NumberToCome → ⊥ }
+    ensures refused { TakesSome R.failures R.reads_left reader.old reader.new bytes.old bytes.new result
+        (IsSomeAnd (bytes_to_come bytes.old (R.left reader.old)) NumberToCome → ⊥) }
 {
     let at = bytes.at();
     let mut number = 0u64;
@@ -96,17 +92,14 @@ pub(crate) fn binary_literal<R: Read>(
     bytes: &mut ProofBytes,
     reader: &mut R,
 ) -> Result<Option<Lit>, ReadFault>
-    ensures count { R.failures reader.new ≡ R.failures reader.old + reads_failed result }
     ensures variable { IfOk result (λ next. IfSome next (λ l. variable l < 2147483647)) }
     ensures literal { IfOk result (λ next. (taken : List ℕ) × LeadsLiterals taken next
         × TakesBytes bytes.old bytes.new (R.left reader.old) (R.left reader.new) taken) }
-    ensures lowers { IfOk result (λ _.
-        to_take (R.reads_left reader.new) bytes.new < to_take (R.reads_left reader.old) bytes.old) }
     ensures goes_on { IfOk result (λ next. IfSome next (λ _.
         IsSomeAnd (bytes_to_come bytes.old (R.left reader.old)) LiteralsToCome →
         IsSomeAnd (bytes_to_come bytes.new (R.left reader.new)) LiteralsToCome)) }
-    ensures refused { (at : ℕ) → result ≡ Err (ReadFault.Text at) →
-        IsSomeAnd (bytes_to_come bytes.old (R.left reader.old)) LiteralsToCome → ⊥ }
+    ensures refused { TakesSome R.failures R.reads_left reader.old reader.new bytes.old bytes.new result
+        (IsSomeAnd (bytes_to_come bytes.old (R.left reader.old)) LiteralsToCome → ⊥) }
 {
     let at = bytes.at();
     let number = binary_number(bytes, reader)?;

@@ -1,9 +1,9 @@
 //! The bytes of a proof.
-ghost use Rattle.std.specs.Prelude.{◌≡◌, ◌↔◌, ◌+◌, ◌<◌, ◌≤◌, [], ◌∷◌, length, true, false};
-ghost use Rattle.std.specs.Prelude.{None, IfOk, IfSome, IsTrue, OnOk, slice_get};
-ghost use Rattle.aig_bytes.specs.Bytes.{IsAtEnd, failed};
+ghost use Rattle.std.specs.Prelude.{◌≡◌, ◌↔◌, ◌+◌, ◌<◌, ◌≤◌, ◌∷◌, [], length, true, false, None, IfOk, IfSome, IsTrue};
+ghost use Rattle.std.specs.Prelude.{slice_get};
+ghost use Rattle.aig_bytes.specs.Bytes.{IsAtEnd};
 ghost use Rattle.aig_sat.specs.proof.Steps.{TakesText, text_to_come};
-ghost use Rattle.aig_sat.specs.proof.state.Taking.{TakesBytes, listed, to_take};
+ghost use Rattle.aig_sat.specs.proof.state.Taking.{Loads, Lowers, ReadsOn, Shows, TakesBytes, listed};
 
 use aig_bytes::{Failed, Read};
 use std::marker::Model;
@@ -86,10 +86,7 @@ impl ProofBytes {
     /// Reads once, after the bytes that were read, and returns how many bytes it got.
     fn load<R: Read>(&mut self, reader: &mut R) -> Result<usize, Failed>
         requires { self.old.ended ≡ false }
-        ensures count { R.failures reader.new ≡ R.failures reader.old + failed result }
-        ensures text { TakesText self.old self.new (R.left reader.old) (R.left reader.new) [] }
-        ensures bytes { TakesBytes self.old self.new (R.left reader.old) (R.left reader.new) [] }
-        ensures ended { self.new.ended ≡ false }
+        ensures loads { Loads R.left R.failures reader.old reader.new self.old self.new result }
     {
         match reader.read(&mut self.buffer[self.end..]) {
             Err(Failed) => Err(Failed),
@@ -102,9 +99,7 @@ impl ProofBytes {
 
     /// Reads until the array is full or a read gives no byte.
     pub(crate) fn fill<R: Read>(&mut self, reader: &mut R) -> Result<(), Failed>
-        ensures count { R.failures reader.new ≡ R.failures reader.old + failed result }
-        ensures text { TakesText self.old self.new (R.left reader.old) (R.left reader.new) [] }
-        ensures bytes { TakesBytes self.old self.new (R.left reader.old) (R.left reader.new) [] }
+        ensures loads { Loads R.left R.failures reader.old reader.new self.old self.new result }
     {
         if self.ended {
             return Ok(());
@@ -131,44 +126,6 @@ impl ProofBytes {
         self.ended = true;
     }
 
-    /// Reads once into the whole array, and returns how many bytes it got.
-    fn reload<R: Read>(&mut self, reader: &mut R) -> Result<usize, Failed>
-        requires none { self.old.waiting ≡ [] }
-        requires ended { self.old.ended ≡ false }
-        ensures count { R.failures reader.new ≡ R.failures reader.old + failed result }
-        ensures text { TakesText self.old self.new (R.left reader.old) (R.left reader.new) [] }
-        ensures bytes { TakesBytes self.old self.new (R.left reader.old) (R.left reader.new) [] }
-        ensures ended { self.new.ended ≡ false }
-        ensures got { IfOk result (λ n. length self.new.waiting ≡ n) }
-        ensures at_end { IfOk result (λ n. n ≡ 0 → IsAtEnd (R.left reader.new)) }
-        ensures never_more { to_take (R.reads_left reader.new) self.new ≤ to_take (R.reads_left reader.old) self.old }
-    {
-        self.begin = self.begin.saturating_add(self.end as u64);
-        self.start = 0;
-        self.end = 0;
-        let count = reader.read(&mut self.buffer)?;
-        self.end = count;
-        Ok(count)
-    }
-
-    /// Reads where no byte is left in the array.
-    fn read_on<R: Read>(&mut self, reader: &mut R) -> Result<(), Failed>
-        requires { self.old.waiting ≡ [] }
-        ensures count { R.failures reader.new ≡ R.failures reader.old + failed result }
-        ensures text { TakesText self.old self.new (R.left reader.old) (R.left reader.new) [] }
-        ensures bytes { TakesBytes self.old self.new (R.left reader.old) (R.left reader.new) [] }
-        ensures none { OnOk result (self.new.waiting ≡ [] → self.new.ended ≡ true) }
-        ensures never_more { to_take (R.reads_left reader.new) self.new ≤ to_take (R.reads_left reader.old) self.old }
-    {
-        if self.ended {
-            return Ok(());
-        }
-        if self.reload(reader)? == 0 {
-            self.put_end();
-        }
-        Ok(())
-    }
-
     /// The first byte that was read and not taken.
     fn first(&self) -> Option<u8>
         ensures { slice_get self.now.waiting 0 ≡ result }
@@ -184,28 +141,29 @@ impl ProofBytes {
     #[inline(never)]
     fn peek_on<R: Read>(&mut self, reader: &mut R) -> Result<Option<u8>, Failed>
         requires { self.old.waiting ≡ [] }
-        ensures count { R.failures reader.new ≡ R.failures reader.old + failed result }
-        ensures text { TakesText self.old self.new (R.left reader.old) (R.left reader.new) [] }
-        ensures bytes { TakesBytes self.old self.new (R.left reader.old) (R.left reader.new) [] }
-        ensures next { IfOk result (λ byte. slice_get self.new.waiting 0 ≡ byte) }
-        ensures none { IfOk result (λ byte. byte ≡ None → self.new.ended ≡ true) }
-        ensures never_more { to_take (R.reads_left reader.new) self.new ≤ to_take (R.reads_left reader.old) self.old }
+        ensures shows { Shows R.left R.failures R.reads_left reader.old reader.new self.old self.new result }
     {
-        self.read_on(reader)?;
-        Ok(self.first())
+        if self.ended {
+            return Ok(None);
+        }
+        self.begin = self.begin.saturating_add(self.end as u64);
+        self.start = 0;
+        self.end = 0;
+        let count = reader.read(&mut self.buffer)?;
+        self.end = count;
+        if count > 0 {
+            return Ok(self.first());
+        }
+        self.put_end();
+        Ok(Some(b'\n'))
     }
 
     /// The next byte, which stays.
     #[inline]
     pub(crate) fn peek<R: Read>(&mut self, reader: &mut R) -> Result<Option<u8>, Failed>
-        ensures count { R.failures reader.new ≡ R.failures reader.old + failed result }
-        ensures text { TakesText self.old self.new (R.left reader.old) (R.left reader.new) [] }
-        ensures bytes { TakesBytes self.old self.new (R.left reader.old) (R.left reader.new) [] }
-        ensures next { IfOk result (λ byte. slice_get self.new.waiting 0 ≡ byte) }
+        ensures shows { Shows R.left R.failures R.reads_left reader.old reader.new self.old self.new result }
         ensures shown { IfOk result (λ byte. IfSome (text_to_come self.old (R.left reader.old))
             (λ bytes. slice_get bytes 0 ≡ byte)) }
-        ensures none { IfOk result (λ byte. byte ≡ None → self.new.ended ≡ true) }
-        ensures never_more { to_take (R.reads_left reader.new) self.new ≤ to_take (R.reads_left reader.old) self.old }
     {
         if self.start == self.end {
             return self.peek_on(reader);
@@ -228,13 +186,10 @@ impl ProofBytes {
     /// The next byte of a text, which is taken.
     #[inline]
     pub(crate) fn next_char<R: Read>(&mut self, reader: &mut R) -> Result<Option<u8>, Failed>
-        ensures count { R.failures reader.new ≡ R.failures reader.old + failed result }
-        ensures text { IfOk result (λ byte.
+        ensures text { ReadsOn R.failures R.reads_left reader.old reader.new self.old self.new result (λ byte.
             TakesText self.old self.new (R.left reader.old) (R.left reader.new) (listed byte)) }
         ensures none { IfOk result (λ byte. byte ≡ None → IsAtEnd (text_to_come self.old (R.left reader.old))) }
-        ensures lowers { IfOk result (λ byte. IfSome byte (λ _.
-            to_take (R.reads_left reader.new) self.new < to_take (R.reads_left reader.old) self.old)) }
-        ensures never_more { to_take (R.reads_left reader.new) self.new ≤ to_take (R.reads_left reader.old) self.old }
+        ensures lowers { IfOk result (λ b. IfSome b (λ _. Lowers R.reads_left reader.old reader.new self.old self.new)) }
     {
         match self.peek(reader)? {
             Some(byte) => {
@@ -248,13 +203,10 @@ impl ProofBytes {
     /// The next byte of the binary form, which is taken.
     #[inline]
     pub(crate) fn next<R: Read>(&mut self, reader: &mut R) -> Result<Option<u8>, Failed>
-        ensures count { R.failures reader.new ≡ R.failures reader.old + failed result }
-        ensures bytes { IfOk result (λ byte.
+        ensures bytes { ReadsOn R.failures R.reads_left reader.old reader.new self.old self.new result (λ byte.
             TakesBytes self.old self.new (R.left reader.old) (R.left reader.new) (listed byte)) }
         ensures none { IfOk result (λ byte. byte ≡ None → self.new.ended ≡ true) }
-        ensures lowers { IfOk result (λ byte. IfSome byte (λ _.
-            to_take (R.reads_left reader.new) self.new < to_take (R.reads_left reader.old) self.old)) }
-        ensures never_more { to_take (R.reads_left reader.new) self.new ≤ to_take (R.reads_left reader.old) self.old }
+        ensures lowers { IfOk result (λ b. IfSome b (λ _. Lowers R.reads_left reader.old reader.new self.old self.new)) }
     {
         match self.peek(reader)? {
             Some(byte) => {

@@ -1,19 +1,19 @@
 //! A proof as text: a `d` before a clause that is deleted, signed variables, which count from 1, and 0. Blanks and line
 //! ends separate; a line that begins with `c` is a comment. The first step ends its line.
-ghost use Rattle.std.specs.Prelude.{◌≡◌, ◌≢◌, ◌⊎◌, ◌↔◌, ◌+◌, ◌*◌, ◌-◌, ◌^◌, ◌<◌, ◌≤◌, ℕ, List, [], ◌∷◌, ◌++◌, All};
-ghost use Rattle.std.specs.Prelude.{Err, IfOk, IfSome, IsTrue, OnOk, None, Bool, false};
+ghost use Rattle.std.specs.Prelude.{◌≡◌, ◌≢◌, ◌⊎◌, ◌↔◌, ◌+◌, ◌*◌, ◌-◌, ◌^◌, ◌<◌, ◌≤◌, ◌∷◌, ◌++◌, ℕ, List, [], All, Err};
+ghost use Rattle.std.specs.Prelude.{IfOk, IfSome, IsTrue, OnOk, None, Bool, false};
 ghost use Rattle.std.specs.Fmt.{decimal};
 ghost use Rattle.std.specs.Option.{IsSomeAnd};
-ghost use Rattle.aig_bytes.specs.Bytes.{IsAtEnd, failed};
+ghost use Rattle.aig_bytes.specs.Bytes.{IsAtEnd};
 ghost use Rattle.aig_bytes.specs.Term.{minus};
 ghost use Rattle.aig_parts.specs.Literal.{variable};
 ghost use Rattle.aig_sat.specs.model.ModelText.{IsSpace};
 ghost use Rattle.aig_sat.specs.proof.ProofText.{EndsStep, Gap, IsBlank};
-ghost use Rattle.aig_sat.specs.proof.Reads.{reads_failed};
 ghost use Rattle.aig_sat.specs.proof.Steps.{StepToCome, TakesText, text_to_come};
 ghost use Rattle.aig_sat.specs.proof.state.Taking.{BeginsGap, BeginsNot, ClauseToCome, EndsToCome, EndsUnfinished};
-ghost use Rattle.aig_sat.specs.proof.state.Taking.{IsDigit, IsNumber, IsUnfinished, LineToCome, WordToCome};
-ghost use Rattle.aig_sat.specs.proof.state.Taking.{LeadsClause, LeadsGap, LeadsStep, LeadsWord, digits_of, to_take};
+ghost use Rattle.aig_sat.specs.proof.state.Taking.{IsDigit, IsNumber, IsUnfinished, LeadsClause, LeadsGap, LeadsStep};
+ghost use Rattle.aig_sat.specs.proof.state.Taking.{LeadsWord, LineToCome, Lowers, ReadsOn, Refuses, Rejects, TakesSome};
+ghost use Rattle.aig_sat.specs.proof.state.Taking.{WordToCome, digits_of};
 
 use crate::proof::bytes::ProofBytes;
 use crate::proof::fault::ReadFault;
@@ -31,12 +31,10 @@ fn is_space(byte: u8) -> bool
 
 /// Takes the rest of a line and the LF that ends it.
 fn skip_line<R: Read>(bytes: &mut ProofBytes, reader: &mut R) -> Result<(), ReadFault>
-    ensures count { R.failures reader.new ≡ R.failures reader.old + reads_failed result }
     ensures line { OnOk result ((line : List ℕ) × All (λ b. b ≢ 10) line
         × TakesText bytes.old bytes.new (R.left reader.old) (R.left reader.new) (line ++ 10 ∷ [])) }
-    ensures never_more { to_take (R.reads_left reader.new) bytes.new ≤ to_take (R.reads_left reader.old) bytes.old }
-    ensures refused { (at : ℕ) → result ≡ Err (ReadFault.Text at) →
-        IfSome (text_to_come bytes.old (R.left reader.old)) (All (λ b. b ≢ 10)) }
+    ensures refused { Rejects R.failures R.reads_left reader.old reader.new bytes.old bytes.new result
+        (IfSome (text_to_come bytes.old (R.left reader.old)) (All (λ b. b ≢ 10))) }
 {
     while let Some(byte) = bytes.next_char(reader)? {
         if byte == b'\n' {
@@ -48,16 +46,13 @@ fn skip_line<R: Read>(bytes: &mut ProofBytes, reader: &mut R) -> Result<(), Read
 
 /// Takes a space or a comment, and returns whether there was one.
 fn skip_space<R: Read>(bytes: &mut ProofBytes, reader: &mut R) -> Result<bool, ReadFault>
-    ensures count { R.failures reader.new ≡ R.failures reader.old + reads_failed result }
     ensures gap { IfOk result (λ _. (taken : List ℕ) × LeadsGap bytes.old.previous bytes.new.previous taken
         × TakesText bytes.old bytes.new (R.left reader.old) (R.left reader.new) taken) }
-    ensures lowers { IfOk result (λ some. IsTrue some →
-        to_take (R.reads_left reader.new) bytes.new < to_take (R.reads_left reader.old) bytes.old) }
-    ensures never_more { to_take (R.reads_left reader.new) bytes.new ≤ to_take (R.reads_left reader.old) bytes.old }
+    ensures lowers { IfOk result (λ some. IsTrue some → Lowers R.reads_left reader.old reader.new bytes.old bytes.new) }
     ensures none { IfOk result (λ some. some ≡ false →
         IfSome (text_to_come bytes.new (R.left reader.new)) (BeginsNot (BeginsGap bytes.new.previous))) }
-    ensures refused { (at : ℕ) → result ≡ Err (ReadFault.Text at) →
-        IfSome (text_to_come bytes.old (R.left reader.old)) (IsUnfinished bytes.old.previous) }
+    ensures refused { Rejects R.failures R.reads_left reader.old reader.new bytes.old bytes.new result
+        (IfSome (text_to_come bytes.old (R.left reader.old)) (IsUnfinished bytes.old.previous)) }
 {
     match bytes.peek(reader)? {
         None => Ok(false),
@@ -78,14 +73,12 @@ fn skip_space<R: Read>(bytes: &mut ProofBytes, reader: &mut R) -> Result<bool, R
 
 /// Takes what separates.
 pub(crate) fn skip_gap<R: Read>(bytes: &mut ProofBytes, reader: &mut R) -> Result<(), ReadFault>
-    ensures count { R.failures reader.new ≡ R.failures reader.old + reads_failed result }
     ensures gap { OnOk result ((taken : List ℕ) × LeadsGap bytes.old.previous bytes.new.previous taken
         × TakesText bytes.old bytes.new (R.left reader.old) (R.left reader.new) taken) }
-    ensures never_more { to_take (R.reads_left reader.new) bytes.new ≤ to_take (R.reads_left reader.old) bytes.old }
     ensures whole { OnOk result
         (IfSome (text_to_come bytes.new (R.left reader.new)) (BeginsNot (BeginsGap bytes.new.previous))) }
-    ensures refused { (at : ℕ) → result ≡ Err (ReadFault.Text at) →
-        IfSome (text_to_come bytes.old (R.left reader.old)) (EndsUnfinished bytes.old.previous) }
+    ensures refused { Rejects R.failures R.reads_left reader.old reader.new bytes.old bytes.new result
+        (IfSome (text_to_come bytes.old (R.left reader.old)) (EndsUnfinished bytes.old.previous)) }
 {
     while skip_space(bytes, reader)? {}
     Ok(())
@@ -97,13 +90,11 @@ pub(crate) fn end_word<R: Read>(
     reader: &mut R,
     at: u64,
 ) -> Result<(), ReadFault>
-    ensures count { R.failures reader.new ≡ R.failures reader.old + reads_failed result }
     ensures space { OnOk result (IsSpace bytes.new.previous) }
     ensures taken { OnOk result
         (TakesText bytes.old bytes.new (R.left reader.old) (R.left reader.new) (bytes.new.previous ∷ [])) }
-    ensures never_more { to_take (R.reads_left reader.new) bytes.new ≤ to_take (R.reads_left reader.old) bytes.old }
-    ensures refused { (at : ℕ) → result ≡ Err (ReadFault.Text at) →
-        IfSome (text_to_come bytes.old (R.left reader.old)) (BeginsNot IsSpace) }
+    ensures refused { Rejects R.failures R.reads_left reader.old reader.new bytes.old bytes.new result
+        (IfSome (text_to_come bytes.old (R.left reader.old)) (BeginsNot IsSpace)) }
 {
     match bytes.peek(reader)? {
         Some(byte) if is_space(byte) => {
@@ -116,17 +107,14 @@ pub(crate) fn end_word<R: Read>(
 
 /// Takes a blank or a tab, and returns whether there was one.
 fn skip_blank<R: Read>(bytes: &mut ProofBytes, reader: &mut R) -> Result<bool, Failed>
-    ensures count { R.failures reader.new ≡ R.failures reader.old + failed result }
     ensures blank { IfOk result (λ some. IsTrue some → IsBlank bytes.new.previous) }
-    ensures taken { IfOk result (λ some. IsTrue some →
-        TakesText bytes.old bytes.new (R.left reader.old) (R.left reader.new) (bytes.new.previous ∷ [])) }
+    ensures taken { ReadsOn R.failures R.reads_left reader.old reader.new bytes.old bytes.new result (λ some.
+        IsTrue some → TakesText bytes.old bytes.new (R.left reader.old) (R.left reader.new) (bytes.new.previous ∷ [])) }
     ensures none { IfOk result (λ some. some ≡ false →
         TakesText bytes.old bytes.new (R.left reader.old) (R.left reader.new) []) }
     ensures other { IfOk result (λ some. some ≡ false →
         IfSome (text_to_come bytes.new (R.left reader.new)) (BeginsNot IsBlank)) }
-    ensures lowers { IfOk result (λ some. IsTrue some →
-        to_take (R.reads_left reader.new) bytes.new < to_take (R.reads_left reader.old) bytes.old) }
-    ensures never_more { to_take (R.reads_left reader.new) bytes.new ≤ to_take (R.reads_left reader.old) bytes.old }
+    ensures lowers { IfOk result (λ some. IsTrue some → Lowers R.reads_left reader.old reader.new bytes.old bytes.new) }
 {
     match bytes.peek(reader)? {
         Some(b' ' | b'\t') => {
@@ -139,11 +127,9 @@ fn skip_blank<R: Read>(bytes: &mut ProofBytes, reader: &mut R) -> Result<bool, F
 
 /// Takes an LF, and rejects any other byte.
 fn take_lf<R: Read>(bytes: &mut ProofBytes, reader: &mut R) -> Result<(), ReadFault>
-    ensures count { R.failures reader.new ≡ R.failures reader.old + reads_failed result }
     ensures taken { OnOk result (TakesText bytes.old bytes.new (R.left reader.old) (R.left reader.new) (10 ∷ [])) }
-    ensures never_more { to_take (R.reads_left reader.new) bytes.new ≤ to_take (R.reads_left reader.old) bytes.old }
-    ensures refused { (at : ℕ) → result ≡ Err (ReadFault.Text at) →
-        IfSome (text_to_come bytes.old (R.left reader.old)) (BeginsNot (λ b. b ≡ 10)) }
+    ensures refused { Rejects R.failures R.reads_left reader.old reader.new bytes.old bytes.new result
+        (IfSome (text_to_come bytes.old (R.left reader.old)) (BeginsNot (λ b. b ≡ 10))) }
 {
     match bytes.peek(reader)? {
         Some(b'\n') => {
@@ -156,12 +142,10 @@ fn take_lf<R: Read>(bytes: &mut ProofBytes, reader: &mut R) -> Result<(), ReadFa
 
 /// Takes the blanks that are left of a line, and the LF.
 fn end_line<R: Read>(bytes: &mut ProofBytes, reader: &mut R) -> Result<(), ReadFault>
-    ensures count { R.failures reader.new ≡ R.failures reader.old + reads_failed result }
     ensures line { OnOk result ((blanks : List ℕ) × All IsBlank blanks
         × TakesText bytes.old bytes.new (R.left reader.old) (R.left reader.new) (blanks ++ 10 ∷ [])) }
-    ensures never_more { to_take (R.reads_left reader.new) bytes.new ≤ to_take (R.reads_left reader.old) bytes.old }
-    ensures refused { (at : ℕ) → result ≡ Err (ReadFault.Text at) →
-        IsSomeAnd (text_to_come bytes.old (R.left reader.old)) LineToCome → ⊥ }
+    ensures refused { Rejects R.failures R.reads_left reader.old reader.new bytes.old bytes.new result
+        (IsSomeAnd (text_to_come bytes.old (R.left reader.old)) LineToCome → ⊥) }
 {
     while skip_blank(bytes, reader)? {}
     take_lf(bytes, reader)
@@ -175,12 +159,10 @@ fn end_step<R: Read>(
     is_first: bool,
     at: u64,
 ) -> Result<(), ReadFault>
-    ensures count { R.failures reader.new ≡ R.failures reader.old + reads_failed result }
     ensures ends { OnOk result ((ends : List ℕ) × EndsStep is_first ends
         × TakesText bytes.old bytes.new (R.left reader.old) (R.left reader.new) ends) }
-    ensures never_more { to_take (R.reads_left reader.new) bytes.new ≤ to_take (R.reads_left reader.old) bytes.old }
-    ensures refused { (at : ℕ) → result ≡ Err (ReadFault.Text at) →
-        IsSomeAnd (text_to_come bytes.old (R.left reader.old)) (EndsToCome is_first) → ⊥ }
+    ensures refused { Rejects R.failures R.reads_left reader.old reader.new bytes.old bytes.new result
+        (IsSomeAnd (text_to_come bytes.old (R.left reader.old)) (EndsToCome is_first) → ⊥) }
 {
     end_word(bytes, reader, at)?;
     if !is_first || bytes.is_at_line() {
@@ -191,12 +173,10 @@ fn end_step<R: Read>(
 
 /// Takes a minus, and returns whether there was one.
 fn take_minus<R: Read>(bytes: &mut ProofBytes, reader: &mut R) -> Result<bool, Failed>
-    ensures count { R.failures reader.new ≡ R.failures reader.old + failed result }
-    ensures taken { IfOk result (λ negated.
+    ensures taken { ReadsOn R.failures R.reads_left reader.old reader.new bytes.old bytes.new result (λ negated.
         TakesText bytes.old bytes.new (R.left reader.old) (R.left reader.new) (minus negated)) }
     ensures none { IfOk result (λ negated. negated ≡ false →
         IfSome (text_to_come bytes.new (R.left reader.new)) (BeginsNot (λ b. b ≡ 45))) }
-    ensures never_more { to_take (R.reads_left reader.new) bytes.new ≤ to_take (R.reads_left reader.old) bytes.old }
 {
     match bytes.peek(reader)? {
         Some(b'-') => {
@@ -209,15 +189,13 @@ fn take_minus<R: Read>(bytes: &mut ProofBytes, reader: &mut R) -> Result<bool, F
 
 /// Takes a digit, where there is one.
 fn take_digit<R: Read>(bytes: &mut ProofBytes, reader: &mut R) -> Result<Option<u8>, Failed>
-    ensures count { R.failures reader.new ≡ R.failures reader.old + failed result }
-    ensures taken { IfOk result (λ digit.
+    ensures taken { ReadsOn R.failures R.reads_left reader.old reader.new bytes.old bytes.new result (λ digit.
         TakesText bytes.old bytes.new (R.left reader.old) (R.left reader.new) (digits_of digit)) }
     ensures digit { IfOk result (λ digit. IfSome digit (λ d. d ≤ 9)) }
     ensures none { IfOk result (λ digit. digit ≡ None →
         IfSome (text_to_come bytes.new (R.left reader.new)) (BeginsNot IsDigit)) }
     ensures lowers { IfOk result (λ digit. IfSome digit (λ _.
-        to_take (R.reads_left reader.new) bytes.new < to_take (R.reads_left reader.old) bytes.old)) }
-    ensures never_more { to_take (R.reads_left reader.new) bytes.new ≤ to_take (R.reads_left reader.old) bytes.old }
+        Lowers R.reads_left reader.old reader.new bytes.old bytes.new)) }
 {
     match bytes.peek(reader)? {
         Some(byte @ b'0'..=b'9') => {
@@ -249,12 +227,11 @@ fn with_digit(number: u64, digit: u8) -> u64
 fn take_digits<R: Read>(bytes: &mut ProofBytes, reader: &mut R, first: u8) -> Result<u64, Failed>
     requires some { 0 < first }
     requires digit { first ≤ 9 }
-    ensures count { R.failures reader.new ≡ R.failures reader.old + failed result }
-    ensures number { IfOk result (λ n. (digits : List ℕ) × IsNumber n (decimal first ++ digits)
+    ensures number { ReadsOn R.failures R.reads_left reader.old reader.new bytes.old bytes.new result (λ n.
+        (digits : List ℕ) × IsNumber n (decimal first ++ digits)
         × TakesText bytes.old bytes.new (R.left reader.old) (R.left reader.new) digits) }
     ensures some { IfOk result (λ n. 0 < n) }
     ensures ends { IfOk result (λ _. IfSome (text_to_come bytes.new (R.left reader.new)) (BeginsNot IsDigit)) }
-    ensures never_more { to_take (R.reads_left reader.new) bytes.new ≤ to_take (R.reads_left reader.old) bytes.old }
 {
     let mut number = first as u64;
     while let Some(digit) = take_digit(bytes, reader)? {
@@ -269,15 +246,12 @@ pub(crate) fn text_number<R: Read>(
     reader: &mut R,
     at: u64,
 ) -> Result<u64, ReadFault>
-    ensures count { R.failures reader.new ≡ R.failures reader.old + reads_failed result }
     ensures number { IfOk result (λ n. (digits : List ℕ) × IsNumber n digits
         × TakesText bytes.old bytes.new (R.left reader.old) (R.left reader.new) digits) }
     ensures ends { IfOk result (λ n. 0 < n →
         IfSome (text_to_come bytes.new (R.left reader.new)) (BeginsNot IsDigit)) }
-    ensures refused { (at : ℕ) → result ≡ Err (ReadFault.Text at) →
-        IfSome (text_to_come bytes.old (R.left reader.old)) (BeginsNot IsDigit) }
-    ensures lowers { IfOk result (λ _.
-        to_take (R.reads_left reader.new) bytes.new < to_take (R.reads_left reader.old) bytes.old) }
+    ensures refused { TakesSome R.failures R.reads_left reader.old reader.new bytes.old bytes.new result
+        (IfSome (text_to_come bytes.old (R.left reader.old)) (BeginsNot IsDigit)) }
 {
     let Some(first) = take_digit(bytes, reader)? else {
         return Err(ReadFault::Text {
@@ -296,7 +270,6 @@ pub(crate) fn text_kind<R: Read>(
     bytes: &mut ProofBytes,
     reader: &mut R,
 ) -> Result<Option<StepKind>, ReadFault>
-    ensures count { R.failures reader.new ≡ R.failures reader.old + reads_failed result }
     ensures kind { IfOk result (λ kind. IfSome kind (λ k. (taken : List ℕ)
         × ((is_first : Bool) → LeadsStep is_first bytes.old.previous bytes.new.previous taken k)
         × TakesText bytes.old bytes.new (R.left reader.old) (R.left reader.new) taken)) }
@@ -306,8 +279,9 @@ pub(crate) fn text_kind<R: Read>(
     ensures goes_on { IfOk result (λ kind. IfSome kind (λ _. (is_first : Bool) →
         IsSomeAnd (text_to_come bytes.old (R.left reader.old)) (StepToCome is_first bytes.old.previous) →
         IsSomeAnd (text_to_come bytes.new (R.left reader.new)) (ClauseToCome is_first bytes.new.previous))) }
-    ensures refused { (at : ℕ) → result ≡ Err (ReadFault.Text at) → (is_first : Bool) →
-        IsSomeAnd (text_to_come bytes.old (R.left reader.old)) (StepToCome is_first bytes.old.previous) → ⊥ }
+    ensures refused { Refuses R.failures reader.old reader.new result
+        ((is_first : Bool) → IsSomeAnd (text_to_come bytes.old (R.left reader.old))
+        (StepToCome is_first bytes.old.previous) → ⊥) }
 {
     skip_gap(bytes, reader)?;
     let at = bytes.at();
@@ -337,14 +311,10 @@ fn text_word<R: Read>(
     reader: &mut R,
     is_first: bool,
 ) -> Result<Option<Lit>, ReadFault>
-    ensures count { R.failures reader.new ≡ R.failures reader.old + reads_failed result }
-    ensures variable { IfOk result (λ next. IfSome next (λ l. variable l < 2147483647)) }
     ensures word { IfOk result (λ next. (taken : List ℕ) × LeadsWord is_first bytes.new.previous taken next
         × TakesText bytes.old bytes.new (R.left reader.old) (R.left reader.new) taken) }
-    ensures refused { (at : ℕ) → result ≡ Err (ReadFault.Text at) →
-        IsSomeAnd (text_to_come bytes.old (R.left reader.old)) (WordToCome is_first) → ⊥ }
-    ensures lowers { IfOk result (λ _.
-        to_take (R.reads_left reader.new) bytes.new < to_take (R.reads_left reader.old) bytes.old) }
+    ensures refused { TakesSome R.failures R.reads_left reader.old reader.new bytes.old bytes.new result
+        (IsSomeAnd (text_to_come bytes.old (R.left reader.old)) (WordToCome is_first) → ⊥) }
 {
     let at = bytes.at();
     let negated = take_minus(bytes, reader)?;
@@ -366,7 +336,6 @@ pub(crate) fn text_literal<R: Read>(
     reader: &mut R,
     is_first: bool,
 ) -> Result<Option<Lit>, ReadFault>
-    ensures count { R.failures reader.new ≡ R.failures reader.old + reads_failed result }
     ensures variable { IfOk result (λ next. IfSome next (λ l. variable l < 2147483647)) }
     ensures literal { IfOk result (λ next. (taken : List ℕ)
         × LeadsClause is_first bytes.old.previous bytes.new.previous taken next
@@ -374,10 +343,8 @@ pub(crate) fn text_literal<R: Read>(
     ensures goes_on { IfOk result (λ next. IfSome next (λ _.
         IsSomeAnd (text_to_come bytes.old (R.left reader.old)) (ClauseToCome is_first bytes.old.previous) →
         IsSomeAnd (text_to_come bytes.new (R.left reader.new)) (ClauseToCome is_first bytes.new.previous))) }
-    ensures refused { (at : ℕ) → result ≡ Err (ReadFault.Text at) →
-        IsSomeAnd (text_to_come bytes.old (R.left reader.old)) (ClauseToCome is_first bytes.old.previous) → ⊥ }
-    ensures lowers { IfOk result (λ _.
-        to_take (R.reads_left reader.new) bytes.new < to_take (R.reads_left reader.old) bytes.old) }
+    ensures refused { TakesSome R.failures R.reads_left reader.old reader.new bytes.old bytes.new result
+        (IsSomeAnd (text_to_come bytes.old (R.left reader.old)) (ClauseToCome is_first bytes.old.previous) → ⊥) }
 {
     skip_gap(bytes, reader)?;
     text_word(bytes, reader, is_first)

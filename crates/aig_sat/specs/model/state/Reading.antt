@@ -1,11 +1,16 @@
 -- How far a model was read.
-use Rattle.std.specs.Prelude.{◌≡◌, ◌⊎◌, ℕ, ◌+◌, ◌≤◌, List, [], ◌∷◌, ◌++◌, length, take, Some, slice_get}
-use Rattle.aig_sat.specs.model.ModelText.{BeginsLine, SaysSatisfiable, SaysUnknown, SaysUnsatisfiable, Names}
+use Rattle.std.specs.Prelude.{◌≡◌, ◌⊎◌, ℕ, ◌+◌, ◌<◌, ◌≤◌, List, [], ◌∷◌, ◌++◌, length, take, Some, slice_get}
+use Rattle.std.specs.Prelude.{Result, Err, IfOk}
+use Rattle.aig_parts.specs.declared.ternary.Tern.{Tern}
+use Rattle.aig_sat.specs.model.ModelText.{BeginsLine, HasStatus, IsModelOf, Names}
+use Rattle.aig_sat.specs.model.ModelText.{SaysSatisfiable, SaysUnknown, SaysUnsatisfiable}
 use Rattle.aig_sat.specs.model.Named.{AreNamed}
+use Rattle.aig_sat.specs.declared.model.fault.ModelFault.{ModelFault}
+use Rattle.aig_sat.specs.declared.model.fault.ModelFault.TheVariants as faults
 use Rattle.aig_sat.specs.declared.model.reader.Phase.TheVariants.{Before}
 use Rattle.aig_sat.specs.declared.model.reader.Answer.{Answer}
 use Rattle.aig_sat.specs.declared.model.reader.Answer.TheVariants.{Satisfiable, Unsatisfiable, Unknown}
-use Rattle.aig_sat.specs.declared.model.reader.Reader.{Reader}
+use Rattle.aig_sat.specs.declared.model.progress.Reader.{Reader}
 
 -- a line by which a solver answers
 abbrev pub Says : List ℕ → Answer → Type 0
@@ -45,3 +50,13 @@ pub record BeginsLineAt (reader : Reader) (text : List ℕ) (at : ℕ) : Type 0 
   pub first : ℕ
   pub there : slice_get (text ++ 10 ∷ []) at ≡ Some first
   pub is : (first ≡ 99) ⊎ ((reader.phase ≡ Before) × IsAnswerByte first)
+
+-- Reading at a place gives the place after it. Where it fails, a solver's line says so, or the text is no model.
+pub record TakesAt (old new : Reader) (text : List ℕ) (at : ℕ) (r : Result ℕ ModelFault) : Type 0 where
+  pub goes_on : IfOk r (λ next. ReadUpTo old text at → ReadUpTo new text next)
+  pub after : IfOk r (λ next. at < next)
+  pub count : new.variables ≡ old.variables
+  pub unsatisfiable : r ≡ Err faults.Unsatisfiable → ReadUpTo old text at → HasStatus SaysUnsatisfiable old.variables text
+  pub unknown : r ≡ Err faults.Unknown → ReadUpTo old text at → HasStatus SaysUnknown old.variables text
+  pub refused : (a : ℕ) → r ≡ Err (faults.Text a) → ReadUpTo old text at → (values : List Tern)
+      → IsModelOf old.variables text values → ⊥

@@ -1,9 +1,12 @@
 -- What a call takes of the bytes of a proof.
 use Rattle.std.specs.Prelude.{◌≡◌, ◌≢◌, ◌⊎◌, ℕ, ◌+◌, ◌*◌, ◌-◌, ◌<◌, ◌≤◌, All, decimal, Bool, true, false, List, [], ◌∷◌}
-use Rattle.std.specs.Prelude.{◌++◌, length, take, drop, Option, Some, None}
+use Rattle.std.specs.Prelude.{◌++◌, length, take, drop, Option, Some, None, Result, Err, IfOk}
+use Rattle.std.specs.Prelude.{slice_get}
 use Rattle.std.specs.Option.{IsSomeAnd}
-use Rattle.aig_bytes.specs.Bytes.{before, IsAtEnd}
+use Rattle.aig_bytes.specs.Bytes.{before, failed, IsAtEnd}
 use Rattle.aig_parts.specs.Literal.{variable}
+use Rattle.aig_sat.specs.declared.proof.fault.ReadFault.{ReadFault}
+use Rattle.aig_sat.specs.declared.proof.fault.ReadFault.TheVariants as faults
 use Rattle.aig_sat.specs.declared.proof.spelling.Spelling.{Spelling}
 use Rattle.aig_sat.specs.declared.proof.spelling.Spelling.TheVariants.{Text, Binary}
 use Rattle.aig_sat.specs.declared.proof.step.StepKind.{StepKind}
@@ -12,8 +15,9 @@ use Rattle.aig_sat.specs.model.ModelText.{IsSpace, number_text}
 use Rattle.aig_sat.specs.proof.HintedText.{ArePositive}
 use Rattle.aig_sat.specs.proof.ProofText.{EndsStep, Gap, IsBlank, SpellsClause, SpellsStep, last_byte}
 use Rattle.aig_sat.specs.proof.ProofBytes.{Groups, SpellsBinaryStep, SpellsLiterals, first_byte}
-use Rattle.aig_sat.specs.proof.Steps.{AreRenamed, BinaryStepToCome, Block, StepToCome, TakesText, text_to_come}
-use Rattle.aig_sat.specs.proof.Steps.{bytes_to_come}
+use Rattle.aig_sat.specs.proof.Reads.{reads_failed}
+use Rattle.aig_sat.specs.proof.Steps.{AreLiterals, AreRenamed, BinaryStepToCome, Block, StepReader, StepToCome}
+use Rattle.aig_sat.specs.proof.Steps.{TakesText, bytes_to_come, text_to_come}
 
 -- the bytes from start to end
 abbrev pub held : ℕ → ℕ → List ℕ → List ℕ
@@ -70,6 +74,36 @@ LeadsLiterals taken (Some l) =
     (rest clause : List ℕ) → SpellsLiterals rest clause → SpellsLiterals (taken ++ rest) (l ∷ clause)
 LeadsLiterals taken None = SpellsLiterals taken []
 
+-- less is left to take
+abbrev pub Lowers : {X : Type 0} → (X → ℕ) → (old new : X) → (block block' : Block) → Type 0
+Lowers reads_left old new block block' = to_take (reads_left new) block' < to_take (reads_left old) block
+
+-- A call counts each failed read, and no more is left to take than before. `Takes` holds of what it answers.
+pub record ReadsOn {X T E : Type 0} (failures reads_left : X → ℕ) (old new : X) (block block' : Block) (r : Result T E)
+    (Takes : T → Type 0) : Type 0 where
+  pub count : failures new ≡ failures old + failed r
+  pub never_more : to_take (reads_left new) block' ≤ to_take (reads_left old) block
+  pub taken : IfOk r Takes
+
+-- A call counts each failed read. Where it rejects the proof, `Reason` holds.
+pub record Refuses {X T : Type 0} (failures : X → ℕ) (old new : X) (r : Result T ReadFault) (Reason : Type 0) : Type 0 where
+  pub count : failures new ≡ failures old + reads_failed r
+  pub refused : (at : ℕ) → r ≡ Err (faults.Text at) → Reason
+
+-- the same, and where it answers, less is left to take
+pub record TakesSome {X T : Type 0} (failures reads_left : X → ℕ) (old new : X) (block block' : Block)
+    (r : Result T ReadFault) (Reason : Type 0) : Type 0 where
+  pub count : failures new ≡ failures old + reads_failed r
+  pub lowers : IfOk r (λ _. Lowers reads_left old new block block')
+  pub refused : (at : ℕ) → r ≡ Err (faults.Text at) → Reason
+
+-- the same, and no more is left to take than before
+pub record Rejects {X T : Type 0} (failures reads_left : X → ℕ) (old new : X) (block block' : Block)
+    (r : Result T ReadFault) (Reason : Type 0) : Type 0 where
+  pub count : failures new ≡ failures old + reads_failed r
+  pub never_more : to_take (reads_left new) block' ≤ to_take (reads_left old) block
+  pub refused : (at : ℕ) → r ≡ Err (faults.Text at) → Reason
+
 -- one where the literal is negated
 abbrev pub sign : Bool → ℕ
 sign true = 1
@@ -78,6 +112,24 @@ sign false = 0
 -- no byte was taken
 abbrev pub Keeps : Block → Block → Option (List ℕ) → Option (List ℕ) → Type 0
 Keeps old new left left' = TakesText old new left left' [] × TakesBytes old new left left' []
+
+-- a call reads into the block and takes no byte
+pub record Loads {X T E : Type 0} (left : X → Option (List ℕ)) (failures : X → ℕ) (old new : X) (block block' : Block)
+    (r : Result T E) : Type 0 where
+  pub count : failures new ≡ failures old + failed r
+  pub text : TakesText block block' (left old) (left new) []
+  pub bytes : TakesBytes block block' (left old) (left new) []
+  pub ended : block'.ended ≡ block.ended
+
+-- the same of one that shows the next byte, or that there is none
+pub record Shows {X E : Type 0} (left : X → Option (List ℕ)) (failures reads_left : X → ℕ) (old new : X)
+    (block block' : Block) (r : Result (Option ℕ) E) : Type 0 where
+  pub count : failures new ≡ failures old + failed r
+  pub never_more : to_take (reads_left new) block' ≤ to_take (reads_left old) block
+  pub text : TakesText block block' (left old) (left new) []
+  pub bytes : TakesBytes block block' (left old) (left new) []
+  pub next : IfOk r (λ byte. slice_get block'.waiting 0 ≡ byte)
+  pub none : IfOk r (λ byte. byte ≡ None → block'.ended ≡ true)
 
 -- a literal was taken, or the end of a clause
 abbrev pub LeadsBy : Spelling → Bool → Block → Block → Option (List ℕ) → Option (List ℕ) → Option ℕ → Type 0
@@ -122,6 +174,14 @@ GoesOn Text is_first formula old new left left' clause None = Begins Text old ne
 GoesOn Binary is_first formula old new left left' clause (Some kind) = (taken : List ℕ) × (spelled : List ℕ)
     × SpellsBinaryStep taken kind spelled × AreRenamed formula spelled clause × TakesBytes old new left left' taken
 GoesOn Binary is_first formula old new left left' clause None = IsAtEnd (bytes_to_come old left)
+
+-- Reading a clause keeps the number of the step and the formula, and loses no variable. The clause has literals of the
+-- variables.
+pub record ReadsMore (old new : StepReader) : Type 0 where
+  pub number : new.number ≡ old.number
+  pub formula : new.formula ≡ old.formula
+  pub variables : old.variables ≤ new.variables
+  pub literals : AreLiterals new.variables new.clause
 
 -- ---- of a proof with hints
 

@@ -5,7 +5,7 @@ use Rattle.aig_sat.proofs.model.reader.read_model.Given as goal
 abbrev pub invariant-loop-at : goal.invariant-loop-at
 invariant-loop-at l = record {
   read : ReadUpTo l.reader l.text l.at;
-  count : length l.reader.values ≡ l.variables;
+  count : l.reader.variables ≡ l.variables;
 }
 
 abbrev pub decreases-loop-at : goal.decreases-loop-at

@@ -10,7 +10,7 @@ returns-then-byte-eq10-clause-line g c =
       line,
       all,
       text_then took (text_as (ap listed c.in-Some.is ∙ ap (λ (b : ℕ). b ∷ []) c.if-byte-eq10.true)
-          c.in_ok-byte.ensures.text),
+          c.in_ok-byte.ensures.text.taken),
     )
 
 pub loop-byte-preserved : goal.loop-byte-preserved
@@ -18,11 +18,11 @@ loop-byte-preserved g c =
     let i = c.loop-byte.invariant in
     let (line, all, took) = i.line in
     record {
-      count = omega (arith, i.count, c.in_ok-byte.ensures.count);
-      never_more = omega (arith, i.never_more, c.in_ok-byte.ensures.never_more);
+      count = omega (arith, i.count, c.in_ok-byte.ensures.text.count);
+      never_more = omega (arith, i.never_more, c.in_ok-byte.ensures.text.never_more);
       line = (
         line ++ c.in-Some.byte ∷ [],
         All-push (λ (b : ℕ). b ≢ 10) line c.in-Some.byte all c.if-byte-eq10.false,
-        text_then took (text_as (ap listed c.in-Some.is) c.in_ok-byte.ensures.text),
+        text_then took (text_as (ap listed c.in-Some.is) c.in_ok-byte.ensures.text.taken),
       );
     }

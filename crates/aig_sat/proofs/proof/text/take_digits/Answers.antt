@@ -31,14 +31,14 @@ loop-digit-preserved g c =
     let d = c.in-Some.digit in
     let digit : d ≤ 9 = subst (λ (o : Option ℕ). IfSome o (λ x. x ≤ 9)) c.in-Some.is c.in_ok-digit.ensures.digit in
     record {
-      count = omega (arith, i.count, c.in_ok-digit.ensures.count);
-      never_more = omega (arith, i.never_more, c.in_ok-digit.ensures.never_more);
+      count = omega (arith, i.count, c.in_ok-digit.ensures.taken.count);
+      never_more = omega (arith, i.never_more, c.in_ok-digit.ensures.taken.never_more);
       some = c.with_digit-number.ensures.some i.some;
       bound = c.with_digit-number.ensures.bound;
       number = (
         digits ++ (48 + d) ∷ [],
         number_more c.args.first c.loop-digit.number c.with_digit-number.result d digits is i.some digit c.requires.some
             c.requires.digit c.with_digit-number.ensures.number c.with_digit-number.ensures.over c.with_digit-number.ensures.bound,
-        text_then took (text_as (ap digits_of c.in-Some.is) c.in_ok-digit.ensures.taken),
+        text_then took (text_as (ap digits_of c.in-Some.is) c.in_ok-digit.ensures.taken.taken),
       );
     }

@@ -13,23 +13,23 @@ pub returns-then-self-clause-follows : goal.returns-then-self-clause-follows
 returns-then-self-clause-follows c = λ _ v h. absurd (false≢true (sym h.open_still ∙ c.if-self.true))
 
 pub returns-in_err-follows-clause-stands : goal.returns-in_err-follows-clause-stands
-returns-in_err-follows-clause-stands c = λ v h. record { open_still = c.follows.ensures.same ∙ h.open_still; agrees = agrees_narrowed _ _ c.follows.ensures.narrows v h.agrees }
+returns-in_err-follows-clause-stands c = λ v h. record { open_still = c.follows.ensures.same ∙ h.open_still; agrees = agrees_narrowed _ _ c.follows.ensures.implied.narrows v h.agrees }
 
 pub returns-in_err-add_clause-clause-stands : goal.returns-in_err-add_clause-clause-stands
 returns-in_err-add_clause-clause-stands c = λ v h.
-    c.add_clause.ensures.meeting v (record { open_still = c.follows.ensures.same ∙ h.open_still; agrees = agrees_narrowed _ _ c.follows.ensures.narrows v h.agrees })
-    (c.in_ok-follows.ensures.implied c.if-branch.true v h.agrees)
+    c.add_clause.ensures.meeting v (record { open_still = c.follows.ensures.same ∙ h.open_still; agrees = agrees_narrowed _ _ c.follows.ensures.implied.narrows v h.agrees })
+    (c.in_ok-follows.ensures.implied.implied c.if-branch.true v h.agrees)
 
 pub returns-then-branch-clause-stands : goal.returns-then-branch-clause-stands
 returns-then-branch-clause-stands c = λ v h.
-    c.add_clause.ensures.meeting v (record { open_still = c.follows.ensures.same ∙ h.open_still; agrees = agrees_narrowed _ _ c.follows.ensures.narrows v h.agrees })
-    (c.in_ok-follows.ensures.implied c.if-branch.true v h.agrees)
+    c.add_clause.ensures.meeting v (record { open_still = c.follows.ensures.same ∙ h.open_still; agrees = agrees_narrowed _ _ c.follows.ensures.implied.narrows v h.agrees })
+    (c.in_ok-follows.ensures.implied.implied c.if-branch.true v h.agrees)
 
 pub returns-then-branch-clause-follows : goal.returns-then-branch-clause-follows
-returns-then-branch-clause-follows c = λ _ v h. c.in_ok-follows.ensures.implied c.if-branch.true v h.agrees
+returns-then-branch-clause-follows c = λ _ v h. c.in_ok-follows.ensures.implied.implied c.if-branch.true v h.agrees
 
 pub returns-clause-stands : goal.returns-clause-stands
-returns-clause-stands c = λ v h. record { open_still = c.follows.ensures.same ∙ h.open_still; agrees = agrees_narrowed _ _ c.follows.ensures.narrows v h.agrees }
+returns-clause-stands c = λ v h. record { open_still = c.follows.ensures.same ∙ h.open_still; agrees = agrees_narrowed _ _ c.follows.ensures.implied.narrows v h.agrees }
 
 pub returns-then-self-clause-shown : goal.returns-then-self-clause-shown
 returns-then-self-clause-shown c = if_some c.args.hints _ (λ hints shown. refl)

@@ -14,8 +14,8 @@ loop-preserved c = record {
   numbered = keeps_then _ _ _ c.loop.invariant.numbered c.add_variable.ensures.numbered;
 }
 
-pub returns-in_err-add_variable-clause-numbered : goal.returns-in_err-add_variable-clause-numbered
-returns-in_err-add_variable-clause-numbered c = keeps_then _ _ _ c.loop.invariant.numbered c.add_variable.ensures.numbered
-
-pub returns-in_err-add_variable-clause-holding : goal.returns-in_err-add_variable-clause-holding
-returns-in_err-add_variable-clause-holding c = λ v h. c.add_variable.ensures.holding v (c.loop.invariant.holding v h)
+pub returns-in_err-add_variable : goal.returns-in_err-add_variable
+returns-in_err-add_variable c = record {
+  holding = λ v h. c.add_variable.ensures.holding v (c.loop.invariant.holding v h);
+  numbered = keeps_then _ _ _ c.loop.invariant.numbered c.add_variable.ensures.numbered;
+}

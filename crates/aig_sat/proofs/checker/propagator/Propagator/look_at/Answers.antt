@@ -1,20 +1,24 @@
-use Rattle.std.proofs.Common.{inr, refl}
+use Rattle.std.proofs.Common.{inr, refl, rules}
 use Rattle.aig_sat.proofs.checking.HintLemmas.{left_more, left_one, walks_by}
 use Rattle.aig_sat.proofs.checking.PropagationLemmas.{by_taking, unit_true}
 use Rattle.aig_sat.proofs.checker.propagator.Propagator.look_at.Goals as goal
 
-pub returns-in_err-take-in-One-clause-propagates : goal.returns-in_err-take-in-One-clause-propagates
-returns-in_err-take-in-One-clause-propagates c =
-    by_taking _ c.args.self.now _ refl c.take.ensures.takes
-    (λ v a. unit_true c.args.self.now c.args.place _ _ c.in-Some.ensures.some (c.left-left.ensures.one _ c.in-One.is) v a)
+pub returns-in_err-take-in-One-clause-conflict : goal.returns-in_err-take-in-One-clause-conflict
+returns-in_err-take-in-One-clause-conflict c = record {
+  propagates = by_taking _ c.args.self.now _ refl c.take.ensures.takes
+      (unit_true c.args.self.now c.args.place _ _ c.in-Some.ensures.some (c.left-left.ensures.one _ c.in-One.is));
+  contradicts = search rules;
+}
 
 pub returns-in_err-take-in-One-clause-walks : goal.returns-in_err-take-in-One-clause-walks
 returns-in_err-take-in-One-clause-walks c = walks_by _ c.args.self.now _ refl refl c.take.ensures.takes
 
-pub returns-in_ok-take-in-One-clause-propagates : goal.returns-in_ok-take-in-One-clause-propagates
-returns-in_ok-take-in-One-clause-propagates c =
-    by_taking _ c.args.self.now _ refl c.take.ensures.takes
-    (λ v a. unit_true c.args.self.now c.args.place _ _ c.in-Some.ensures.some (c.left-left.ensures.one _ c.in-One.is) v a)
+pub returns-in_ok-take-in-One-clause-conflict : goal.returns-in_ok-take-in-One-clause-conflict
+returns-in_ok-take-in-One-clause-conflict c = record {
+  propagates = by_taking _ c.args.self.now _ refl c.take.ensures.takes
+      (unit_true c.args.self.now c.args.place _ _ c.in-Some.ensures.some (c.left-left.ensures.one _ c.in-One.is));
+  contradicts = search rules;
+}
 
 pub returns-in_ok-take-in-One-clause-walks : goal.returns-in_ok-take-in-One-clause-walks
 returns-in_ok-take-in-One-clause-walks c = walks_by _ c.args.self.now _ refl refl c.take.ensures.takes

@@ -4,12 +4,12 @@ use Rattle.aig_sat.proofs.checker.propagator.Propagator.try_hints.Goals as goal
 
 pub returns-clause-implied : goal.returns-clause-implied
 returns-clause-implied c =
-    pulled_clause c.walk.result c.args.clause.now c.args.self.now c.assume.new.self c.in_ok-assume.ensures.assumes
-    c.walk.ensures.conflict
-
-pub returns-clause-assumes : goal.returns-clause-assumes
-returns-clause-assumes c =
-    assumed_then c.args.clause.now c.args.self.now c.assume.new.self _ c.assume.ensures.assumes c.walk.ensures.propagates
+    let assumed = c.assume.ensures.implied.assumes in
+    record {
+      assumes = assumed_then c.args.clause.now c.args.self.now c.assume.new.self _ assumed c.walk.ensures.conflict.propagates;
+      implied = pulled_clause c.walk.result c.args.clause.now c.args.self.now c.assume.new.self assumed
+          c.walk.ensures.conflict.contradicts;
+    }
 
 pub returns-clause-walks : goal.returns-clause-walks
 returns-clause-walks c = walks_then _ _ _ c.assume.ensures.walks c.walk.ensures.walks

@@ -7,20 +7,25 @@ use Rattle.aig_sat.proofs.checking.PropagationLemmas.{contradicts_then, steps}
 use Rattle.aig_sat.proofs.checker.propagator.Propagator.visit_list.Goals as goal
 use Rattle.aig_sat.proofs.checker.propagator.Propagator.visit_list.Goals.{in-Ok-Stays, in-Ok-Leaves}
 
--- src/propagator.rt:118:21
-pub returns-in-Ok-Conflict-clause-conflict : goal.returns-in-Ok-Conflict-clause-conflict
-returns-in-Ok-Conflict-clause-conflict c = λ _.
-    contradicts_then c.args.self.now c.loop-place.self c.loop-place.invariant.propagates
-    (subst (λ (x : Visit). OnConflict (Contradicts c.loop-place.self) x) c.in-Ok-Conflict.field-0-is c.in-Ok-Conflict.ensures.conflict)
+pub returns-in-Ok-Conflict : goal.returns-in-Ok-Conflict
+returns-in-Ok-Conflict c = record {
+  conflict = record {
+    propagates = steps _ _ _ c.loop-place.invariant.propagates c.visit.ensures.propagates;
+    contradicts = λ _.
+        contradicts_then c.args.self.now c.loop-place.self c.loop-place.invariant.propagates
+        (subst (λ (x : Visit). OnConflict (Contradicts c.loop-place.self) x) c.in-Ok-Conflict.field-0-is
+        c.in-Ok-Conflict.ensures.conflict);
+  };
+}
 
-pub returns-in-Ok-Conflict-clause-propagates : goal.returns-in-Ok-Conflict-clause-propagates
-returns-in-Ok-Conflict-clause-propagates c = steps _ _ _ c.loop-place.invariant.propagates c.visit.ensures.propagates
+pub returns-in-Err : goal.returns-in-Err
+returns-in-Err c = record {
+  conflict = record {
+    propagates = steps _ _ _ c.loop-place.invariant.propagates c.visit.ensures.propagates;
+    contradicts = tt;
+  };
+}
 
--- src/propagator.rt:122:21
-pub returns-in-Err-clause-propagates : goal.returns-in-Err-clause-propagates
-returns-in-Err-clause-propagates c = steps _ _ _ c.loop-place.invariant.propagates c.visit.ensures.propagates
-
--- src/propagator.rt:105:9
 pub loop-place-preserved : goal.loop-place-preserved
 loop-place-preserved c = record {
   propagates = steps _ _ _ c.loop-place.invariant.propagates c.visit.ensures.propagates;

@@ -1,4 +1,4 @@
-use Rattle.std.proofs.Common.{ℕ, List, subst}
+use Rattle.std.proofs.Common.{ℕ, List, subst, rules}
 use Rattle.std.proofs.lemmas.Result.{on_ok_weaker}
 use Rattle.aig_sat.specs.proof.Steps.{AreRenamed, text_to_come}
 use Rattle.aig_sat.proofs.models.ModelLemmas.{passed_fault}
@@ -24,10 +24,13 @@ pub returns-in_err-read_clause-clause-refused : goal.returns-in_err-read_clause-
 returns-in_err-read_clause-clause-refused g c =
     let a = c.self.inside.bytes in
     let o = text_to_come a (g.R.Read.left c.args.reader.now) in
-    rw (← c.self.view_is) (λ at is positive h. c.read_clause.ensures.refused at
-    (passed_fault c.read_clause.result c.from_residual.result c.in_err-read_clause.field-0.0 _ c.in_err-read_clause.was
-    c.from_residual.ensures.1 is)
-    (addition_begins o a.previous h))
+    rw (← c.self.view_is) (record {
+      count = search rules;
+      refused = λ at is positive h. c.read_clause.ensures.refused.refused at
+          (passed_fault c.read_clause.result c.from_residual.result c.in_err-read_clause.field-0.0 _ c.in_err-read_clause.was
+          c.from_residual.ensures.1 is)
+          (addition_begins o a.previous h);
+    })
 
 pub returns-clause-refused : goal.returns-clause-refused
 returns-clause-refused g c =
@@ -35,6 +38,9 @@ returns-clause-refused g c =
     let a = c.self.inside.bytes in
     let b = c.read_clause.new.bytes in
     let (xs, spelled, took) = c.in_ok-read_clause.ensures.spelled in
-    rw (← c.self.view_is) (λ at is positive h. c.read_clause-2.ensures.refused at is
-    (hints_after (text_to_come a (left c.args.reader.now)) (text_to_come b (left c.read_clause.new.reader)) a.previous b.previous xs
-    c.read_clause.new.clause.items took.come took.previous spelled h))
+    rw (← c.self.view_is) (record {
+      count = search rules;
+      refused = λ at is positive h. c.read_clause-2.ensures.refused.refused at is
+          (hints_after (text_to_come a (left c.args.reader.now)) (text_to_come b (left c.read_clause.new.reader)) a.previous b.previous xs
+          c.read_clause.new.clause.items took.come took.previous spelled h);
+    })

@@ -1,4 +1,4 @@
-use Rattle.std.proofs.Common.{ℕ, List, subst}
+use Rattle.std.proofs.Common.{ℕ, List, subst, rules}
 use Rattle.aig_sat.specs.proof.Steps.{text_to_come}
 use Rattle.aig_sat.proofs.models.ModelLemmas.{passed_fault}
 use Rattle.aig_sat.specs.proof.HintedText.{ArePositive}
@@ -18,10 +18,13 @@ pub returns-in_err-read_clause-clause-refused : goal.returns-in_err-read_clause-
 returns-in_err-read_clause-clause-refused g c =
     let a = c.self.inside.bytes in
     let o = text_to_come a (g.R.Read.left c.args.reader.now) in
-    rw (← c.self.view_is) (λ at is h. c.read_clause.ensures.refused at
-    (passed_fault c.read_clause.result c.from_residual.result c.in_err-read_clause.field-0.0 _ c.in_err-read_clause.was
-    c.from_residual.ensures.1 is)
-    (numbers_begin o a.previous h))
+    rw (← c.self.view_is) (record {
+      count = search rules;
+      refused = λ at is h. c.read_clause.ensures.refused.refused at
+          (passed_fault c.read_clause.result c.from_residual.result c.in_err-read_clause.field-0.0 _ c.in_err-read_clause.was
+          c.from_residual.ensures.1 is)
+          (numbers_begin o a.previous h);
+    })
 
 pub returns-then-not-are_positive-clause-refused : goal.returns-then-not-are_positive-clause-refused
 returns-then-not-are_positive-clause-refused g c =
@@ -32,5 +35,8 @@ returns-then-not-are_positive-clause-refused g c =
     let negative : ArePositive numbers → ⊥ =
     subst (λ (xs : List ℕ). ArePositive xs → ⊥) c.deref.ensures.value (c.are_positive.ensures.negative c.if-not-are_positive.true) in
     let (xs, spelled, took) = c.in_ok-read_clause.ensures.spelled in
-    rw (← c.self.view_is) (λ at is h. numbers_refused (text_to_come a (left c.args.reader.now))
-    (text_to_come b (left c.read_clause.new.reader)) a.previous xs numbers took.come spelled negative h)
+    rw (← c.self.view_is) (record {
+      count = search rules;
+      refused = λ at is h. numbers_refused (text_to_come a (left c.args.reader.now))
+          (text_to_come b (left c.read_clause.new.reader)) a.previous xs numbers took.come spelled negative h;
+    })

@@ -28,7 +28,7 @@ returns-in_ok-addition-in-Add-clause-step g c =
     × ((f : Bool) → LeadsStep f b.previous k.previous taken v) × TakesText b k m n taken)) c.in-Some-2.is
     c.in_ok-kind.ensures.kind in
     rw (← c.self.view_is) (hinted_adds a b k new.block l m n (left c.addition.new.reader) c.in-Some.number.value new.number xs ys
-    done.number leads first second c.self.inside.names.formula new.clause new.hints c.in-Some-2.kind c.in-Add.is done.positive
+    done.more.number leads first second c.self.inside.names.formula new.clause new.hints c.in-Some-2.kind c.in-Add.is done.positive
     steps done.taken)
 
 pub returns-in_ok-deletion-in-Delete-clause-step : goal.returns-in_ok-deletion-in-Delete-clause-step
@@ -48,7 +48,7 @@ returns-in_ok-deletion-in-Delete-clause-step g c =
     × ((f : Bool) → LeadsStep f b.previous k.previous taken v) × TakesText b k m n taken)) c.in-Some-2.is
     c.in_ok-kind.ensures.kind in
     rw (← c.self.view_is) (hinted_deletes a b k new.block l m n (left c.deletion.new.reader) c.in-Some.number.value new.number xs ys
-    done.number leads first second c.self.inside.names.formula new.clause new.hints c.in-Some-2.kind c.in-Delete.is done.clause
+    done.more.number leads first second c.self.inside.names.formula new.clause new.hints c.in-Some-2.kind c.in-Delete.is done.clause
     steps done.taken)
 
 pub returns-in_err-number-clause-refused : goal.returns-in_err-number-clause-refused
@@ -61,7 +61,7 @@ returns-in_err-number-clause-refused g c =
     let o = text_to_come a l in
     let om = text_to_come b m in
     rw (← c.self.view_is) (λ at is. none_to_come (HintedStepToCome a.previous) o
-    (c.step_number.ensures.refused at (passed_fault c.step_number.result c.from_residual.result c.in_err-number.field-0.0 _
+    (c.step_number.ensures.refused.refused at (passed_fault c.step_number.result c.from_residual.result c.in_err-number.field-0.0 _
     c.in_err-number.was c.from_residual.ensures.1 is)))
 
 pub returns-in_err-kind-clause-refused : goal.returns-in_err-kind-clause-refused
@@ -77,7 +77,7 @@ returns-in_err-kind-clause-refused g c =
     let (xs, leads, first) = subst (λ (next : Option Number). IfSome next (λ v. (taken : List ℕ)
     × LeadsNumber a.previous b.previous taken v.value × TakesText a b l m taken)) c.in-Some.is c.in_ok-number.ensures.number in
     rw (← c.self.view_is) (λ at is. none_to_come (HintedStepToCome a.previous) o
-    (λ h. c.text_kind.ensures.refused at
+    (λ h. c.text_kind.ensures.refused.refused at
     (passed_fault c.text_kind.result c.from_residual-in_err-kind.result c.in_err-kind.field-0.0 _ c.in_err-kind.was
     c.from_residual-in_err-kind.ensures.1 is)
     false (body_begins om n b.previous (body_after o om a.previous b.previous n xs first.come leads h))))
@@ -126,7 +126,7 @@ returns-in_err-addition-in-Add-clause-refused g c =
     let rest = rest_after om on n b.previous k.previous kind ys second.come second.previous (steps false) (goes_on false)
     body in
     let both = addition_rest on n k.previous (subst (λ (v : StepKind). IsSomeAnd on (RestToCome n k.previous v)) c.in-Add.is rest) in
-    c.addition.ensures.refused at
+    c.addition.ensures.refused.refused at
     (passed_fault c.addition.result c.from_residual-in_err-addition-in-Add.result c.in_err-addition-in-Add.field-0.0 _
     c.in_err-addition-in-Add.was c.from_residual-in_err-addition-in-Add.ensures.1 is)
     both.0 both.1))
@@ -157,7 +157,7 @@ returns-in_err-deletion-in-Delete-clause-refused g c =
     let body = body_after o om a.previous b.previous n xs first.come leads h in
     let rest = rest_after om on n b.previous k.previous kind ys second.come second.previous (steps false) (goes_on false)
     body in
-    c.deletion.ensures.refused at
+    c.deletion.ensures.refused.refused at
     (passed_fault c.deletion.result c.from_residual-in_err-deletion-in-Delete.result
     c.in_err-deletion-in-Delete.field-0.0 _ c.in_err-deletion-in-Delete.was
     c.from_residual-in_err-deletion-in-Delete.ensures.1 is)
