@@ -8,12 +8,11 @@ ghost use Rattle.aig_causes.specs.Causes.{moment};
 ghost use Rattle.aig_causes.specs.Explanation.{AreNamedBetween, ExplainThemselves, HasCome, IsAsked, IsLine, IsNamed};
 ghost use Rattle.aig_causes.specs.Explanation.{IsOf, LineState};
 
+use crate::asked::ask;
 use crate::causes::Causes;
 use crate::explainer::Explainer;
-use crate::kept::are_kept;
 use crate::latch_set::LatchSet;
-use crate::latches::{latches_of, next_literals};
-use crate::line::Line;
+use crate::line::{Line, line_of};
 use aig_base::{Lit, Memory};
 use aig_bench::Bench;
 use aig_values::Grid;
@@ -62,52 +61,6 @@ impl Model for Explanation {
       end = e.end;
       below = e.below.flags.items;
     } };
-}
-
-// What explains literals at a frame, and whether each is one of a latch: these explain themselves.
-fn ask<G: Grid>(
-    explainer: &mut Explainer,
-    alloc: Global,
-    bench: &Bench<G>,
-    frame: u32,
-    literals: &[Lit],
-) -> Result<(Causes, bool), Memory>
-    requires size { explainer.old ≡ bench.now.pair.circuit.max_var + 1 }
-    requires frame { frame < length bench.now.pair.rows }
-    requires range { All (λ l. variable l ≤ bench.now.pair.circuit.max_var) literals.now }
-    requires defined { All (λ l. IsDefined bench.now.pair.circuit (variable l)) literals.now }
-    ensures asked { IfOk result (λ asked.
-        IsAsked bench.now.pair.circuit (moment bench.now.pair frame) literals.now asked.0) }
-    ensures alone { IfOk result (λ asked. IsTrue asked.1 ↔ All (IsLatchLiteral bench.now.pair.circuit) literals.now) }
-    ensures themselves { IfOk result (λ asked. IsTrue asked.1 →
-        ExplainThemselves bench.now.pair.circuit literals.now asked.0) }
-    ensures size { explainer.new ≡ explainer.old }
-{
-    match latches_of(alloc, bench.circuit(), literals)? {
-        Some(latches) => Ok((Causes::of_latches(alloc, latches), true)),
-        None => Ok((explainer.causes(bench, frame, literals)?, false)),
-    }
-}
-
-// The line of these latches of the frame after this one.
-fn line_of<G: Grid>(
-    explainer: &mut Explainer,
-    alloc: Global,
-    bench: &Bench<G>,
-    frame: u32,
-    latches: Vec<u32>,
-) -> Result<Line, Memory>
-    requires size { explainer.old ≡ bench.now.pair.circuit.max_var + 1 }
-    requires frame { frame < length bench.now.pair.rows }
-    requires latches { All (λ p. p < length bench.now.pair.circuit.latches) latches.items }
-    ensures line { IfOk result (IsLine bench.now.pair.circuit (moment bench.now.pair frame)) }
-    ensures latches { IfOk result (λ line. line.latches ≡ latches.items) }
-    ensures size { explainer.new ≡ explainer.old }
-{
-    let nexts = next_literals(alloc, bench.circuit(), &latches)?;
-    let causes = explainer.causes(bench, frame, &nexts)?;
-    let kept = are_kept(bench, frame, &latches, &causes);
-    Ok(Line::new(latches, causes, kept))
 }
 
 impl Explanation {

@@ -5,7 +5,7 @@ ghost use Rattle.aig_causes.specs.Explanation.{AreKept, KeepsValue};
 
 use crate::causes::Causes;
 use crate::latches::latch_at;
-use crate::weights::value_at;
+use crate::values::value_at;
 use aig_bench::Bench;
 use aig_values::Grid;
 
@@ -21,20 +21,6 @@ fn keeps_value<G: Grid>(bench: &Bench<G>, frame: u32, position: u32) -> bool
     value_at(bench, frame, latch.lit) == value_at(bench, frame, latch.next)
 }
 
-// Whether each of these latches has the same value at a frame and at the next one.
-fn keep_values<G: Grid>(bench: &Bench<G>, frame: u32, latches: &[u32]) -> bool
-    requires frame { frame < length bench.now.pair.rows }
-    requires latches { All (λ p. p < length bench.now.pair.circuit.latches) latches.now }
-    ensures { IsTrue result ↔ All (KeepsValue bench.now.pair.circuit (moment bench.now.pair frame)) latches.now }
-{
-    for position in latches {
-        if !keeps_value(bench, frame, *position) {
-            return false;
-        }
-    }
-    true
-}
-
 /// Whether these latches keep their values: they are all that explains them, and are the same at the next frame.
 pub fn are_kept<G: Grid>(bench: &Bench<G>, frame: u32, latches: &[u32], causes: &Causes) -> bool
     requires frame { frame < length bench.now.pair.rows }
@@ -47,5 +33,10 @@ pub fn are_kept<G: Grid>(bench: &Bench<G>, frame: u32, latches: &[u32], causes: 
     if causes.latches() != latches {
         return false;
     }
-    keep_values(bench, frame, latches)
+    for position in latches {
+        if !keeps_value(bench, frame, *position) {
+            return false;
+        }
+    }
+    true
 }

@@ -1,6 +1,7 @@
 //! Causes: which inputs and latches make a literal of a run what it is at a frame.
 #![tactic(auto)]
 
+mod asked;
 mod causes;
 mod explainer;
 mod explanation;
@@ -10,6 +11,7 @@ mod latches;
 mod line;
 mod line_laws;
 mod sides;
+mod values;
 mod visited;
 mod walker;
 mod weights;

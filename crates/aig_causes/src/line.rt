@@ -1,7 +1,16 @@
 //! A line of an explanation.
-ghost use Rattle.std.specs.Prelude.{◌≡◌};
+ghost use Rattle.std.specs.Prelude.{◌≡◌, ◌+◌, ◌<◌, length, All, IfOk};
+ghost use Rattle.aig_causes.specs.Causes.{moment};
+ghost use Rattle.aig_causes.specs.Explanation.{IsLine};
 
 use crate::causes::Causes;
+use crate::explainer::Explainer;
+use crate::kept::are_kept;
+use crate::latches::next_literals;
+use aig_base::Memory;
+use aig_bench::Bench;
+use aig_values::Grid;
+use std::alloc::Global;
 use std::marker::Model;
 
 /// Latches of a frame, and what explains them at the frame before. Contracts see both, and whether the latches keep
@@ -64,4 +73,25 @@ impl Line {
     {
         self.kept
     }
+}
+
+/// The line of these latches of the frame after this one.
+pub(crate) fn line_of<G: Grid>(
+    explainer: &mut Explainer,
+    alloc: Global,
+    bench: &Bench<G>,
+    frame: u32,
+    latches: Vec<u32>,
+) -> Result<Line, Memory>
+    requires size { explainer.old ≡ bench.now.pair.circuit.max_var + 1 }
+    requires frame { frame < length bench.now.pair.rows }
+    requires latches { All (λ p. p < length bench.now.pair.circuit.latches) latches.items }
+    ensures line { IfOk result (IsLine bench.now.pair.circuit (moment bench.now.pair frame)) }
+    ensures latches { IfOk result (λ line. line.latches ≡ latches.items) }
+    ensures size { explainer.new ≡ explainer.old }
+{
+    let nexts = next_literals(alloc, bench.circuit(), &latches)?;
+    let causes = explainer.causes(bench, frame, &nexts)?;
+    let kept = are_kept(bench, frame, &latches, &causes);
+    Ok(Line::new(latches, causes, kept))
 }

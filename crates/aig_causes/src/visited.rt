@@ -38,14 +38,6 @@ impl Visited {
         })
     }
 
-    /// A walk at another frame is to begin.
-    pub fn begin_frame(&mut self)
-        ensures marks { self.new.marks ≡ self.old.marks }
-        ensures number { self.new.number ≡ self.old.number }
-    {
-        self.before = self.number;
-    }
-
     /// A walk begins: it has visited no variable.
     pub fn begin(&mut self)
         requires { AreEarlier self.old.number self.old.marks.items }
@@ -70,10 +62,11 @@ impl Visited {
     }
 
     /// Whether this walk or an earlier one at the frame visited a variable.
-    pub fn has_at_frame(&self, variable: u32) -> bool
-        requires { variable < length self.now.marks.items }
-    {
-        self.marks[variable as usize] > self.before
+    pub fn has_at_frame(&self, variable: u32) -> bool {
+        match self.marks.get(variable as usize) {
+            Some(number) => *number > self.before,
+            None => false,
+        }
     }
 
     /// This walk visits a variable.

@@ -1,33 +1,15 @@
 //! Weights: about how many inputs and latches the value of a variable takes at a frame.
-ghost use Rattle.std.specs.Prelude.{◌≡◌, ◌<◌, ◌+◌, ◌≤◌, length, All, IfOk};
-ghost use Rattle.aig_parts.specs.Literal.{variable};
-ghost use Rattle.aig_base.specs.Sections.{IsDefined};
-ghost use Rattle.aig_bench.specs.BenchState.{HasValue};
+ghost use Rattle.std.specs.Prelude.{◌≡◌, ◌<◌, ◌+◌, length, All, IfOk};
 ghost use Rattle.aig_values.specs.Cells.{HasVariablesBelow};
 
-use aig_base::{Gate, Lit, Memory, Tern};
+use crate::values::value_at;
+use aig_base::{Gate, Memory, Tern};
 use aig_bench::Bench;
 use aig_values::Grid;
-use aig_values::row::{GridRow, literal_in};
 use std::alloc::Global;
 
 /// The most that a variable weighs.
 const MOST: u32 = 1 << 30;
-
-/// The value of a literal at a frame.
-pub fn value_at<G: Grid>(bench: &Bench<G>, frame: u32, literal: Lit) -> Tern
-    requires frame { frame < length bench.now.pair.rows }
-    requires range { variable literal ≤ bench.now.pair.circuit.max_var }
-    ensures { IsDefined bench.now.pair.circuit (variable literal) → HasValue bench.now.pair frame literal result }
-{
-    // Its contract says that it is a circuit.
-    bench.width();
-    let row = GridRow {
-        grid: bench.grid(),
-        frame,
-    };
-    literal_in(&row, literal)
-}
 
 fn sum(first: u32, second: u32) -> u32 {
     first.saturating_add(second).min(MOST)
@@ -65,15 +47,11 @@ pub fn new_weights(alloc: Global, size: usize) -> Result<Vec<u32>, Memory>
     Ok(weights)
 }
 
-// Weighs a gate at a frame by its sides.
-fn weigh_gate<G: Grid>(bench: &Bench<G>, frame: u32, gate: Gate, weights: &mut Vec<u32>)
-    requires frame { frame < length bench.now.pair.rows }
-    requires gate { HasVariablesBelow (length weights.old.items) gate }
-    requires size { length weights.old.items ≡ bench.now.pair.circuit.max_var + 1 }
+// Weighs a gate by the values of its sides.
+fn weigh_gate(gate: Gate, value0: Tern, value1: Tern, weights: &mut Vec<u32>)
+    requires { HasVariablesBelow (length weights.old.items) gate }
     ensures { length weights.new.items ≡ length weights.old.items }
 {
-    let value0 = value_at(bench, frame, gate.rhs0);
-    let value1 = value_at(bench, frame, gate.rhs1);
     let first = weights[gate.rhs0.var() as usize];
     let second = weights[gate.rhs1.var() as usize];
     weights[gate.lhs.var() as usize] = gate_weight(value0, value1, first, second);
@@ -87,6 +65,8 @@ pub fn weigh<G: Grid>(bench: &Bench<G>, frame: u32, gates: &[Gate], weights: &mu
     ensures { length weights.new.items ≡ length weights.old.items }
 {
     for gate in gates {
-        weigh_gate(bench, frame, *gate, weights);
+        let value0 = value_at(bench, frame, gate.rhs0);
+        let value1 = value_at(bench, frame, gate.rhs1);
+        weigh_gate(*gate, value0, value1, weights);
     }
 }

@@ -1,10 +1,10 @@
 -- What a run needs: a look back from what has to be 1.
 use Rattle.std.proofs.Common.{◌≡◌, ◌≢◌, ◌⊎◌, inl, inr, ℕ, zero, suc, ◌-◌, ◌*◌, ◌%◌, ◌<◌, List, [], ◌∷◌, ◌++◌, Bool, true}
-use Rattle.std.proofs.Common.{false, length, replicate, Some, slice_get, slice_set, slice_index_or, get_or, refl, sym}
+use Rattle.std.proofs.Common.{length, replicate, Some, slice_get, slice_set, refl, sym}
 use Rattle.std.proofs.Common.{ap, ◌∙◌, subst, arith}
 use Rattle.std.specs.List.{AllZip}
-use Rattle.std.proofs.lemmas.Bool.{cases_eq, false≢true}
-use Rattle.std.proofs.lemmas.List.{get_or-replicate, length-map, length-replicate, length-set}
+use Rattle.std.proofs.lemmas.Bool.{cases_eq}
+use Rattle.std.proofs.lemmas.List.{get_or-replicate, length-map, length-replicate}
 use Rattle.std.proofs.lemmas.Option.{get_or_from_slice_get, slice_get-get_or, slice_get_within}
 use Rattle.std.proofs.lemmas.Slice.Zip.{AllZip-long}
 use Rattle.aig_parts.specs.Literal.{variable}
@@ -26,7 +26,6 @@ use Rattle.aig_base.proofs.values.OneValue.{have_one_value}
 use Rattle.aig_base.proofs.values.UniqueValue.{unique}
 use Rattle.aig_values.specs.InputRows.{HaveWidth, row_at, with_cell}
 use Rattle.aig_values.proofs.Evaluation.{even_or_odd}
-use Rattle.aig_base.proofs.lists.Items.{item_at}
 use Rattle.aig_bench.proofs.cells.CellLemmas.{get_set_other, row_other, row_written}
 use Rattle.aig_bench.specs.BenchState.{CircuitAndRows, HasValue}
 use Rattle.aig_reduce.specs.Irreducible.{IsSameOrX}
@@ -43,23 +42,14 @@ use Rattle.aig_reduce.proofs.Places.{row_within}
 pub marked_then : (marks : List Bool) (v u : ℕ) → IsMarked (slice_set marks v true) u → (u ≡ v → ⊥) → IsMarked marks u
 marked_then marks v u m other = sym (get_set_other marks v u true other) ∙ m
 
-pub none_added : (p : CircuitAndRows) (property t : ℕ) (marks : List Bool) → AddsNeeded p property t marks marks
-none_added p property t marks = record { size = refl; needed = λ h. h }
-
-pub added_then : (p : CircuitAndRows) (property t : ℕ) (a b c : List Bool) → AddsNeeded p property t a b
-    → AddsNeeded p property t b c → AddsNeeded p property t a c
-added_then p property t a b c h k = record { size = k.size ∙ h.size; needed = λ n. k.needed (h.needed n) }
-
--- the variable of a literal is marked, where it is needed
-pub one_added : (p : CircuitAndRows) (property t v : ℕ) (old new : List Bool) → new ≡ slice_set old v true
-    → (AreNeeded p property t old → IsNeeded p property t v) → AddsNeeded p property t old new
-one_added p property t v old new e h = record {
-  size = ap length e ∙ length-set old v true;
-  needed = λ n u m. elim (cases_eq u v) [
-    | inl same ↦ subst (IsNeeded p property t) (sym same) (h n)
-    | inr other ↦ n u (marked_then old v u (ap (λ (ms : List Bool). slice_get ms u) (sym e) ∙ m) other)
-  ];
-}
+-- a variable is marked, where it is needed
+pub one_added : (p : CircuitAndRows) (property t v : ℕ) (old new : List Bool)
+    → ((u : ℕ) → IsMarked new u → IsMarked old u ⊎ (u ≡ v)) → (AreNeeded p property t old → IsNeeded p property t v)
+    → AddsNeeded p property t old new
+one_added p property t v old new more h n u m = elim (more u m) [
+  | inl before ↦ n u before
+  | inr same ↦ subst (IsNeeded p property t) (sym same) (h n)
+]
 
 -- ---- what is x
 
@@ -308,12 +298,6 @@ nothing_listed v (suc k, at) = let no : ⊥ = cc in no
 pub none_listed : (list : List ℕ) (v : ℕ) → list ≡ [] → IsListed list v → ⊥
 none_listed list v e listed = nothing_listed v (subst (λ (xs : List ℕ). IsListed xs v) e listed)
 
--- ---- marks that are read
-
-pub is_marked : (marks : List Bool) (v n : ℕ) → n ≡ v → v < length marks → slice_index_or marks n false ≡ true → IsMarked marks v
-is_marked marks v n e lt is =
-    slice_get-get_or marks v false lt ∙ ap Some (ap (λ (k : ℕ). slice_index_or marks k false) (sym e) ∙ is)
-
 -- ---- x at all places
 
 pub x_alone : (size i : ℕ) (w : Tern) (row : List Tern) → row ≡ replicate size X → slice_get row i ≡ Some w → w ≡ X
@@ -336,9 +320,3 @@ x_more (r ∷ rows) row all one (suc t) i w is = x_more rows row (λ u j v at. a
 pub none_there : (t i : ℕ) (w : Tern) → slice_get (row_at [] t) i ≡ Some w → w ≡ X
 none_there zero i w is = let no : ⊥ = cc in absurd no
 none_there (suc t) i w is = let no : ⊥ = cc in absurd no
-
-pub is_marked_item : (marks : List Bool) (v n : ℕ) (x : Bool) → n ≡ v → v < length marks → x ≡ get_or marks n x → x ≡ true
-    → IsMarked marks v
-is_marked_item marks v n x e lt at same =
-    subst (λ (k : ℕ). slice_get marks k ≡ Some true) e
-    (item_at marks marks n x refl (omega (arith, lt, e)) at ∙ ap Some same)

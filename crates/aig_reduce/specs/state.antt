@@ -3,3 +3,4 @@ pub mod Looks
 pub mod Needed
 pub mod Places
 pub mod Reducing
+pub mod Steps

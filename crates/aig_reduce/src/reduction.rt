@@ -15,14 +15,14 @@ use crate::reducer::Reducer;
 use crate::spread::Spread;
 use aig_base::{Circuit, Io, Latch, Memory, Readers, Write, start_at};
 use aig_bench::{Bench, BenchFault};
-use aig_sim::{PlaneGrid, Verdict, Witness, check_witness, read_witness, write_witness};
+use aig_sim::{Verdict, Witness, check_witness, read_witness, write_witness};
 use std::alloc::Global;
 use std::marker::Model;
 
 /// A witness that was reduced. Contracts see the witness.
 #[derive(Drop)]
 pub struct ReducedWitness {
-    reducer: Reducer<PlaneGrid>,
+    reducer: Reducer,
 }
 
 impl Model for ReducedWitness {

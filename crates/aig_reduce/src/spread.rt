@@ -1,20 +1,29 @@
 //! What becomes x at a frame where an input or a start does.
-ghost use Rattle.std.specs.Prelude.{◌≡◌, ◌≢◌, ℕ, ◌+◌, ◌⊎◌, ◌<◌, length, Some, slice_get, IsTrue, vec_len};
+ghost use Rattle.std.specs.Prelude.{◌≡◌, ◌≢◌, ℕ, suc, ◌+◌, ◌⊎◌, ◌<◌, ◌≤◌, length, Some, slice_get, IfSome, IsTrue};
 ghost use Rattle.aig_parts.specs.declared.ternary.Tern.{Tern};
 ghost use Rattle.aig_parts.specs.Literal.{variable};
-ghost use Rattle.aig_base.specs.Sections.{IsDefined};
-ghost use Rattle.aig_base.specs.Sound.{IsInRange};
 ghost use Rattle.aig_bench.specs.BenchState.{HasValue};
 ghost use Rattle.aig_values.specs.InputRows.{row_at};
-ghost use Rattle.aig_reduce.specs.state.Needed.{AreFollowing, Breaks, Follows, IsListed};
+ghost use Rattle.aig_reduce.specs.state.Looks.{IsLiteralAt};
+ghost use Rattle.aig_reduce.specs.state.Needed.{Breaks, Follows, IsKnownAt, IsListed, ListsFollowing, ListsKnown};
 
-use crate::looks::{is_x, is_zero};
+use crate::looks::{has_value, is_x};
 use crate::needed::Known;
 use crate::place::ValuePlace;
-use aig_base::{Gate, Lit, Memory};
+use aig_base::{Gate, Lit, Memory, Tern};
 use aig_bench::Bench;
 use aig_sim::Grid;
 use std::alloc::Global;
+
+// An input. Its variable is x where a frame has x at it.
+fn input_at<G: Grid>(bench: &Bench<G>, position: usize) -> Lit
+    requires { position < length bench.now.pair.circuit.inputs }
+    ensures { (property t : ℕ) → Follows bench.now.pair property t (suc t) position (variable result) }
+{
+    // Its contract says that it is a circuit.
+    bench.width();
+    bench.circuit().inputs()[position]
+}
 
 /// Variables that are x at a frame if one of them is, each once.
 #[derive(Drop)]
@@ -72,9 +81,7 @@ impl Spread {
 
     // Whether a gate is x by one of its sides, which is listed: the other side is listed too, or not 0.
     fn passes<G: Grid>(&self, bench: &Bench<G>, frame: u32, side: Lit, other: Lit) -> bool
-        requires frame { frame < length bench.now.pair.rows }
-        requires range { IsInRange bench.now.pair.circuit other }
-        requires defined { IsDefined bench.now.pair.circuit (variable other) }
+        requires { IsLiteralAt bench.now.pair frame other }
         ensures { IsTrue result → IsListed self.now.list.items (variable side)
             × (IsListed self.now.list.items (variable other) ⊎ (HasValue bench.now.pair frame other Tern.Zero → ⊥)) }
     {
@@ -84,15 +91,14 @@ impl Spread {
         if self.has(other.var()) {
             return true;
         }
-        !is_zero(bench, frame, other)
+        !has_value(bench, frame, other, Tern::Zero)
     }
 
     // Lists the variable of a gate, if it becomes x by what is listed.
     fn follow<G: Grid>(&mut self, bench: &Bench<G>, frame: u32, gate: Gate)
         requires frame { frame < length bench.now.pair.rows }
         requires gate { (q : ℕ) × (slice_get bench.now.pair.circuit.gates q ≡ Some gate) }
-        ensures { (property m i : ℕ) → AreFollowing bench.now.pair property frame m i self.old.list.items →
-            AreFollowing bench.now.pair property frame m i self.new.list.items }
+        ensures { ListsFollowing bench.now.pair frame self.old.list.items self.new.list.items }
     {
         // Its contract says that it is a circuit.
         bench.width();
@@ -108,28 +114,15 @@ impl Spread {
         }
     }
 
-    // Follows a gate, and answers whether what it lists is needed.
-    fn follow_to_needed<G: Grid>(
-        &mut self,
-        bench: &Bench<G>,
-        known: &Known,
-        frame: u32,
-        reader: u32,
-    ) -> bool
-        requires frame { frame < length bench.now.pair.rows }
-        ensures following { (property m i : ℕ) → AreFollowing bench.now.pair property frame m i self.old.list.items →
-            AreFollowing bench.now.pair property frame m i self.new.list.items }
-        ensures needed { IsTrue result → IsListed self.new.list.items reader × (w : Tern) × (w ≢ Tern.X)
-            × (slice_get (row_at known.now.needed.cells.rows frame) reader ≡ Some w) }
+    // Whether a variable is listed, and needed at a frame.
+    fn has_needed(&self, known: &Known, frame: u32, variable: u32) -> bool
+        ensures { IsTrue result → IsListed self.now.list.items variable
+            × IsKnownAt known.now.needed.cells.rows frame variable }
     {
-        let Some(gate) = bench.circuit().gate_of(reader) else {
-            return false;
-        };
-        self.follow(bench, frame, gate);
-        if !self.has(reader) {
+        if !self.has(variable) {
             return false;
         }
-        known.needed.has_cell(frame, reader)
+        known.needed.has_cell(frame, variable)
     }
 
     // Follows the readers of a variable, up to one that is needed.
@@ -141,40 +134,41 @@ impl Spread {
         readers: &[u32],
     ) -> bool
         requires frame { frame < length bench.now.pair.rows }
-        ensures following { (property m i : ℕ) → AreFollowing bench.now.pair property frame m i self.old.list.items →
-            AreFollowing bench.now.pair property frame m i self.new.list.items }
-        ensures needed { IsTrue result → (v : ℕ) × IsListed self.new.list.items v × (w : Tern) × (w ≢ Tern.X)
-            × (slice_get (row_at known.now.needed.cells.rows frame) v ≡ Some w) }
+        ensures following { ListsFollowing bench.now.pair frame self.old.list.items self.new.list.items }
+        ensures needed { IsTrue result → ListsKnown known.now.needed.cells.rows frame self.new.list.items }
     {
         for reader in readers.iter() {
-            if self.follow_to_needed(bench, known, frame, *reader) {
+            let Some(gate) = bench.circuit().gate_of(*reader) else {
+                continue;
+            };
+            self.follow(bench, frame, gate);
+            if self.has_needed(known, frame, *reader) {
                 return true;
             }
         }
         false
     }
 
-    // Follows the readers of the variable at a place of the list.
-    fn follow_at<G: Grid>(
-        &mut self,
-        bench: &Bench<G>,
-        known: &Known,
-        frame: u32,
-        place: usize,
-    ) -> bool
-        requires frame { frame < length bench.now.pair.rows }
-        requires place { place < vec_len self.old.list }
-        requires readers { length known.now.readers.lists ≡ bench.now.pair.circuit.max_var + 1 }
-        ensures following { (property m i : ℕ) → AreFollowing bench.now.pair property frame m i self.old.list.items →
-            AreFollowing bench.now.pair property frame m i self.new.list.items }
-        ensures needed { IsTrue result → (v : ℕ) × IsListed self.new.list.items v × (w : Tern) × (w ≢ Tern.X)
-            × (slice_get (row_at known.now.needed.cells.rows frame) v ≡ Some w) }
+    // Lists a variable alone.
+    fn begin(&mut self, source: Lit)
+        ensures { (u : ℕ) → IsListed self.new.list.items u → u ≡ variable source }
     {
+        self.list.clear();
+        self.meet(source.var());
+    }
+
+    // The variable at a place of the list, if it is one of the circuit.
+    fn variable_at<G: Grid>(&self, bench: &Bench<G>, place: usize) -> Option<u32>
+        ensures { IfSome result (λ v. v ≤ bench.now.pair.circuit.max_var) }
+    {
+        if place >= self.list.len() {
+            return None;
+        }
         let variable = self.list[place];
         if variable > bench.circuit().max_var() {
-            return false;
+            return None;
         }
-        self.follow_all(bench, known, frame, known.readers.list(variable))
+        Some(variable)
     }
 
     // Whether x of a variable at a frame makes x of one that is needed there.
@@ -192,13 +186,12 @@ impl Spread {
             × ((property m i : ℕ) → Follows bench.now.pair property frame m i (variable source)
             → Follows bench.now.pair property frame m i v) }
     {
-        self.list.clear();
-        self.meet(source.var());
+        self.begin(source);
         for place in 0..self.places.len() {
-            if place >= self.list.len() {
+            let Some(variable) = self.variable_at(bench, place) else {
                 return false;
-            }
-            if self.follow_at(bench, known, frame, place) {
+            };
+            if self.follow_all(bench, known, frame, known.readers.list(variable)) {
                 return true;
             }
         }
@@ -223,29 +216,6 @@ impl Spread {
         self.reaches_needed(bench, known, 0, latch.lit)
     }
 
-    // Whether x at an input of a frame makes x of a variable that is needed there.
-    fn input_breaks<G: Grid>(
-        &mut self,
-        bench: &Bench<G>,
-        known: &Known,
-        frame: u32,
-        position: u32,
-    ) -> bool
-        requires frame { frame < length bench.now.pair.rows }
-        requires position { position < length bench.now.pair.circuit.inputs }
-        requires readers { length known.now.readers.lists ≡ bench.now.pair.circuit.max_var + 1 }
-        ensures { IsTrue result → Breaks bench.now.pair known.now.needed.cells.rows (frame + 1) position }
-    {
-        // Its contract says that it is a circuit.
-        bench.width();
-        self.reaches_needed(
-            bench,
-            known,
-            frame,
-            bench.circuit().inputs()[position as usize],
-        )
-    }
-
     /// Whether x at a place makes x of a variable that is needed. It follows gates that become x, up to the first one
     /// that is needed, and only at the frame of the place: the first one for a start.
     pub fn breaks<G: Grid>(&mut self, bench: &Bench<G>, known: &Known, place: ValuePlace) -> bool
@@ -261,6 +231,7 @@ impl Spread {
         if place.position >= bench.width() as usize {
             return false;
         }
-        self.input_breaks(bench, known, (place.list - 1) as u32, place.position as u32)
+        let source = input_at(bench, place.position);
+        self.reaches_needed(bench, known, (place.list - 1) as u32, source)
     }
 }

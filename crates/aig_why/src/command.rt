@@ -1,6 +1,6 @@
 //! The command `why`.
 ghost use Rattle.std.specs.Prelude.{◌≡◌, ℕ, ◌+◌, ◌*◌, ◌≤◌, List, [], length, All, Option, option_copied, Ok, Err};
-ghost use Rattle.std.specs.Prelude.{IfErr, IfNone, IfOk, IfSome};
+ghost use Rattle.std.specs.Prelude.{◌<◌, IfErr, IfNone, IfOk, IfSome};
 ghost use Rattle.aig_bytes.specs.Bytes.{Writes};
 ghost use Rattle.aig_bytes.specs.Flow.{flow};
 ghost use Rattle.aig_parts.specs.Limits.{cell_limit};
@@ -15,8 +15,8 @@ ghost use Rattle.aig_why.specs.Named.{IsNamingOf, NamesNothing};
 
 use crate::lines::text_of;
 use crate::question::Question;
-use crate::run::{Frames, Run};
-use aig_base::{Circuit, Io, Write, write_all};
+use crate::run::{ExplainedFrames, ExplainedRun};
+use aig_base::{Circuit, Io, Memory, Write, write_all};
 use aig_command::{Given, GivenRun, RunFault, WhyFault, read_circuit, read_given};
 use aig_signals::{Form, Naming};
 use aig_sim::PlaneGrid;
@@ -32,7 +32,7 @@ pub struct Span {
 
 impl Span {
     /// The frames of a run of so many frames; none where it has no such frame.
-    fn frames(self, count: u32) -> Option<Frames>
+    fn frames(self, count: u32) -> Option<ExplainedFrames>
         ensures some { IfSome result (λ f. IsFrame self.frame count f.first
             × (f.last ≡ least_frame self.depth f.first)) }
         ensures none { IfNone result ((t : ℕ) → IsFrame self.frame count t → ⊥) }
@@ -47,7 +47,7 @@ impl Span {
             Some(depth) => first.saturating_sub(depth),
             None => 0,
         };
-        Some(Frames { first, last })
+        Some(ExplainedFrames { first, last })
     }
 }
 
@@ -63,7 +63,7 @@ pub struct Asked<'a> {
 /// The lines that explain what is asked for in a run.
 fn explain_run(
     alloc: Global,
-    run: &Run<PlaneGrid>,
+    run: &ExplainedRun<PlaneGrid>,
     naming: Naming,
     question: Option<&Question>,
     span: Span,
@@ -121,8 +121,31 @@ fn explain(
         rows,
     } = given;
     let naming = Naming::new(alloc, &circuit)?;
-    let run = Run::new(alloc, circuit, &start, rows)?;
+    let run = ExplainedRun::new(alloc, circuit, &start, rows)?;
     explain_run(alloc, &run, naming, question, span, form)
+}
+
+/// What a name means, none where it means none; without a name the property, if there is one.
+fn question_of(
+    alloc: Global,
+    circuit: &Circuit,
+    name: Option<&[u8]>,
+    property: Option<u32>,
+) -> Result<Option<Question>, Memory>
+    requires { IfSome property (λ p. p < length circuit.now.bad) }
+    ensures asked { IfOk result (IsAskedAs circuit.now (option_copied name.entry) property) }
+    ensures range { IfOk result (λ found. IfSome found
+        (λ q. All (λ l. variable l ≤ circuit.now.max_var) q.literals)) }
+    ensures defined { IfOk result (λ found. IfSome found
+        (λ q. All (λ l. IsDefined circuit.now (variable l)) q.literals)) }
+{
+    match name {
+        Some(name) => Question::of_name(alloc, circuit, name),
+        None => match property {
+            Some(property) => Ok(Some(Question::of_property(alloc, circuit, property)?)),
+            None => Ok(None),
+        },
+    }
 }
 
 /// The lines for the run that is given with a circuit.
@@ -138,7 +161,7 @@ fn explain_given(
         (option_copied asked.entry.name) asked.entry.span circuit (Err fault) []) }
 {
     let given = read_given(alloc, &circuit, given)?;
-    let question = Question::new(alloc, &circuit, asked.name, given.property)?;
+    let question = question_of(alloc, &circuit, asked.name, given.property)?;
     explain(
         alloc,
         circuit,

@@ -10,4 +10,4 @@ mod run;
 pub use command::{Asked, Span, why};
 pub use lines::text_of;
 pub use question::Question;
-pub use run::{Frames, Run};
+pub use run::{ExplainedFrames, ExplainedRun};

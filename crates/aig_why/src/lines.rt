@@ -6,12 +6,13 @@ ghost use Rattle.aig_base.specs.Sections.{IsDefined};
 ghost use Rattle.aig_why.specs.Why.{IsExplanation, run_of};
 ghost use Rattle.aig_why.specs.Named.{IsNamingOf, NamesNothing};
 
+mod names;
 mod starts;
 mod values;
 mod writer;
 
 use crate::question::Question;
-use crate::run::{Frames, Run};
+use crate::run::{ExplainedFrames, ExplainedRun};
 use aig_base::Memory;
 use aig_causes::Explanation;
 use aig_signals::{Form, Naming};
@@ -22,10 +23,10 @@ use writer::Writer;
 /// The lines that explain literals of a run at a frame, down to another one at most, in a form.
 pub fn text_of<G: Grid>(
     alloc: Global,
-    run: &Run<G>,
+    run: &ExplainedRun<G>,
     naming: Naming,
     question: &Question,
-    frames: Frames,
+    frames: ExplainedFrames,
     form: Form,
 ) -> Result<Vec<u8>, Memory>
     requires frame { frames.first < length run.now.bench.pair.rows }

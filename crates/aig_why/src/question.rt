@@ -1,10 +1,9 @@
 //! What is asked for.
-ghost use Rattle.std.specs.Prelude.{◌≡◌, ◌<◌, ◌≤◌, All, length, option_copied, IfNone, IfOk, IfSome, None, Some};
+ghost use Rattle.std.specs.Prelude.{◌≡◌, ◌<◌, ◌≤◌, All, length, IfNone, IfOk, IfSome, None, Some};
 ghost use Rattle.aig_parts.specs.Literal.{variable};
 ghost use Rattle.aig_base.specs.Sections.{IsDefined};
 ghost use Rattle.aig_signals.specs.Lookup.{Means, Unknown};
 ghost use Rattle.aig_why.specs.Why.{IsQuestion};
-ghost use Rattle.aig_why.specs.state.Asked.{IsAskedAs};
 
 use aig_base::{Bytes, Circuit, Kind, List, Lit, Memory};
 use aig_signals::{look_up, push_first_name, signals_of};
@@ -66,28 +65,5 @@ impl Question {
             name: List::from_vec(name),
             literals,
         })
-    }
-
-    /// What a name means, none where it means none; without a name the property, if there is one.
-    pub(crate) fn new(
-        alloc: Global,
-        circuit: &Circuit,
-        name: Option<&[u8]>,
-        property: Option<u32>,
-    ) -> Result<Option<Question>, Memory>
-        requires { IfSome property (λ p. p < length circuit.now.bad) }
-        ensures asked { IfOk result (IsAskedAs circuit.now (option_copied name.entry) property) }
-        ensures range { IfOk result (λ found. IfSome found
-            (λ q. All (λ l. variable l ≤ circuit.now.max_var) q.literals)) }
-        ensures defined { IfOk result (λ found. IfSome found
-            (λ q. All (λ l. IsDefined circuit.now (variable l)) q.literals)) }
-    {
-        match name {
-            Some(name) => Question::of_name(alloc, circuit, name),
-            None => match property {
-                Some(property) => Ok(Some(Question::of_property(alloc, circuit, property)?)),
-                None => Ok(None),
-            },
-        }
     }
 }

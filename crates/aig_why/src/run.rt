@@ -11,15 +11,15 @@ use aig_values::Grid;
 use std::alloc::Global;
 
 /// A run on a bench, and the latches of its circuit with their own resets.
-pub struct Run<G: Grid> {
+pub struct ExplainedRun<G: Grid> {
     pub bench: Bench<G>,
     pub latches: Vec<Latch>,
 }
 
 // By hand: a value then ends in one call, which is one step of a proof (docs/PROOFS.md, Habits).
-impl<G: Grid> Drop for Run<G> {
+impl<G: Grid> Drop for ExplainedRun<G> {
     fn drop(self) {
-        let Run {
+        let ExplainedRun {
             bench: _,
             latches: _,
         } = self;
@@ -28,19 +28,19 @@ impl<G: Grid> Drop for Run<G> {
 
 /// The frame that is explained, and the one at which the lines end at the latest.
 #[derive(Clone, Copy)]
-pub struct Frames {
+pub struct ExplainedFrames {
     pub first: u32,
     pub last: u32,
 }
 
-impl<G: Grid> Run<G> {
+impl<G: Grid> ExplainedRun<G> {
     /// The run of a circuit from a start over some rows.
     pub fn new(
         alloc: Global,
         circuit: Circuit,
         start: &[Tern],
         rows: Stimulus,
-    ) -> Result<Run<G>, BenchFault>
+    ) -> Result<ExplainedRun<G>, BenchFault>
         requires start { length start.now ≡ length circuit.latches }
         requires width { rows.width ≡ length circuit.inputs }
         ensures width { IsErrOf result BenchFault.Width → ⊥ }
@@ -51,20 +51,20 @@ impl<G: Grid> Run<G> {
         ensures rows { IfOk result (λ run. run.bench.pair.rows ≡ rows.rows) }
         ensures latches { IfOk result (λ run. run.latches.items ≡ circuit.latches) }
     {
-        let latches = copy_of(alloc, circuit.latches())?;
+        let latches = copy_latches(alloc, &circuit)?;
         let mut circuit = circuit;
         start_at(&mut circuit, start);
         let bench = Bench::new(alloc, circuit, rows)?;
-        Ok(Run { bench, latches })
+        Ok(ExplainedRun { bench, latches })
     }
 }
 
-/// A copy of some latches.
-fn copy_of(alloc: Global, latches: &[Latch]) -> Result<Vec<Latch>, BenchFault>
-    ensures copy { IfOk result (λ copy. copy.items ≡ latches.now) }
+/// A copy of the latches of a circuit.
+fn copy_latches(alloc: Global, circuit: &Circuit) -> Result<Vec<Latch>, BenchFault>
+    ensures copy { IfOk result (λ copy. copy.items ≡ circuit.now.latches) }
     ensures memory { IfErr result (λ fault. fault ≡ BenchFault.Memory) }
 {
-    match Vec::from_slice(alloc, latches) {
+    match Vec::from_slice(alloc, circuit.latches()) {
         Ok(latches) => Ok(latches),
         Err(_) => Err(BenchFault::Memory),
     }

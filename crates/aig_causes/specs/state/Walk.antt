@@ -10,6 +10,7 @@ use Rattle.aig_parts.specs.Ternary.{kleene_and}
 use Rattle.aig_base.specs.Definition.{Defines}
 use Rattle.aig_base.specs.declared.circuit.definition.Definition.{Definition}
 use Rattle.aig_base.specs.declared.circuit.definition.Definition.TheVariants as definition
+use Rattle.aig_bench.specs.BenchState.{CircuitAndRows}
 use Rattle.aig_values.specs.Cells.{HasVariablesBelow}
 use Rattle.aig_causes.specs.declared.sides.Sides.{Sides}
 use Rattle.aig_causes.specs.declared.sides.Sides.TheVariants as sides
@@ -98,6 +99,12 @@ pub record IsWalker (w : Walker) : Type 0 where
   pub earlier : AreEarlier w.visited.number w.visited.marks.items
   pub weights : length w.weights.items ≡ length w.visited.marks.items
   pub gates : IfSome w.order (All (HasVariablesBelow (length w.visited.marks.items)))
+
+-- it is for the circuit of the pair, which has such a frame
+pub record IsWalkerAt (p : CircuitAndRows) (t : ℕ) (w : Walker) : Type 0 where
+  pub frame : t < length p.rows
+  pub walker : IsWalker w
+  pub size : length w.visited.marks.items ≡ p.circuit.max_var + 1
 
 -- the walker as a walk
 abbrev pub walk_of : Walker → WalkState

@@ -1,7 +1,16 @@
 -- What a look at a bench's values shows.
 use Rattle.std.specs.Prelude.{◌≡◌, ℕ, ◌-◌, ◌<◌, ◌≤◌, length, Some, slice_get}
 use Rattle.aig_parts.specs.declared.ternary.Tern.TheVariants.{One}
+use Rattle.aig_parts.specs.Literal.{variable}
+use Rattle.aig_base.specs.Sections.{IsDefined}
+use Rattle.aig_base.specs.Sound.{IsInRange}
 use Rattle.aig_bench.specs.BenchState.{CircuitAndRows, HasValue}
+
+-- the literal has a value at the frame
+pub record IsLiteralAt (p : CircuitAndRows) (t l : ℕ) : Type 0 where
+  pub frame : t < length p.rows
+  pub range : IsInRange p.circuit l
+  pub defined : IsDefined p.circuit (variable l)
 
 -- all constraints are 1 at the frame
 abbrev pub AreOne : CircuitAndRows → ℕ → Type 0

@@ -37,9 +37,8 @@ abbrev pub AreNeeded : CircuitAndRows → ℕ → ℕ → List Bool → Type 0
 AreNeeded p property t marks = (v : ℕ) → IsMarked marks v → IsNeeded p property t v
 
 -- marks were added, only of what is needed at the frame
-pub record AddsNeeded (p : CircuitAndRows) (property t : ℕ) (old new : List Bool) : Type 0 where
-  pub size : length new ≡ length old
-  pub needed : AreNeeded p property t old → AreNeeded p property t new
+abbrev pub AddsNeeded : CircuitAndRows → ℕ → ℕ → List Bool → List Bool → Type 0
+AddsNeeded p property t old new = AreNeeded p property t old → AreNeeded p property t new
 
 -- in no such run is a value of these rows x that is not x in them
 abbrev pub AreNeededInputs : CircuitAndRows → ℕ → List (List Tern) → Type 0
@@ -59,6 +58,10 @@ abbrev pub AreNeededCells : CircuitAndRows → ℕ → List (List Tern) → Type
 AreNeededCells p property cells =
     (t v : ℕ) (w : Tern) → slice_get (row_at cells t) v ≡ Some w → w ≢ X → IsNeeded p property t v
 
+-- the value at this place of the rows is not x
+abbrev pub IsKnownAt : List (List Tern) → ℕ → ℕ → Type 0
+IsKnownAt rows t i = (w : Tern) × (w ≢ X) × (slice_get (row_at rows t) i ≡ Some w)
+
 abbrev pub IsListed : List ℕ → ℕ → Type 0
 IsListed list v = (k : ℕ) × (slice_get list k ≡ Some v)
 
@@ -70,6 +73,15 @@ Follows p property t m i v =
 
 abbrev pub AreFollowing : CircuitAndRows → ℕ → ℕ → ℕ → ℕ → List ℕ → Type 0
 AreFollowing p property t m i list = (v : ℕ) → IsListed list v → Follows p property t m i v
+
+-- variables were listed that follow where those before do
+abbrev pub ListsFollowing : CircuitAndRows → ℕ → List ℕ → List ℕ → Type 0
+ListsFollowing p t old new =
+    (property m i : ℕ) → AreFollowing p property t m i old → AreFollowing p property t m i new
+
+-- a variable of the list is not x in the row of the frame
+abbrev pub ListsKnown : List (List Tern) → ℕ → List ℕ → Type 0
+ListsKnown rows t list = (v : ℕ) × IsListed list v × IsKnownAt rows t v
 
 -- x at position i of list m makes x of a variable where these rows are not x
 abbrev pub Breaks : CircuitAndRows → List (List Tern) → ℕ → ℕ → Type 0
@@ -91,7 +103,8 @@ AreNeededCellsIn raw given cells =
     → (start : List Tern) (rows : List (List Tern)) → AllZip (AllZip IsSameOrX) (start ∷ rows) (values_of given)
     → Confirms raw given.property (start ∷ rows) → Value raw start rows t (2 * v) X → ⊥
 
--- what is known of the given witness: the latches of its circuit, a list of readers for each variable, and what it needs
+-- what is known of the given witness: the latches of its circuit, a list of readers for each variable, and what the
+-- witness needs
 pub record Knows (raw : Raw) (given : Witness) (known : Known) : Type 0 where
   pub latches : known.latches.items ≡ raw.latches
   pub readers : length known.readers.lists ≡ raw.max_var + 1

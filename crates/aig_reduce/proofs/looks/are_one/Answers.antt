@@ -10,29 +10,26 @@ use Rattle.aig_values.proofs.Evaluation.{items_more}
 use Rattle.aig_base.proofs.lists.Items.{item_at}
 use Rattle.aig_reduce.proofs.looks.are_one.Goals as goal
 
-pub is_one-requires-clause-range : goal.is_one-requires-clause-range
-is_one-requires-clause-range g c =
+pub has_value-requires : goal.has_value-requires
+has_value-requires g c =
     let raw = c.args.bench.now.pair.circuit in
     let same = c.constraints-literal-items.ensures ∙ ap (λ (r : Raw). r.constraints) c.circuit.ensures in
-    let at : slice_get raw.constraints c.loop-literal.literal-index ≡ Some c.literal-item.result =
-    item_at _ _ c.loop-literal.literal-index c.literal-item.result same c.loop-literal-test.true c.literal-item.is in
-    let within : variable c.literal-item.result ≤ raw.max_var =
-    constraint_in_range raw c.width.ensures.circuit.sound c.loop-literal.literal-index c.literal-item.result at in
-    omega (arith, within)
+    let i = c.loop-literal.literal-index in
+    let l = c.literal-item.result in
+    let at : slice_get raw.constraints i ≡ Some l = item_at _ _ i l same c.loop-literal-test.true c.literal-item.is in
+    let within : variable l ≤ raw.max_var = constraint_in_range raw c.width.ensures.circuit.sound i l at in
+    record {
+      frame = c.requires;
+      range = omega (arith, within);
+      defined = constraint_defined raw c.width.ensures.circuit.sound i l at;
+    }
 
-pub is_one-requires-clause-defined : goal.is_one-requires-clause-defined
-is_one-requires-clause-defined g c =
-    let raw = c.args.bench.now.pair.circuit in
-    let same = c.constraints-literal-items.ensures ∙ ap (λ (r : Raw). r.constraints) c.circuit.ensures in
-    constraint_defined raw c.width.ensures.circuit.sound c.loop-literal.literal-index c.literal-item.result
-    (item_at _ _ c.loop-literal.literal-index c.literal-item.result same c.loop-literal-test.true c.literal-item.is)
-
-pub returns-then-not-is_one : goal.returns-then-not-is_one
-returns-then-not-is_one g c =
+pub returns-then-not-has_value : goal.returns-then-not-has_value
+returns-then-not-has_value g c =
     let same = c.constraints-literal-items.ensures ∙ ap (λ (r : Raw). r.constraints) c.circuit.ensures in (
       λ yes. absurd (false≢true yes),
-      λ all. absurd (false≢true (sym c.if-not-is_one.true
-          ∙ c.is_one.ensures.1 (all c.loop-literal.literal-index c.literal-item.result
+      λ all. absurd (false≢true (sym c.if-not-has_value.true
+          ∙ c.has_value.ensures.1 (all c.loop-literal.literal-index c.literal-item.result
           (item_at _ _ c.loop-literal.literal-index c.literal-item.result same c.loop-literal-test.true c.literal-item.is)))),
     )
 
@@ -42,7 +39,7 @@ loop-literal-preserved g c = λ q k lt at.
     let same = c.constraints-literal-items.ensures ∙ ap (λ (r : Raw). r.constraints) c.circuit.ensures in
     items_more (λ (l : ℕ). HasValue p c.args.frame l One) p.circuit.constraints c.loop-literal.literal-index c.literal-item.result
     (item_at _ _ c.loop-literal.literal-index c.literal-item.result same c.loop-literal-test.true c.literal-item.is)
-    (λ i l below here. c.loop-literal.invariant i l below here) (c.is_one.ensures.0 c.if-not-is_one.false) q k lt at
+    (λ i l below here. c.loop-literal.invariant i l below here) (c.has_value.ensures.0 c.if-not-has_value.false) q k lt at
 
 pub returns : goal.returns
 returns g c =

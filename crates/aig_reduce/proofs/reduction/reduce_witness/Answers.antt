@@ -27,8 +27,8 @@ returns-then-not-is_confirmed-clause-reduced c =
       (λ e. false≢true (sym c.if-not-is_confirmed.true ∙ c.is_confirmed.ensures.1 e), read.verdict),
     )
 
-pub try_all-requires-clause-reducing : goal.try_all-requires-clause-reducing
-try_all-requires-clause-reducing c =
+pub try_all-requires : goal.try_all-requires
+try_all-requires c =
     let w = c.in_ok-verdict.field-0.witness in
     let given : Witness = record { property = w.property; start = w.start.items; rows = w.rows.rows } in
     let read = c.in_ok-verdict.ensures in

@@ -10,8 +10,8 @@ use Rattle.aig_why.specs.Why.{WritesWhy}
 use Rattle.aig_why.specs.state.Asked.{IsAskedAs}
 use Rattle.aig_why.proofs.command.explain_given.Goals as goal
 
-pub new-requires : goal.new-requires
-new-requires c =
+pub question_of-requires : goal.question_of-requires
+question_of-requires c =
     given_property c.args.circuit (given_text c.args.given) (read_run c.in_ok-given.given) c.in_ok-given.ensures.run
 
 pub explain-requires-clause-start : goal.explain-requires-clause-start

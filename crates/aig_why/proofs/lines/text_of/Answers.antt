@@ -24,14 +24,20 @@ pub push_asked-requires-clause-none : goal.push_asked-requires-clause-none
 push_asked-requires-clause-none g c =
     subst (NamesNothing c.args.run.now.bench.pair.circuit) (sym c.new-writer.ensures.naming) c.requires.none
 
-pub push_frames-requires-clause-of : goal.push_frames-requires-clause-of
-push_frames-requires-clause-of g c =
+pub push_frames-requires-clause-begins : goal.push_frames-requires-clause-begins
+push_frames-requires-clause-begins g c =
     let p = c.args.run.now.bench.pair in
-    let (raw, of) = c.requires.of in (
-      raw,
-      naming_with raw p c.new-writer.result.naming c.push_asked.new.self.naming
-          (subst (IsNamingOf raw p) (sym c.new-writer.ensures.naming) of) c.in_ok-push_asked.ensures.signals,
-    )
+    let (raw, of) = c.requires.of in
+    record {
+      bench = c.in_ok-explanation.ensures.bench;
+      end = c.in_ok-explanation.ensures.end;
+      of = (
+        raw,
+        naming_with raw p c.new-writer.result.naming c.push_asked.new.self.naming
+            (subst (IsNamingOf raw p) (sym c.new-writer.ensures.naming) of) c.in_ok-push_asked.ensures.signals,
+      );
+      none = c.in_ok-push_asked.ensures.none;
+    }
 
 pub returns : goal.returns
 returns g c = λ raw of latches.
@@ -49,7 +55,7 @@ returns g c = λ raw of latches.
     let at_asked =
     naming_with raw p c.new-writer.result.naming c.push_asked.new.self.naming at_first c.in_ok-push_asked.ensures.signals in
     let at_last =
-    naming_with raw p c.push_asked.new.self.naming c.push_frames.new.self.naming at_asked c.in_ok-push_frames.ensures.signals in
+    naming_with raw p c.push_asked.new.self.naming c.push_frames.new.self.naming at_asked c.in_ok-push_frames.ensures.keeps.signals in
     let (frames, come, down, adds) =
     c.in_ok-push_frames.ensures.come raw at_asked literals
     (subst (λ (ls : List ℕ). HasCome p ls begun [] []) c.as_slice-literals.ensures c.in_ok-explanation.ensures.come) in
@@ -65,7 +71,7 @@ returns g c = λ raw of latches.
     let whole : IsExplanation c.args.form raw (run_of p) name literals t c.args.frames.last text =
     explanation c.args.form raw p e name literals t c.args.frames.last frames first middle text of.resets come
     (down ∙ c.in_ok-explanation.ensures.frame) c.in_ok-push_frames.ensures.last c.in_ok-push_frames.ensures.ends
-    (subst (λ (s : Sources). FirstLine c.args.form raw (moment p t) name literals s first) (sym c.in_ok-push_frames.ensures.asked) line) adds
+    (subst (λ (s : Sources). FirstLine c.args.form raw (moment p t) name literals s first) (sym c.in_ok-push_frames.ensures.keeps.asked) line) adds
     (c.in_ok-push_last.ensures raw at_last (latches ∙ sym c.deref.ensures.value) literals frames come) in
     subst (λ (lines : Vec ℕ). IsExplanation c.args.form raw (run_of p) name literals t c.args.frames.last lines.items)
     (sym c.into_text.ensures) whole

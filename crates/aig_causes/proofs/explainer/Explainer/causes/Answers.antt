@@ -11,9 +11,11 @@ use Rattle.aig_causes.proofs.explainer.Explainer.causes.Goals as goal
 
 pub walk-requires : goal.walk-requires
 walk-requires g c = record {
-  frame = c.requires.frame;
-  walker = walker_kept c.self.inside.walker _ c.self.invariant refl refl refl;
-  size = c.self.view_is ∙ c.requires.size;
+  walker = record {
+    frame = c.requires.frame;
+    walker = walker_kept c.self.inside.walker _ c.self.invariant refl refl refl;
+    size = c.self.view_is ∙ c.requires.size;
+  };
   literals = λ l h.
       All-contains (λ k. variable k ≤ c.args.bench.now.pair.circuit.max_var) c.args.literals.now l c.requires.range h;
 }
@@ -63,3 +65,9 @@ returns-clause-there g c =
       latches = λ q h.
           walk.latches q (subst (λ (z : Sources). Contains z.latches q) value ((c.sort.ensures.latches q).0 h));
     }
+
+pub returns-clause-size : goal.returns-clause-size
+returns-clause-size g c = c.in_ok-walk.ensures.walker.size ∙ sym c.requires.size
+
+pub returns-in_err-walk-clause-size : goal.returns-in_err-walk-clause-size
+returns-in_err-walk-clause-size g c = c.in_err-walk.ensures.walker.size ∙ sym c.requires.size

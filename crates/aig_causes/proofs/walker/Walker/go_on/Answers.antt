@@ -4,7 +4,7 @@ use Rattle.aig_parts.specs.declared.raw.Raw.{Raw}
 use Rattle.aig_base.specs.Definition.{Defines, IsFree}
 use Rattle.aig_base.specs.declared.circuit.definition.Definition.TheVariants as definition
 use Rattle.aig_causes.specs.Causes.{moment}
-use Rattle.aig_causes.specs.state.Walk.{Leads, walk_of}
+use Rattle.aig_causes.specs.state.Walk.{walk_of}
 use Rattle.aig_causes.proofs.Walks.{leads_nowhere, leads_to_gate, leads_to_input, leads_to_latch}
 use Rattle.aig_causes.proofs.walker.Walker.go_on.Goals as goal
 
@@ -30,24 +30,22 @@ returns-in_ok-add_latch-in-Some-Latch-clause-leads g c =
     (subst (λ (r : Raw). Defines r c.args.variable (definition.Latch c.in-Some-Latch.position)) c.circuit.ensures
     (rw c.in-Some-Latch.field-0-is at c.in-Some-Latch.ensures.found)) c.in_ok-add_latch-in-Some-Latch.ensures
 
-pub returns-in_ok-queue_gate-in-Some-Gate-clause-leads : goal.returns-in_ok-queue_gate-in-Some-Gate-clause-leads
-returns-in_ok-queue_gate-in-Some-Gate-clause-leads g c =
+pub returns-in_ok-queue_sides-in-Some-Gate-clause-leads : goal.returns-in_ok-queue_sides-in-Some-Gate-clause-leads
+returns-in_ok-queue_sides-in-Some-Gate-clause-leads g c =
     let p = c.args.bench.now.pair in
     let old = walk_of c.args.self.now in
-    let new = c.queue_gate.new.self in
-    let (some, reached, todo) = c.in_ok-queue_gate-in-Some-Gate.ensures.queued in
-    let at : slice_get p.circuit.gates c.in-Some-Gate.place ≡ Some c.gate_at.result =
-    subst (λ (r : Raw). slice_get r.gates c.in-Some-Gate.place ≡ Some c.gate_at.result) c.circuit-in-Some-Gate.ensures c.gate_at.ensures in
-    let same : record old { todo = new.todo.items } ≡ walk_of new =
-    cc (c.in_ok-queue_gate-in-Some-Gate.ensures.visited, c.in_ok-queue_gate-in-Some-Gate.ensures.found) in
-    subst (Leads p.circuit (moment p c.args.frame) c.args.variable old) same
-    (leads_to_gate p.circuit c.width.ensures.circuit.sound (moment p c.args.frame) old c.args.variable c.in-Some-Gate.place
-    c.gate_at.result some new.todo.items
+    let gate = c.gate_at-gate.result in
+    let some = c.sides-sides.result in
+    let at : slice_get p.circuit.gates c.in-Some-Gate.place ≡ Some gate =
+    subst (λ (r : Raw). slice_get r.gates c.in-Some-Gate.place ≡ Some gate) c.circuit-in-Some-Gate.ensures c.gate_at-gate.ensures in
+    leads_to_gate p.circuit c.width.ensures.circuit.sound (moment p c.args.frame) old c.args.variable c.in-Some-Gate.place
+    gate some c.queue_sides.new.todo.items
     (subst (λ (r : Raw). Defines r c.args.variable (definition.Gate c.in-Some-Gate.place)) c.circuit.ensures
-    (rw c.in-Some-Gate.field-0-is at c.in-Some-Gate.ensures.found)) at reached todo)
+    (rw c.in-Some-Gate.field-0-is at c.in-Some-Gate.ensures.found)) at c.sides-sides.ensures
+    c.in_ok-queue_sides-in-Some-Gate.ensures
 
-pub gate_at-requires : goal.gate_at-requires
-gate_at-requires g c =
+pub gate_at-gate-requires : goal.gate_at-gate-requires
+gate_at-gate-requires g c =
     let p = c.args.bench.now.pair in
     let found = subst (λ (r : Raw). Defines r c.args.variable (definition.Gate c.in-Some-Gate.place)) c.circuit.ensures
     (rw c.in-Some-Gate.field-0-is at c.in-Some-Gate.ensures.found) in
@@ -55,13 +53,12 @@ gate_at-requires g c =
     slice_get_within p.circuit.gates c.in-Some-Gate.place found.0 found.1 in
     subst (λ (r : Raw). c.in-Some-Gate.place < length r.gates) (sym c.circuit-in-Some-Gate.ensures) within
 
-pub queue_gate-requires : goal.queue_gate-requires
-queue_gate-requires g c = record {
-  frame = c.requires.frame;
+pub sides-sides-requires : goal.sides-sides-requires
+sides-sides-requires g c = record {
+  walker = c.requires;
   gate = (
     c.in-Some-Gate.place,
-    subst (λ (r : Raw). slice_get r.gates c.in-Some-Gate.place ≡ Some c.gate_at.result) c.circuit-in-Some-Gate.ensures c.gate_at.ensures,
+    subst (λ (r : Raw). slice_get r.gates c.in-Some-Gate.place ≡ Some c.gate_at-gate.result) c.circuit-in-Some-Gate.ensures
+        c.gate_at-gate.ensures,
   );
-  size = c.requires.size;
-  weights = c.requires.walker.weights;
 }

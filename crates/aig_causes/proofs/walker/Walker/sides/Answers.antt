@@ -9,7 +9,7 @@ pub value_at-first-requires : goal.value_at-first-requires
 value_at-first-requires g c =
     let (q, at) = c.requires.gate in
     record {
-      frame = c.requires.frame;
+      frame = c.requires.walker.frame;
       range = rhs0_in_range c.args.bench.now.pair.circuit c.width.ensures.circuit.sound q c.args.gate at;
     }
 
@@ -17,7 +17,7 @@ pub value_at-second-requires : goal.value_at-second-requires
 value_at-second-requires g c =
     let (q, at) = c.requires.gate in
     record {
-      frame = c.requires.frame;
+      frame = c.requires.walker.frame;
       range = rhs1_in_range c.args.bench.now.pair.circuit c.width.ensures.circuit.sound q c.args.gate at;
     }
 
@@ -27,9 +27,9 @@ choose-chosen-requires g c =
     let fits0 = rhs0_in_range c.args.bench.now.pair.circuit c.width.ensures.circuit.sound q c.args.gate at in
     let fits1 = rhs1_in_range c.args.bench.now.pair.circuit c.width.ensures.circuit.sound q c.args.gate at in
     record {
-      rhs0 = omega (arith, fits0, c.requires.size);
-      rhs1 = omega (arith, fits1, c.requires.size);
-      weights = c.requires.weights;
+      rhs0 = omega (arith, fits0, c.requires.walker.size);
+      rhs1 = omega (arith, fits1, c.requires.walker.size);
+      weights = c.requires.walker.walker.weights;
     }
 
 pub returns : goal.returns

@@ -20,13 +20,13 @@ returns-then-has-clause-fewer g c =
 
 pub go_on-requires : goal.go_on-requires
 go_on-requires g c = record {
-  frame = c.requires.frame;
-  walker = walker_more c.args.self.now (record c.args.self.now { visited = c.add.new.self }) c.requires.walker
-      (c.add.ensures.earlier c.requires.walker.earlier)
+  frame = c.requires.walker.frame;
+  walker = walker_more c.args.self.now (record c.args.self.now { visited = c.add.new.self }) c.requires.walker.walker
+      (c.add.ensures.earlier c.requires.walker.walker.earlier)
       (ap length c.add.ensures.marks ∙ length-set c.args.self.now.visited.marks.items c.args.variable c.args.self.now.visited.number)
       refl refl;
   size = ap length c.add.ensures.marks
-      ∙ length-set c.args.self.now.visited.marks.items c.args.variable c.args.self.now.visited.number ∙ c.requires.size;
+      ∙ length-set c.args.self.now.visited.marks.items c.args.variable c.args.self.now.visited.number ∙ c.requires.walker.size;
 }
 
 pub returns-clause-goes_on : goal.returns-clause-goes_on

@@ -10,7 +10,7 @@ use Rattle.aig_causes.proofs.walker.Walker.walk.Goals as goal
 pub loop-variable-init : goal.loop-variable-init
 loop-variable-init g c =
     let p = c.args.bench.now.pair in
-    let size = c.in_ok-begin.ensures.size ∙ c.weigh.ensures.size ∙ c.requires.size in
+    let size = c.in_ok-begin.ensures.size ∙ c.weigh.ensures.size in
     record {
       walker = c.in_ok-begin.ensures.walker;
       size = size;
@@ -23,9 +23,11 @@ pub visit-requires : goal.visit-requires
 visit-requires g c =
     let inv = c.loop-variable.invariant in
     record {
-      frame = c.requires.frame;
-      walker = walker_kept c.loop-variable.self _ inv.walker refl refl refl;
-      size = inv.size;
+      walker = record {
+        frame = c.requires.walker.frame;
+        walker = walker_kept c.loop-variable.self _ inv.walker refl refl refl;
+        size = inv.size;
+      };
       variable = inv.walk.pending c.in-Some.variable
           (subst (λ (xs : List ℕ). Contains xs c.in-Some.variable) (sym c.in-Some.ensures.items)
           (Contains-push c.pop.new.self.items c.in-Some.variable));
@@ -39,8 +41,8 @@ loop-variable-preserved g c =
     let s = walk_of c.loop-variable.self in
     let is = ap (λ (xs : List ℕ). let t : WalkState = record s { todo = xs } in t) c.in-Some.ensures.items in
     record {
-      walker = c.in_ok-visit.ensures.walker;
-      size = c.in_ok-visit.ensures.size ∙ inv.size;
+      walker = c.in_ok-visit.ensures.walker.walker;
+      size = c.in_ok-visit.ensures.walker.size;
       walk = goes.walk (subst (IsWalk p.circuit (moment p c.args.frame)) is inv.walk);
       reached = λ k h.
           goes.reached (variable k) (subst (λ (t : WalkState). IsReached t (variable k)) is (inv.reached k h));
@@ -53,7 +55,11 @@ loop-variable-smaller g c =
     subst (λ (t : WalkState). steps_left (walk_of c.visit.new.self) < steps_left t) (sym is) c.in_ok-visit.ensures.fewer
 
 pub returns-clause-walker : goal.returns-clause-walker
-returns-clause-walker g c = walker_kept c.loop-variable.self _ c.loop-variable.invariant.walker refl refl refl
+returns-clause-walker g c = record {
+  frame = c.requires.walker.frame;
+  walker = walker_kept c.loop-variable.self _ c.loop-variable.invariant.walker refl refl refl;
+  size = c.loop-variable.invariant.size;
+}
 
 pub returns-clause-walk : goal.returns-clause-walk
 returns-clause-walk g c =

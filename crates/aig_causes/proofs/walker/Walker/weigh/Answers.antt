@@ -1,4 +1,4 @@
-use Rattle.std.proofs.Common.{◌≡◌, ◌+◌, ℕ, All, Global, IfSome, Vec, length, refl, sym, ap, ◌∙◌, subst}
+use Rattle.std.proofs.Common.{◌≡◌, ◌+◌, ℕ, All, IfSome, length, refl, sym, ◌∙◌, subst}
 use Rattle.aig_parts.specs.declared.raw.Raw.{Raw}
 use Rattle.aig_parts.specs.declared.gate.Gate.{Gate}
 use Rattle.std.proofs.Common.{List}
@@ -16,7 +16,7 @@ weigh-requires g c =
     let listed : IfSome order (All (HasVariablesBelow n)) =
     subst (λ (k : ℕ). IfSome order (All (HasVariablesBelow k))) (sym c.requires.walker.weights) c.requires.walker.gates in
     let all : All (HasVariablesBelow n) p.circuit.gates =
-    subst (λ (k : ℕ). All (HasVariablesBelow k) p.circuit.gates) (sym size) (gates_below p.circuit c.width.ensures.circuit) in
+    subst (λ (k : ℕ). All (HasVariablesBelow k) p.circuit.gates) (sym size) (gates_below p.circuit c.width-self.ensures.circuit) in
     record {
       frame = c.requires.frame;
       gates = subst (λ (gs : List Gate). All (HasVariablesBelow n) gs) (sym c.gates_in_turn.ensures)
@@ -25,8 +25,9 @@ weigh-requires g c =
       size = size;
     }
 
-pub returns-clause-walker : goal.returns-clause-walker
-returns-clause-walker g c =
-    walker_more c.args.self.now _ c.requires.walker
-    (rw (c.begin_frame.ensures.number, c.begin_frame.ensures.marks) c.requires.walker.earlier)
-    (ap (λ (v : Vec ℕ Global). length v.items) c.begin_frame.ensures.marks) c.weigh.ensures refl
+pub returns : goal.returns
+returns g c = record {
+  frame = c.requires.frame;
+  walker = walker_more c.args.self.now _ c.requires.walker c.requires.walker.earlier refl c.weigh.ensures refl;
+  size = c.requires.size;
+}

@@ -6,14 +6,11 @@ use Rattle.aig_reduce.proofs.needed.Needed.look_back.Goals as goal
 pub frames-init : goal.frames-init
 frames-init g c = record {
   frame = omega (arith, c.frames-frame.ensures);
-  here = refl;
-  ahead = c.requires.ahead ∙ sym c.requires.here;
   marked = λ v m. absurd (c.requires.none v m);
   start = refl;
   width = refl;
   rows = refl;
   inputs = λ h. h;
-  cell_width = refl;
   cell_rows = refl;
   cells = λ h. h;
 }
@@ -26,18 +23,15 @@ frames-preserved g c =
     let inv = c.frames.invariant in
     let next : c.frames.frame ≡ suc t = omega (arith, c.frames-test.true) in
     let here : AreNeeded p property t c.look_at.new.self.here.items =
-    c.look_at.ensures.needed (subst (λ (n : ℕ). AreNeeded p property n c.frames.marks.here.items) next inv.marked) in
+    c.look_at.ensures (subst (λ (n : ℕ). AreNeeded p property n c.frames.marks.here.items) next inv.marked) in
     record {
       frame = omega (arith, inv.frame);
-      here = c.look_at.ensures.here ∙ inv.ahead;
-      ahead = c.look_at.ensures.ahead ∙ inv.here;
       marked = here;
       start = inv.start;
       width = c.keep_inputs.ensures.width ∙ inv.width;
       rows = c.keep_inputs.ensures.rows ∙ inv.rows;
       inputs = λ all.
           c.keep_inputs.ensures.needed property (subst (AreNeeded p property t) (sym c.deref.ensures.value) here) (inv.inputs all);
-      cell_width = c.keep_cells.ensures.width ∙ inv.cell_width;
       cell_rows = c.keep_cells.ensures.rows ∙ inv.cell_rows;
       cells = λ all.
           c.keep_cells.ensures.needed property (subst (AreNeeded p property t) (sym c.deref-in-frames.ensures.value) here) (inv.cells all);

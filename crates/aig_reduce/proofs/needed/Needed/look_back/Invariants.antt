@@ -5,15 +5,12 @@ use Rattle.aig_reduce.proofs.needed.Needed.look_back.Given as goal
 abbrev pub invariant-frames : goal.invariant-frames
 invariant-frames g l = record {
   frame : l.frame ≤ length l.bench.pair.rows;
-  here : length l.marks.here.items ≡ length l.initial.marks.here.items;
-  ahead : length l.marks.ahead.items ≡ length l.initial.marks.here.items;
   marked : AreNeeded l.bench.pair l.property l.frame l.marks.here.items;
   start : l.self.start ≡ l.initial.self.start;
   width : l.self.rows.width ≡ l.initial.self.rows.width;
   rows : length l.self.rows.rows ≡ length l.initial.self.rows.rows;
   inputs : AreNeededInputs l.bench.pair l.property l.initial.self.rows.rows
       → AreNeededInputs l.bench.pair l.property l.self.rows.rows;
-  cell_width : l.self.cells.width ≡ l.initial.self.cells.width;
   cell_rows : length l.self.cells.rows ≡ length l.initial.self.cells.rows;
   cells : AreNeededCells l.bench.pair l.property l.initial.self.cells.rows
       → AreNeededCells l.bench.pair l.property l.self.cells.rows;

@@ -7,7 +7,7 @@ use Rattle.aig_reduce.proofs.NeededTries.{clearing_broken, clearing_needed}
 use Rattle.aig_reduce.proofs.reducer.Reducer.clear_at.Goals as goal
 
 pub returns-then-is_fixed-clause-clearing : goal.returns-then-is_fixed-clause-clearing
-returns-then-is_fixed-clause-clearing g c = λ raw given first e h.
+returns-then-is_fixed-clause-clearing c = λ raw given first e h.
     let old = c.args.self.now in
     let p = c.args.place.position in
     let (none, fixed) = c.is_fixed.ensures.fixed c.if-is_fixed.true in
@@ -20,22 +20,22 @@ returns-then-is_fixed-clause-clearing g c = λ raw given first e h.
     (clearing_at raw given old.bench.pair old.property old.start.items first 0 p c.args.place.list p none refl h))
 
 pub returns-clause-clearing : goal.returns-clause-clearing
-returns-clause-clearing g c = λ raw given first e h.
+returns-clause-clearing c = λ raw given first e h.
     let old = c.args.self.now in
     let new = c.clear_value.new.self in
     let t = c.args.place.list in
     let p = c.args.place.position in
     clearing_named raw given new.bench.pair new.property old.property new.start.items first t (p + 1)
-    c.clear_value.ensures.property
+    c.clear_value.ensures.puts.property
     (clearing_at raw given new.bench.pair old.property new.start.items first t (p + 1) t (suc p) refl (omega arith)
     (clearing_x raw given old.property old.bench.pair old.start.items first t p c.requires.place
     (λ none.
     let (x, at, over) = c.is_fixed.ensures.free (λ yes. false≢true (sym c.if-is_fixed.false ∙ yes)) none in
     (x, ap (λ (ls : List Latch). slice_get ls p) (sym (c.deref.ensures.value ∙ e.latches)) ∙ at, over))
-    h new.bench.pair new.start.items (c.clear_value.ensures.puts raw (c.deref-2.ensures.value ∙ e.latches) h.runs)))
+    h new.bench.pair new.start.items (c.clear_value.ensures.puts.puts raw (c.deref-2.ensures.value ∙ e.latches) h.runs)))
 
 pub returns-then-has-clause-clearing : goal.returns-then-has-clause-clearing
-returns-then-has-clause-clearing g c = λ raw given first e h.
+returns-then-has-clause-clearing c = λ raw given first e h.
     let old = c.args.self.now in
     let t = c.args.place.list in
     let p = c.args.place.position in
@@ -46,12 +46,12 @@ returns-then-has-clause-clearing g c = λ raw given first e h.
     old.bench.pair old.start.items first c.requires.place h)
 
 pub breaks-requires : goal.breaks-requires
-breaks-requires g c =
+breaks-requires c =
     let (raw, given, first, e, h) = c.requires.clearing in
     omega (arith, e.readers, h.runs.resets.size)
 
 pub returns-then-breaks-clause-clearing : goal.returns-then-breaks-clause-clearing
-returns-then-breaks-clause-clearing g c = λ raw given first e h.
+returns-then-breaks-clause-clearing c = λ raw given first e h.
     let old = c.args.self.now in
     let t = c.args.place.list in
     let p = c.args.place.position in

@@ -4,7 +4,7 @@ use Rattle.aig_reduce.proofs.Clearings.{clearing_at, clearing_list, no_place}
 use Rattle.aig_reduce.proofs.reducer.Reducer.clear_next.Goals as goal
 
 pub returns-clause-clearing : goal.returns-clause-clearing
-returns-clause-clearing g c = λ raw given first e h.
+returns-clause-clearing c = λ raw given first e h.
     let old = c.args.self.now in
     let t = c.args.place.list in
     let p = c.args.place.position in

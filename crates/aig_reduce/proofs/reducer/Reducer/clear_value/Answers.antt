@@ -5,7 +5,7 @@ use Rattle.aig_reduce.proofs.Clearings.{undoes_x}
 use Rattle.aig_reduce.proofs.reducer.Reducer.clear_value.Goals as goal
 
 pub returns-clause-undoes : goal.returns-clause-undoes
-returns-clause-undoes g c = λ raw was e runs h.
+returns-clause-undoes c = λ raw was e runs h.
     let old = c.args.self.now in
     let new = c.put.new.self in
     let puts = c.put.ensures.puts raw e runs in

@@ -7,7 +7,7 @@ use Rattle.aig_reduce.proofs.Tries.{reducing_list, reducing_skips}
 use Rattle.aig_reduce.proofs.reducer.Reducer.step.Goals as goal
 
 pub returns-then-not-has-clause-reducing : goal.returns-then-not-has-clause-reducing
-returns-then-not-has-clause-reducing g c = λ raw given e h.
+returns-then-not-has-clause-reducing c = λ raw given e h.
     let old = c.args.self.now in
     let t = c.args.place.list in
     let p = c.args.place.position in
@@ -17,10 +17,10 @@ returns-then-not-has-clause-reducing g c = λ raw given e h.
     (λ there. false≢true (sym c.if-not-has.true ∙ c.has.ensures.1 there))) h)
 
 pub returns-then-not-has-clause-on : goal.returns-then-not-has-clause-on
-returns-then-not-has-clause-on g c = inl (omega arith)
+returns-then-not-has-clause-on c = inl (omega arith)
 
 pub returns-then-is_fixed-clause-reducing : goal.returns-then-is_fixed-clause-reducing
-returns-then-is_fixed-clause-reducing g c = λ raw given e h.
+returns-then-is_fixed-clause-reducing c = λ raw given e h.
     let old = c.args.self.now in
     let t = c.args.place.list in
     let p = c.args.place.position in
@@ -34,10 +34,10 @@ returns-then-is_fixed-clause-reducing g c = λ raw given e h.
     (reducing_at raw given old.bench.pair old.property old.start.items 0 p t p none refl h))
 
 pub returns-then-is_fixed-clause-on : goal.returns-then-is_fixed-clause-on
-returns-then-is_fixed-clause-on g c = inr (refl, omega arith)
+returns-then-is_fixed-clause-on c = inr (refl, omega arith)
 
 pub returns-then-has-clause-reducing : goal.returns-then-has-clause-reducing
-returns-then-has-clause-reducing g c = λ raw given e h.
+returns-then-has-clause-reducing c = λ raw given e h.
     let old = c.args.self.now in
     let t = c.args.place.list in
     let p = c.args.place.position in
@@ -48,15 +48,15 @@ returns-then-has-clause-reducing g c = λ raw given e h.
     old.bench.pair old.start.items (c.has.ensures.0 c.if-not-has.false) h)
 
 pub returns-then-has-clause-on : goal.returns-then-has-clause-on
-returns-then-has-clause-on g c = inr (refl, omega arith)
+returns-then-has-clause-on c = inr (refl, omega arith)
 
 pub breaks-requires : goal.breaks-requires
-breaks-requires g c =
+breaks-requires c =
     let (raw, given, e, h) = c.requires.reducing in
     omega (arith, e.readers, h.runs.resets.size)
 
 pub returns-then-breaks-clause-reducing : goal.returns-then-breaks-clause-reducing
-returns-then-breaks-clause-reducing g c = λ raw given e h.
+returns-then-breaks-clause-reducing c = λ raw given e h.
     let old = c.args.self.now in
     let t = c.args.place.list in
     let p = c.args.place.position in
@@ -65,4 +65,4 @@ returns-then-breaks-clause-reducing g c = λ raw given e h.
     (c.has.ensures.0 c.if-not-has.false) (c.breaks.ensures c.if-breaks.true) h)
 
 pub returns-then-breaks-clause-on : goal.returns-then-breaks-clause-on
-returns-then-breaks-clause-on g c = inr (refl, omega arith)
+returns-then-breaks-clause-on c = inr (refl, omega arith)

@@ -6,7 +6,7 @@ use Rattle.aig_reduce.proofs.Clearings.{undoes_last, undoes_none}
 use Rattle.aig_reduce.proofs.reducer.Reducer.take_back.Goals as goal
 
 pub put-requires-clause-place : goal.put-requires-clause-place
-put-requires-clause-place g c =
+put-requires-clause-place c =
     let (raw, was, e, runs, u) = c.requires in
     let now = c.loop-last.self in
     let (runs', u') = c.loop-last.invariant.runs raw was e runs u in
@@ -14,11 +14,11 @@ put-requires-clause-place g c =
     (subst (λ (es : List Cleared). Undoes es (now.start.items ∷ now.bench.pair.rows) was) c.in-Some.ensures.items u')).0
 
 pub put-requires-clause-runs : goal.put-requires-clause-runs
-put-requires-clause-runs g c =
+put-requires-clause-runs c =
     let (raw, was, e, runs, u) = c.requires in (raw, e, (c.loop-last.invariant.runs raw was e runs u).0)
 
 pub loop-last-preserved : goal.loop-last-preserved
-loop-last-preserved g c = record {
+loop-last-preserved c = record {
   property = c.put.ensures.property ∙ c.loop-last.invariant.property;
   runs = λ raw was e runs u.
       let now = c.loop-last.self in
@@ -32,7 +32,7 @@ loop-last-preserved g c = record {
 }
 
 pub returns-clause-runs : goal.returns-clause-runs
-returns-clause-runs g c = λ raw was e runs u.
+returns-clause-runs c = λ raw was e runs u.
     let now = c.loop-last.self in
     let (runs', u') = c.loop-last.invariant.runs raw was e runs u in
     let empty : c.loop-last.cleared.items ≡ [] = search rules in

@@ -6,7 +6,7 @@ use Rattle.aig_reduce.specs.state.Reducing.{Runs}
 use Rattle.aig_reduce.proofs.reducer.Reducer.take_back.Given as goal
 
 abbrev pub invariant-loop-last : goal.invariant-loop-last
-invariant-loop-last g l = record {
+invariant-loop-last l = record {
   property : l.self.property ≡ l.initial.self.property;
   runs : (raw : Raw) (was : List (List Tern)) → l.latches ≡ raw.latches
       → Runs raw l.initial.self.bench.pair l.initial.self.start.items
@@ -16,4 +16,4 @@ invariant-loop-last g l = record {
 }
 
 abbrev pub decreases-loop-last : goal.decreases-loop-last
-decreases-loop-last g l = length l.cleared.items
+decreases-loop-last l = length l.cleared.items

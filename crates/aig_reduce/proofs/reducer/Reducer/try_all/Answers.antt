@@ -3,11 +3,11 @@ use Rattle.aig_reduce.proofs.Tries.{reducing_ends, reducing_frames}
 use Rattle.aig_reduce.proofs.reducer.Reducer.try_all.Goals as goal
 
 pub places-init : goal.places-init
-places-init g c = record { empty = c.requires.empty; reducing = λ raw given e h. h }
+places-init c = record { reducing = λ raw given e h. h }
 
 pub step-place-requires-clause-list : goal.step-place-requires-clause-list
-step-place-requires-clause-list g c =
-    let (raw, given, e, h) = c.requires.reducing in
+step-place-requires-clause-list c =
+    let (raw, given, e, h) = c.requires in
     let old = c.args.self.now in
     let now = c.places.self in
     omega (
@@ -19,17 +19,16 @@ step-place-requires-clause-list g c =
     )
 
 pub step-place-requires-clause-reducing : goal.step-place-requires-clause-reducing
-step-place-requires-clause-reducing g c =
-    let (raw, given, e, h) = c.requires.reducing in (raw, given, e, c.places.invariant.reducing raw given e h)
+step-place-requires-clause-reducing c =
+    let (raw, given, e, h) = c.requires in (raw, given, e, c.places.invariant.reducing raw given e h)
 
 pub places-preserved : goal.places-preserved
-places-preserved g c = record {
-  empty = c.step-place.ensures.empty;
+places-preserved c = record {
   reducing = λ raw given e h. c.step-place.ensures.reducing raw given e (c.places.invariant.reducing raw given e h);
 }
 
 pub returns : goal.returns
-returns g c = λ raw given e h.
+returns c = λ raw given e h.
     let old = c.args.self.now in
     let now = c.places.self in
     let r = c.places.invariant.reducing raw given e h in

@@ -4,7 +4,7 @@ use Rattle.aig_reduce.proofs.Clearings.{at_place, place_shaped, reducing_at}
 use Rattle.aig_reduce.proofs.reducer.Reducer.try_place.Goals as goal
 
 pub try_value-requires-clause-place : goal.try_value-requires-clause-place
-try_value-requires-clause-place g c =
+try_value-requires-clause-place c =
     let (raw, given, e, h) = c.requires.reducing in
     let old = c.args.self.now in
     let new = c.try_ranges-reached.new.self in
@@ -13,7 +13,7 @@ try_value-requires-clause-place g c =
     c.args.place.position (k.tried.shape ∙ sym h.tried.shape) c.requires.place
 
 pub try_value-requires-clause-reducing : goal.try_value-requires-clause-reducing
-try_value-requires-clause-reducing g c =
+try_value-requires-clause-reducing c =
     let (raw, given, e, h) = c.requires.reducing in
     let new = c.try_ranges-reached.new.self in
     let place = c.args.place in
@@ -28,10 +28,10 @@ try_value-requires-clause-reducing g c =
     )
 
 pub returns-then-is_before-clause-on : goal.returns-then-is_before-clause-on
-returns-then-is_before-clause-on g c = c.is_before.ensures.0 c.if-is_before.true
+returns-then-is_before-clause-on c = c.is_before.ensures.0 c.if-is_before.true
 
 pub returns-clause-reducing : goal.returns-clause-reducing
-returns-clause-reducing g c = λ raw given e h.
+returns-clause-reducing c = λ raw given e h.
     let now = c.try_ranges-reached.new.self in
     let new = c.try_value.new.self in
     let place = c.args.place in
@@ -45,4 +45,4 @@ returns-clause-reducing g c = λ raw given e h.
     t_is p_is (c.try_ranges-reached.ensures.reducing raw given e h)))
 
 pub returns-clause-on : goal.returns-clause-on
-returns-clause-on g c = inr (refl, omega arith)
+returns-clause-on c = inr (refl, omega arith)

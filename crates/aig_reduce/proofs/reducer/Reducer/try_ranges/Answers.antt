@@ -5,10 +5,10 @@ use Rattle.aig_reduce.proofs.Tries.{reducing_frames}
 use Rattle.aig_reduce.proofs.reducer.Reducer.try_ranges.Goals as goal
 
 pub sizes-init : goal.sizes-init
-sizes-init g c = record { empty = c.requires.empty; reducing = λ raw given e h. h }
+sizes-init c = record { reducing = λ raw given e h. h }
 
 pub try_range-place-requires-clause-list : goal.try_range-place-requires-clause-list
-try_range-place-requires-clause-list g c =
+try_range-place-requires-clause-list c =
     let (raw, given, e, h) = c.requires.reducing in
     let old = c.args.self.now in
     let now = c.sizes.self in
@@ -20,16 +20,15 @@ try_range-place-requires-clause-list g c =
     )
 
 pub try_range-place-requires-clause-reducing : goal.try_range-place-requires-clause-reducing
-try_range-place-requires-clause-reducing g c =
+try_range-place-requires-clause-reducing c =
     let (raw, given, e, h) = c.requires.reducing in (raw, given, e, c.sizes.invariant.reducing raw given e h)
 
 pub sizes-preserved : goal.sizes-preserved
-sizes-preserved g c =
+sizes-preserved c =
     let new = c.try_range-place.new.self in
     let from = c.args.from in
     let reached = c.try_range-place.result in
     record {
-      empty = c.try_range-place.ensures.empty;
       reducing = λ raw given e h.
           let (t_is, p_is) = at_place from.list from.position reached.list reached.position c.try_range-place.ensures.on
           (λ before. false≢true (sym c.if-is_before.false ∙ c.is_before.ensures.1 before)) in
@@ -38,11 +37,11 @@ sizes-preserved g c =
     }
 
 pub returns-then-is_before-clause-reducing : goal.returns-then-is_before-clause-reducing
-returns-then-is_before-clause-reducing g c = λ raw given e h.
+returns-then-is_before-clause-reducing c = λ raw given e h.
     c.try_range-place.ensures.reducing raw given e (c.sizes.invariant.reducing raw given e h)
 
 pub returns-clause-reducing : goal.returns-clause-reducing
-returns-clause-reducing g c = c.sizes.invariant.reducing
+returns-clause-reducing c = c.sizes.invariant.reducing
 
 pub returns-clause-on : goal.returns-clause-on
-returns-clause-on g c = inr (refl, omega arith)
+returns-clause-on c = inr (refl, omega arith)

@@ -6,7 +6,7 @@ use Rattle.aig_reduce.proofs.Tries.{reducing_more}
 use Rattle.aig_reduce.proofs.reducer.Reducer.try_value.Goals as goal
 
 pub returns-then-place-eq0 : goal.returns-then-place-eq0
-returns-then-place-eq0 g c = λ raw given e h.
+returns-then-place-eq0 c = λ raw given e h.
     let old = c.args.self.now in
     let new = c.try_latch.new.self in
     let t = c.args.place.list in
@@ -20,7 +20,7 @@ returns-then-place-eq0 g c = λ raw given e h.
     (reducing_at raw given old.bench.pair old.property old.start.items 0 p t p first refl h))
 
 pub returns-else-place-eq0 : goal.returns-else-place-eq0
-returns-else-place-eq0 g c = λ raw given e h.
+returns-else-place-eq0 c = λ raw given e h.
     let old = c.args.self.now in
     let new = c.try_input.new.self in
     let t = c.args.place.list in

@@ -1,4 +1,4 @@
-use Rattle.std.proofs.Common.{◌≡◌, ◌+◌, ◌-◌, ℕ, subst, sym, arith}
+use Rattle.std.proofs.Common.{◌≡◌, ◌-◌, ℕ, suc, subst, sym, arith}
 use Rattle.aig_reduce.specs.state.Needed.{Breaks}
 use Rattle.aig_reduce.proofs.spread.Spread.breaks.Goals as goal
 
@@ -10,6 +10,15 @@ returns-then-place-eq0 g c = λ yes.
 
 pub returns : goal.returns
 returns g c = λ yes.
-    let same : c.args.place.list - 1 + 1 ≡ c.args.place.list = omega (arith, c.if-place-eq0.false) in
-    subst (λ (m : ℕ). Breaks c.args.bench.now.pair c.args.known.now.needed.cells.rows m c.args.place.position) same
-    (c.input_breaks.ensures yes)
+    let i = c.args.place.position in
+    let t = c.args.place.list - 1 in
+    let (v, w, n, at, follows) = c.reaches_needed.ensures yes in
+    let same : suc t ≡ c.args.place.list = omega (arith, c.if-place-eq0.false) in
+    subst (λ (m : ℕ). Breaks c.args.bench.now.pair c.args.known.now.needed.cells.rows m i) same (
+      t,
+      v,
+      w,
+      n,
+      at,
+      λ property. follows property (suc t) i (c.input_at-source.ensures property t),
+    )

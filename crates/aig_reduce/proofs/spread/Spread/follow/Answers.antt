@@ -5,16 +5,16 @@ use Rattle.aig_reduce.specs.state.Needed.{IsListed}
 use Rattle.aig_reduce.proofs.NeededLemmas.{met_follows, other_follows, rhs0_follows, rhs1_follows}
 use Rattle.aig_reduce.proofs.spread.Spread.follow.Goals as goal
 
-pub passes-requires-clause-range : goal.passes-requires-clause-range
-passes-requires-clause-range g c =
+pub passes-requires : goal.passes-requires
+passes-requires g c =
+    let raw = c.args.bench.now.pair.circuit in
     let (q, at) = c.requires.gate in
-    let fits = rhs1_in_range c.args.bench.now.pair.circuit c.width.ensures.circuit.sound q c.args.gate at in
-    omega (arith, fits)
-
-pub passes-requires-clause-defined : goal.passes-requires-clause-defined
-passes-requires-clause-defined g c =
-    let (q, at) = c.requires.gate in
-    rhs1_defined c.args.bench.now.pair.circuit c.width.ensures.circuit.sound q c.args.gate at
+    let fits = rhs1_in_range raw c.width.ensures.circuit.sound q c.args.gate at in
+    record {
+      frame = c.requires.frame;
+      range = omega (arith, fits);
+      defined = rhs1_defined raw c.width.ensures.circuit.sound q c.args.gate at;
+    }
 
 pub returns-then-passes : goal.returns-then-passes
 returns-then-passes g c = λ property m i all.
@@ -28,16 +28,16 @@ returns-then-passes g c = λ property m i all.
     (rhs0_follows p c.width.ensures.circuit c.width.ensures.rows property c.args.frame q m i x c.requires.frame at
     (all (variable x.rhs0) one) (other_follows p property c.args.frame m i (variable x.rhs1) x.rhs1 old all other)) all
 
-pub passes-requires-2-clause-range : goal.passes-requires-2-clause-range
-passes-requires-2-clause-range g c =
+pub passes-requires-2 : goal.passes-requires-2
+passes-requires-2 g c =
+    let raw = c.args.bench.now.pair.circuit in
     let (q, at) = c.requires.gate in
-    let fits = rhs0_in_range c.args.bench.now.pair.circuit c.width.ensures.circuit.sound q c.args.gate at in
-    omega (arith, fits)
-
-pub passes-requires-2-clause-defined : goal.passes-requires-2-clause-defined
-passes-requires-2-clause-defined g c =
-    let (q, at) = c.requires.gate in
-    rhs0_defined c.args.bench.now.pair.circuit c.width.ensures.circuit.sound q c.args.gate at
+    let fits = rhs0_in_range raw c.width.ensures.circuit.sound q c.args.gate at in
+    record {
+      frame = c.requires.frame;
+      range = omega (arith, fits);
+      defined = rhs0_defined raw c.width.ensures.circuit.sound q c.args.gate at;
+    }
 
 pub returns-then-passes-2 : goal.returns-then-passes-2
 returns-then-passes-2 g c = λ property m i all.

@@ -1,9 +1,7 @@
-use Rattle.std.proofs.Common.{ℕ}
-use Rattle.aig_reduce.specs.state.Needed.{AreFollowing}
+use Rattle.aig_reduce.specs.state.Needed.{ListsFollowing}
 use Rattle.aig_reduce.proofs.spread.Spread.follow_all.Given as goal
 
 abbrev pub invariant-loop-reader : goal.invariant-loop-reader
 invariant-loop-reader g l = record {
-  following : (property m i : ℕ) → AreFollowing l.bench.pair property l.frame m i l.initial.self.list.items
-      → AreFollowing l.bench.pair property l.frame m i l.self.list.items;
+  following : ListsFollowing l.bench.pair l.frame l.initial.self.list.items l.self.list.items;
 }

@@ -13,14 +13,14 @@ pub loop-number-init : goal.loop-number-init
 loop-number-init g c =
     let p = c.args.bench.now.pair in
     let n = c.args.self.now.naming in
-    let (file, of) = c.requires.of in
+    let (file, of) = c.requires.begins.of in
     record {
-      bench = c.requires.bench;
+      bench = c.requires.begins.bench;
       frame = refl;
       asked = refl;
-      none = c.requires.none;
+      none = c.requires.begins.none;
       same = record { inputs = refl; latches = refl };
-      rest = subst (λ (a : ℕ). AreNeighbours a n.latches.signals (length p.circuit.latches)) (sym c.requires.end)
+      rest = subst (λ (a : ℕ). AreNeighbours a n.latches.signals (length p.circuit.latches)) (sym c.requires.begins.end)
           (latch_neighbours file p n of);
       come = λ raw is literals frames h.
           ([], h, no_lines c.args.form raw (moment p (c.args.explanation.now.frame - 1)) c.args.self.now.text.items);
@@ -94,3 +94,13 @@ returns-clause-come g c = λ raw of literals frames h.
       c.descend.ensures.come p literals frames lines come was.bench,
       subst (λ (f : ℕ). Adds (AreLineTexts c.args.form raw (moment p f) lines) c.args.self.now.text.items c.loop-number.self.text.items) below adds,
     )
+
+pub returns-clause-keeps : goal.returns-clause-keeps
+returns-clause-keeps g c =
+    let was = c.loop-number.invariant in
+    record {
+      asked = c.descend.ensures.asked ∙ was.asked;
+      bench = c.descend.ensures.bench c.args.bench.now.pair was.bench;
+      none = was.none;
+      signals = was.same;
+    }

@@ -7,11 +7,11 @@ use Rattle.aig_why.proofs.lines.writer.Writer.push_frames.Goals as goal
 
 pub loop-form-init : goal.loop-form-init
 loop-form-init g c = record {
-  bench = c.requires.bench;
-  end = c.requires.end;
+  bench = c.requires.begins.bench;
+  end = c.requires.begins.end;
   last = c.requires.last;
   asked = refl;
-  none = c.requires.none;
+  none = c.requires.begins.none;
   same = record { inputs = refl; latches = refl };
   come = λ raw of literals h. (
     [],
@@ -24,10 +24,16 @@ loop-form-init g c = record {
 pub push_frame-requires-clause-some : goal.push_frame-requires-clause-some
 push_frame-requires-clause-some g c = omega (arith, c.goes_on.ensures.above c.loop-form-test.true)
 
-pub push_frame-requires-clause-of : goal.push_frame-requires-clause-of
-push_frame-requires-clause-of g c =
-    let (raw, of) = c.requires.of in
-    (raw, naming_with raw c.args.bench.now.pair c.args.self.now.naming c.loop-form.self.naming of c.loop-form.invariant.same)
+pub push_frame-requires-clause-begins : goal.push_frame-requires-clause-begins
+push_frame-requires-clause-begins g c =
+    let (raw, of) = c.requires.begins.of in
+    let was = c.loop-form.invariant in
+    record {
+      bench = was.bench;
+      end = was.end;
+      of = (raw, naming_with raw c.args.bench.now.pair c.args.self.now.naming c.loop-form.self.naming of was.same);
+      none = was.none;
+    }
 
 pub loop-form-preserved : goal.loop-form-preserved
 loop-form-preserved g c =
@@ -36,14 +42,14 @@ loop-form-preserved g c =
     let now = c.in_ok-push_frame.ensures in
     let above : c.args.last < c.loop-form.explanation.frame = c.goes_on.ensures.above c.loop-form-test.true in
     record {
-      bench = now.bench;
+      bench = now.keeps.bench;
       end = now.end;
       last = omega (arith, above, now.frame);
-      asked = now.asked ∙ was.asked;
-      none = now.none;
+      asked = now.keeps.asked ∙ was.asked;
+      none = now.keeps.none;
       same = record {
-        inputs = now.signals.inputs ∙ was.same.inputs;
-        latches = now.signals.latches ∙ was.same.latches;
+        inputs = now.keeps.signals.inputs ∙ was.same.inputs;
+        latches = now.keeps.signals.latches ∙ was.same.latches;
       };
       come = λ raw of literals h.
           let (frames, come, count, adds) = was.come raw of literals h in
@@ -62,3 +68,8 @@ returns-clause-come g c = c.loop-form.invariant.come
 
 pub returns-clause-ends : goal.returns-clause-ends
 returns-clause-ends g c = c.goes_on.ensures.ends (λ on. false≢true (sym c.loop-form-test.false ∙ on))
+
+pub returns-clause-keeps : goal.returns-clause-keeps
+returns-clause-keeps g c =
+    let was = c.loop-form.invariant in
+    record { asked = was.asked; bench = was.bench; none = was.none; signals = was.same }
