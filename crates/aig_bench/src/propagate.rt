@@ -4,7 +4,7 @@ ghost use Rattle.aig_parts.specs.Limits.{frame_limit};
 ghost use Rattle.aig_parts.specs.Literal.{variable};
 ghost use Rattle.aig_base.specs.Sections.{IsGate};
 ghost use Rattle.aig_base.specs.state.Marks.{IsMarked};
-ghost use Rattle.aig_bench.specs.state.Current.{IsCurrentBefore};
+ghost use Rattle.aig_bench.specs.state.Current.{IsNext};
 ghost use Rattle.aig_bench.specs.state.Renewed.{IsStaleFrom, IsStaleFromBit, RenewsAll};
 ghost use Rattle.aig_bench.specs.state.Steps.{frame_work, PassesOver, PutsLatches, PutsSource};
 
@@ -39,8 +39,7 @@ fn total(first: EditReport, second: EditReport) -> EditReport
 impl<G: Grid> Engine<G> {
     // Writes the value of a latch at a frame, by its reset or by the frame before.
     fn put_latch(&mut self, frame: u32, latch: Latch)
-        requires frame { frame < length self.old.pair.rows }
-        requires before { IsCurrentBefore self.old.pair frame self.old.cells }
+        requires next { IsNext self.old.pair frame self.old.cells }
         requires latch { (i : ℕ) × (slice_get self.old.pair.circuit.latches i ≡ Some latch) }
         ensures { PutsSource frame (variable latch.lit) self.old self.new }
     {
@@ -51,8 +50,7 @@ impl<G: Grid> Engine<G> {
 
     // Writes the values of the latches that are carried into a frame.
     fn carry(&mut self, frame: u32)
-        requires frame { frame < length self.old.pair.rows }
-        requires before { IsCurrentBefore self.old.pair frame self.old.cells }
+        requires { IsNext self.old.pair frame self.old.cells }
         ensures { PutsLatches frame self.old self.new }
     {
         while let Some(number) = self.pending.here.take() {
@@ -65,8 +63,7 @@ impl<G: Grid> Engine<G> {
     // and lists the latches that are carried into the next one. It answers how many gates were evaluated and the cells
     // of how many changed.
     fn pass(&mut self, frame: u32) -> EditReport
-        requires frame { frame < length self.old.pair.rows }
-        requires before { IsCurrentBefore self.old.pair frame self.old.cells }
+        requires { IsNext self.old.pair frame self.old.cells }
         ensures passes { PassesOver frame self.old self.new result }
         ensures evaluated { result.evaluated ≤ frame_work }
     {

@@ -11,8 +11,29 @@ use Rattle.aig_command.specs.Status.{status_of}
 use Rattle.aig_command.specs.declared.run_fault.RunFault.{RunFault}
 use Rattle.aig_command.specs.declared.run_fault.RunFault.TheVariants as run_faults
 use Rattle.aig_command.specs.declared.script_fault.ScriptFault.TheVariants as scripts
-use Rattle.aig_c.specs.Answers.{Exceeds, ExceedsReading, Refuses}
+use Rattle.aig_c.specs.Answers.{Exceeds, ExceedsReading, Fills, Refuses, Returns}
 use Rattle.aig_c.proofs.Silent.{Silent, of_reader}
+
+-- what a call returns, where its text, a rejected input and a long text mean something else
+pub reworded : {Done Said : List ℕ → Type 0} {Refused Rejects NoRoom Longer : Type 0} {status : ℕ} {room room_after : List ℕ}
+    {size size_after : ℕ} → ((text : List ℕ) → status ≡ 0 → Said text → Done text) → (Rejects → Refused) → (Longer → NoRoom)
+    → Fills Said Rejects Longer status room room_after size size_after
+    → Fills Done Refused NoRoom status room room_after size size_after
+reworded to_done to_refused to_no_room f = record {
+  done = λ zero_is. to_done _ zero_is (f.done zero_is);
+  refused = λ one_is. to_refused (f.refused one_is);
+  no_room = λ two_is. to_no_room (f.no_room two_is);
+  inside = f.inside;
+  kept = f.kept;
+  statuses = f.statuses;
+}
+
+-- what a call returns for what the command was told is what it returns for what it is asked
+pub asked : {Told : Type 0} {told is : Told} {status : ℕ} {room room_after : List ℕ} {size size_after : ℕ}
+    (Means : Told → Result (Unit {0}) RunFault → List ℕ → Type 0) → told ≡ is
+    → Returns (Means told) status room room_after size size_after → Returns (Means is) status room room_after size size_after
+asked {status = status} {room = room} {room_after = room_after} {size = size} {size_after = size_after} Means same =
+    subst (λ is. Returns (Means is) status room room_after size size_after) same
 
 abbrev status_of_answer : {T : Type 0} → Result T RunFault → ℕ
 status_of_answer (Ok _) = 0
@@ -75,9 +96,31 @@ exceeds_part {T = T} {written = written} {old = old} {new = new} Means silent fa
     by_answer (Ok value) means longer = (value, bytes, means, longer)
     by_answer (Err other) means longer = absurd (not_longer room bytes (silent other bytes means) longer)
 
+-- what a call returns after a command that went well
+pub after_ok : {X : Type 0} {written : X → Option (List ℕ)} {failures : X → ℕ} {old new : X} {status : ℕ} {room room_after : List ℕ}
+    {size size_after : ℕ} (Means : Result (Unit {0}) RunFault → List ℕ → Type 0) (bytes got : List ℕ)
+    → written old ≡ Some [] → written new ≡ Some bytes → got ≡ bytes
+    → CommandEnds (flow written failures old new) run_faults.Output Means (Ok tt)
+    → Fills (λ text. text ≡ got) ⊥ (length room < length got) status room room_after size size_after
+    → Returns Means status room room_after size size_after
+after_ok {room = room} Means bytes got empty is copied ends =
+    reworded (λ text zero_is same. done Means bytes text empty is (same ∙ copied) ends) (λ no. absurd no)
+    (λ longer. exceeds Means bytes got (length room) empty is copied longer ends)
+
+-- and after one that ended with a fault
+pub after_err : {X : Type 0} {written : X → Option (List ℕ)} {failures : X → ℕ} {old new : X} {status : ℕ} {room room_after : List ℕ}
+    {size size_after : ℕ} (Means : Result (Unit {0}) RunFault → List ℕ → Type 0) → Silent Means
+    → (fault : RunFault) (part got : List ℕ) → written old ≡ Some [] → written new ≡ Some part → got ≡ part
+    → CommandEnds (flow written failures old new) run_faults.Output Means (Err fault)
+    → Fills (λ text. ⊥) (status_of fault ≡ 1) (length room < length got) status room room_after size size_after
+    → Returns Means status room room_after size size_after
+after_err {room = room} Means silent fault part got empty is copied ends =
+    reworded (λ text zero_is no. absurd no) (λ one_is. refused Means fault one_is ends)
+    (λ longer. exceeds_part Means silent fault part got (length room) empty is copied longer ends)
+
 -- ---- a command that reads the circuit, from a reader that holds a file
 
-pub done_reading : {X Y T : Type 0} {written : X → Option (List ℕ)} {failures : X → ℕ} {old new : X}
+done_reading : {X Y T : Type 0} {written : X → Option (List ℕ)} {failures : X → ℕ} {old new : X}
     {circuit : Flow Y} {value : T} (Means : Raw → Result T RunFault → List ℕ → Type 0) (file bytes got : List ℕ)
     → circuit.bytes circuit.old ≡ Some file → written old ≡ Some [] → written new ≡ Some bytes → got ≡ bytes
     → CommandEnds (flow written failures old new) run_faults.Output (OfReader circuit Means) (Ok value)
@@ -85,7 +128,7 @@ pub done_reading : {X Y T : Type 0} {written : X → Option (List ℕ)} {failure
 done_reading {circuit = circuit} Means file bytes got holds empty is copied ends =
     (done (OfReader circuit Means) bytes got empty is copied ends).of_file file holds (λ same. let no : ⊥ = cc in no)
 
-pub refused_reading : {X Y T : Type 0} {written : X → Option (List ℕ)} {failures : X → ℕ} {old new : X}
+refused_reading : {X Y T : Type 0} {written : X → Option (List ℕ)} {failures : X → ℕ} {old new : X}
     {circuit : Flow Y} (Means : Raw → Result T RunFault → List ℕ → Type 0) (file : List ℕ) (fault : RunFault)
     → circuit.bytes circuit.old ≡ Some file → status_of fault ≡ 1
     → CommandEnds (flow written failures old new) run_faults.Output (OfReader circuit Means) (Err fault)
@@ -106,7 +149,7 @@ well_read : {Y T : Type 0} {circuit : Flow Y} (Means : Raw → Result T RunFault
 well_read Means file room holds (value, bytes, means, longer) =
     (value, bytes, means.of_file file holds (λ same. let no : ⊥ = cc in no), longer)
 
-pub exceeds_reading : {X Y T : Type 0} {written : X → Option (List ℕ)} {failures : X → ℕ} {old new : X}
+exceeds_reading : {X Y T : Type 0} {written : X → Option (List ℕ)} {failures : X → ℕ} {old new : X}
     {circuit : Flow Y} {value : T} (Means : Raw → Result T RunFault → List ℕ → Type 0) (file bytes got : List ℕ) (room : ℕ)
     → circuit.bytes circuit.old ≡ Some file → written old ≡ Some [] → written new ≡ Some bytes → got ≡ bytes
     → room < length got → CommandEnds (flow written failures old new) run_faults.Output (OfReader circuit Means) (Ok value)
@@ -114,7 +157,7 @@ pub exceeds_reading : {X Y T : Type 0} {written : X → Option (List ℕ)} {fail
 exceeds_reading {circuit = circuit} Means file bytes got room holds empty is copied longer ends =
     well_read Means file room holds (exceeds (OfReader circuit Means) bytes got room empty is copied longer ends)
 
-pub exceeds_part_reading : {X Y T : Type 0} {written : X → Option (List ℕ)} {failures : X → ℕ} {old new : X}
+exceeds_part_reading : {X Y T : Type 0} {written : X → Option (List ℕ)} {failures : X → ℕ} {old new : X}
     {circuit : Flow Y} (Means : Raw → Result T RunFault → List ℕ → Type 0) → ((raw : Raw) → Silent (Means raw))
     → (file : List ℕ) (fault : RunFault) (part got : List ℕ) (room : ℕ)
     → circuit.bytes circuit.old ≡ Some file → written old ≡ Some [] → written new ≡ Some part → got ≡ part
@@ -123,6 +166,28 @@ pub exceeds_part_reading : {X Y T : Type 0} {written : X → Option (List ℕ)} 
 exceeds_part_reading {circuit = circuit} Means silent file fault part got room holds empty is copied longer ends =
     well_read Means file room holds
     (exceeds_part (OfReader circuit Means) (of_reader Means silent circuit) fault part got room empty is copied longer ends)
+
+pub after_ok_reading : {X Y : Type 0} {written : X → Option (List ℕ)} {failures : X → ℕ} {old new : X} {circuit : Flow Y}
+    {status : ℕ} {room room_after : List ℕ} {size size_after : ℕ} (Means : Raw → Result (Unit {0}) RunFault → List ℕ → Type 0)
+    (file bytes got : List ℕ) → circuit.bytes circuit.old ≡ Some file
+    → written old ≡ Some [] → written new ≡ Some bytes → got ≡ bytes
+    → CommandEnds (flow written failures old new) run_faults.Output (OfReader circuit Means) (Ok tt)
+    → Fills (λ text. text ≡ got) ⊥ (length room < length got) status room room_after size size_after
+    → Returns (OfFile file Means) status room room_after size size_after
+after_ok_reading {room = room} Means file bytes got holds empty is copied ends =
+    reworded (λ text zero_is same. done_reading Means file bytes text holds empty is (same ∙ copied) ends) (λ no. absurd no)
+    (λ longer. exceeds_reading Means file bytes got (length room) holds empty is copied longer ends)
+
+pub after_err_reading : {X Y : Type 0} {written : X → Option (List ℕ)} {failures : X → ℕ} {old new : X} {circuit : Flow Y}
+    {status : ℕ} {room room_after : List ℕ} {size size_after : ℕ} (Means : Raw → Result (Unit {0}) RunFault → List ℕ → Type 0)
+    → ((raw : Raw) → Silent (Means raw)) → (file : List ℕ) (fault : RunFault) (part got : List ℕ)
+    → circuit.bytes circuit.old ≡ Some file → written old ≡ Some [] → written new ≡ Some part → got ≡ part
+    → CommandEnds (flow written failures old new) run_faults.Output (OfReader circuit Means) (Err fault)
+    → Fills (λ text. ⊥) (status_of fault ≡ 1) (length room < length got) status room room_after size size_after
+    → Returns (OfFile file Means) status room room_after size size_after
+after_err_reading {room = room} Means silent file fault part got holds empty is copied ends =
+    reworded (λ text zero_is no. absurd no) (λ one_is. refused_reading Means file fault holds one_is ends)
+    (λ longer. exceeds_part_reading Means silent file fault part got (length room) holds empty is copied longer ends)
 
 -- ---- a command that reads a text meanwhile, from a reader that holds it
 

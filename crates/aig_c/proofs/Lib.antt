@@ -1,6 +1,5 @@
 pub mod EditLemmas
 pub mod Endings
 pub mod Flags
-pub mod Holding
 pub mod Seats
 pub mod Silent

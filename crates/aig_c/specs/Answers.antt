@@ -1,7 +1,7 @@
 -- What the arguments of a call for C ask for, and what its status says.
 -- Examples: `step, 4, 1` is the query of the induction step of four frames and property 1; `NotBad` is not; `toaig` of
 -- `aag 0 0 0 0 1/`; `refute` for 1 frame writes `unreachable within 1/`, more than 9 bytes.
-use Rattle.std.specs.Prelude.{◌≡◌, ◌<◌, ℕ, List, Bool, true, false, Result, Ok, Err, length}
+use Rattle.std.specs.Prelude.{◌≡◌, ◌<◌, ◌≤◌, ℕ, List, Bool, true, false, Result, Ok, Err, length, take}
 use Rattle.aig_bytes.specs.Bytes.{IsBeginning}
 use Rattle.aig_cnf.specs.Query.{step, within}
 use Rattle.aig_cnf.specs.declared.query.Query.{Query}
@@ -40,3 +40,24 @@ abbrev pub ExceedsReading : {T : Type 0} → ℕ → List ℕ → (Text → Resu
 ExceedsReading {T = T} room script Means =
     (text : Text) × IsBeginning text.bytes script
     × ((answer : Result T RunFault) × (bytes : List ℕ) × Means text answer bytes × (room < length bytes))
+
+-- What a call that writes to a room of its caller says of this room and of its length, by the status that it returns.
+-- Example: after status 2 both are as they were.
+pub record Fills (Done : List ℕ → Type 0) (Refused NoRoom : Type 0) (status : ℕ) (old new : List ℕ)
+    (old_length new_length : ℕ) : Type 0 where
+  pub done : status ≡ 0 → Done (take new_length new)
+  pub refused : status ≡ 1 → Refused
+  pub no_room : status ≡ 2 → NoRoom
+  pub inside : status ≤ 1 → new_length ≤ length old
+  pub kept : 1 < status → (new ≡ old) × (new_length ≡ old_length)
+  pub statuses : status ≤ 3
+
+-- what a call for a command with the meaning `Means` returns
+abbrev pub Returns : (Result (Unit {0}) RunFault → List ℕ → Type 0) → ℕ → List ℕ → List ℕ → ℕ → ℕ → Type 0
+Returns Means status old new = Fills (Means (Ok tt)) (Refuses Means) (Exceeds (length old) Means) status old new
+
+-- what a call for a command with a verdict returns, if it says whether this is `confirmed`
+abbrev pub ReturnsVerdict : (Result Verdict RunFault → List ℕ → Type 0) → Bool → ℕ → List ℕ → List ℕ → ℕ → ℕ → Type 0
+ReturnsVerdict Means confirmed status old new =
+    Fills (λ text. (verdict : Verdict) × (confirmed ≡ is_confirmed verdict) × Means (Ok verdict) text) (Refuses Means)
+    (Exceeds (length old) Means) status old new

@@ -1,7 +1,7 @@
 -- What a call on a bench that C holds answers. There may be no bench.
 -- Example: 6 at frame 3 of a bench with one frame, and 255 after `aig_live_close`; the edits `set 0 0 1` and `set 9 0 1`
 -- of that bench: one is done, and then 6.
-use Rattle.std.specs.Prelude.{◌≡◌, ◌≢◌, ◌≤◌, ℕ, ◌+◌, List, length, min, slice_get}
+use Rattle.std.specs.Prelude.{◌≡◌, ◌≢◌, ◌<◌, ◌≤◌, ◌↔◌, ◌⊎◌, ℕ, ◌+◌, List, length, min, slice_get}
 use Rattle.std.specs.Prelude.{Option, Some, None, Bool, true, false, Result, Ok, Err}
 use Prim.Native.Nat.{zero, suc}
 use Rattle.std.specs.Global.{Global}
@@ -18,6 +18,7 @@ use Rattle.aig_command.specs.declared.run_fault.RunFault.{RunFault}
 use Rattle.aig_command.specs.Status.{status_of}
 use Rattle.aig_script.specs.BenchFiles.{AreBenchFiles, RefusesFiles}
 use Rattle.aig_script.specs.Replies.{AnswersEdit}
+use Rattle.aig_c.specs.declared.live.change.AigReport.{AigReport}
 use Rattle.aig_c.specs.declared.live.many.AigEdit.{AigEdit}
 use Rattle.aig_c.specs.declared.live.questions.AigCell.{AigCell}
 use Rattle.aig_c.specs.declared.live.questions.AigSizes.{AigSizes}
@@ -79,12 +80,22 @@ LiveEdits (Some old) e status evaluated changed new =
     (state : BenchState) × (new ≡ Some state)
     × ((answer : Result EditReport EditFault) × Tells status evaluated changed answer × Does old e answer state)
 
--- ---- many edits
-
 -- an edit that gives an input or a latch a value, if there is such a value
 abbrev pub valued : Option Tern → (Tern → Edit) → Result Edit ℕ
 valued (Some value) e = Ok (e value)
 valued None e = Err 253
+
+-- what a call for an edit returns, or for arguments that ask for none; what is refused leaves bench and report as
+-- they were
+pub record LiveEdit (old : Option BenchState) (asked : Result Edit ℕ) (status : ℕ) (report report_after : AigReport)
+    (new : Option BenchState) : Type 0 where
+  pub edits : (e : Edit) → asked ≡ Ok e → LiveEdits old e status report_after.evaluated report_after.changed new
+  pub value : (number : ℕ) → asked ≡ Err number → is_open old ≡ true → status ≡ number
+  pub closed : (status ≡ 255) ↔ (is_open old ≡ false)
+  pub kept : status ≢ 0 → new ≡ old
+  pub report_kept : status ≢ 0 → report_after ≡ report
+
+-- ---- many edits
 
 -- the edit of a kind, or 252 where there is no such kind
 abbrev pub edit_of_kind : ℕ → ℕ → ℕ → ℕ → Result Edit ℕ
@@ -138,6 +149,11 @@ LiveRuns (Some old) entries status done evaluated changed new =
 
 -- ---- questions
 
+-- what each question to a bench that C holds says: it leaves the bench as it was, and the status is 255 without one
+pub record Asks (status : ℕ) (old new : Option BenchState) : Type 0 where
+  pub closed : (status ≡ 255) ↔ (is_open old ≡ false)
+  pub kept : new ≡ old
+
 abbrev pub TellsValue : ℕ → ℕ → Result Tern EditFault → Type 0
 TellsValue status value (Ok w) = (status ≡ 0) × (value ≡ number_of w)
 TellsValue status value (Err fault) = status ≡ edit_fault_number fault
@@ -171,6 +187,14 @@ HasRow t literals values state =
 -- from a place on all values are as they were
 abbrev pub IsKeptFrom : ℕ → List ℕ → List ℕ → Type 0
 IsKeptFrom n old new = (i : ℕ) → n ≤ i → slice_get new i ≡ slice_get old i
+
+-- what a question for so many values says of the places for them: where these are too few, the status is 254
+pub record AsksMany (status count : ℕ) (old new : Option BenchState) (values values_after : List ℕ) : Type 0 where
+  pub asks : Asks status old new
+  pub short : is_open old ≡ true → (status ≡ 254) ↔ (length values < count)
+  pub room_kept : status ≢ 0 → values_after ≡ values
+  pub behind : IsKeptFrom count values values_after
+  pub statuses : (status ≡ 0) ⊎ (254 ≤ status)
 
 -- the sizes of a bench
 pub record HasSizes (sizes : AigSizes) (state : BenchState) : Type 0 where

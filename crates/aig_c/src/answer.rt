@@ -1,7 +1,7 @@
 //! What a call returns: its status, and a text in the caller's room.
-ghost use Rattle.std.specs.Prelude.{◌≡◌, ◌≢◌, ◌<◌, ◌≤◌, [], IfOk, length, take};
+ghost use Rattle.std.specs.Prelude.{◌≡◌, ◌<◌, ◌≤◌, [], IfOk, length, take};
 ghost use Rattle.aig_command.specs.Status.{status_of};
-ghost use Rattle.aig_c.specs.Answers.{format_of, is_confirmed};
+ghost use Rattle.aig_c.specs.Answers.{Fills, format_of, is_confirmed};
 
 use aig_base::{MemWriter, Memory};
 use aig_command::RunFault;
@@ -39,11 +39,8 @@ fn copy(bytes: &[u8], room: &mut [u8]) -> usize
 
 /// Writes a text to the front of a room, and its length to `written`, if the room is large enough.
 pub(crate) fn answer(bytes: &[u8], room: &mut [u8], written: &mut usize) -> u8
-    ensures done { result ≡ 0 → take written.new room.new ≡ bytes.now }
-    ensures no_room { result ≡ 2 → length room.old < length bytes.now }
-    ensures inside { result ≤ 1 → written.new ≤ length room.old }
-    ensures kept { 1 < result → (room.new ≡ room.old) × (written.new ≡ written.old) }
-    ensures statuses { (result ≢ 1) × (result ≤ 3) }
+    ensures { Fills (λ text. text ≡ bytes.now) ⊥ (length room.old < length bytes.now)
+        result room.old room.new written.old written.new }
 {
     if bytes.len() > room.len() {
         return NO_ROOM;
@@ -76,11 +73,8 @@ pub(crate) fn refuse(
     room: &mut [u8],
     written: &mut usize,
 ) -> u8
-    ensures refused { result ≡ 1 → status_of fault ≡ 1 }
-    ensures no_room { result ≡ 2 → length room.old < length part.now }
-    ensures inside { result ≤ 1 → written.new ≤ length room.old }
-    ensures kept { 1 < result → (room.new ≡ room.old) × (written.new ≡ written.old) }
-    ensures statuses { (result ≢ 0) × (result ≤ 3) }
+    ensures { Fills (λ text. ⊥) (status_of fault ≡ 1) (length room.old < length part.now)
+        result room.old room.new written.old written.new }
 {
     if part.len() > room.len() {
         return NO_ROOM;

@@ -1,5 +1,5 @@
 //! Circuits: conversion, facts and names; cut, unrolled and strengthened circuits.
-ghost use Rattle.std.specs.Prelude.{◌≡◌, ◌<◌, ◌≤◌, Ok, Some, length, take};
+ghost use Rattle.std.specs.Prelude.{Some};
 ghost use Rattle.aig_command.specs.Command.{OfFile};
 ghost use Rattle.aig_commands.specs.Certified.{OfCertified};
 ghost use Rattle.aig_commands.specs.Cut.{WritesCut};
@@ -8,7 +8,7 @@ ghost use Rattle.aig_commands.specs.Names.{ListsNames};
 ghost use Rattle.aig_commands.specs.Toaig.{Converts};
 ghost use Rattle.aig_commands.specs.Unroll.{Unrolls};
 ghost use Rattle.aig_commands.specs.declared.certified.Purpose.TheVariants as purposes;
-ghost use Rattle.aig_c.specs.Answers.{Exceeds, Refuses, format_of};
+ghost use Rattle.aig_c.specs.Answers.{Returns, format_of};
 
 use crate::answer::{NO_MEMORY, answer, format, refuse, writer};
 use aig_base::MemReader;
@@ -28,12 +28,8 @@ pub extern "C" fn aig_toaig(
     room: &mut [u8],
     written: &mut usize,
 ) -> u8
-    ensures done { result ≡ 0 → OfFile circuit.now (Converts (format_of binary)) (Ok tt) (take written.new room.new) }
-    ensures refused { result ≡ 1 → Refuses (OfFile circuit.now (Converts (format_of binary))) }
-    ensures no_room { result ≡ 2 → Exceeds (length room.old) (OfFile circuit.now (Converts (format_of binary))) }
-    ensures inside { result ≤ 1 → written.new ≤ length room.old }
-    ensures kept { 1 < result → (room.new ≡ room.old) × (written.new ≡ written.old) }
-    ensures statuses { result ≤ 3 }
+    ensures returns { Returns (OfFile circuit.now (Converts (format_of binary)))
+        result room.old room.new written.old written.new }
 {
     let Ok(mut out) = writer(alloc, room) else {
         return NO_MEMORY;
@@ -52,12 +48,8 @@ pub extern "C" fn aig_info(
     room: &mut [u8],
     written: &mut usize,
 ) -> u8
-    ensures done { result ≡ 0 → OfFile circuit.now (ListsFacts (Some circuit.now)) (Ok tt) (take written.new room.new) }
-    ensures refused { result ≡ 1 → Refuses (OfFile circuit.now (ListsFacts (Some circuit.now))) }
-    ensures no_room { result ≡ 2 → Exceeds (length room.old) (OfFile circuit.now (ListsFacts (Some circuit.now))) }
-    ensures inside { result ≤ 1 → written.new ≤ length room.old }
-    ensures kept { 1 < result → (room.new ≡ room.old) × (written.new ≡ written.old) }
-    ensures statuses { result ≤ 3 }
+    ensures returns { Returns (OfFile circuit.now (ListsFacts (Some circuit.now)))
+        result room.old room.new written.old written.new }
 {
     let Ok(mut out) = writer(alloc, room) else {
         return NO_MEMORY;
@@ -77,12 +69,7 @@ pub extern "C" fn aig_names(
     room: &mut [u8],
     written: &mut usize,
 ) -> u8
-    ensures done { result ≡ 0 → OfFile circuit.now ListsNames (Ok tt) (take written.new room.new) }
-    ensures refused { result ≡ 1 → Refuses (OfFile circuit.now ListsNames) }
-    ensures no_room { result ≡ 2 → Exceeds (length room.old) (OfFile circuit.now ListsNames) }
-    ensures inside { result ≤ 1 → written.new ≤ length room.old }
-    ensures kept { 1 < result → (room.new ≡ room.old) × (written.new ≡ written.old) }
-    ensures statuses { result ≤ 3 }
+    ensures returns { Returns (OfFile circuit.now ListsNames) result room.old room.new written.old written.new }
 {
     let Ok(mut out) = writer(alloc, room) else {
         return NO_MEMORY;
@@ -104,14 +91,8 @@ pub extern "C" fn aig_cut(
     room: &mut [u8],
     written: &mut usize,
 ) -> u8
-    ensures done { result ≡ 0 → OfFile circuit.now (WritesCut cuts.now (format_of binary)) (Ok tt)
-        (take written.new room.new) }
-    ensures refused { result ≡ 1 → Refuses (OfFile circuit.now (WritesCut cuts.now (format_of binary))) }
-    ensures no_room { result ≡ 2 → Exceeds (length room.old)
-        (OfFile circuit.now (WritesCut cuts.now (format_of binary))) }
-    ensures inside { result ≤ 1 → written.new ≤ length room.old }
-    ensures kept { 1 < result → (room.new ≡ room.old) × (written.new ≡ written.old) }
-    ensures statuses { result ≤ 3 }
+    ensures returns { Returns (OfFile circuit.now (WritesCut cuts.now (format_of binary)))
+        result room.old room.new written.old written.new }
 {
     let Ok(mut out) = writer(alloc, room) else {
         return NO_MEMORY;
@@ -133,13 +114,8 @@ pub extern "C" fn aig_unroll(
     room: &mut [u8],
     written: &mut usize,
 ) -> u8
-    ensures done { result ≡ 0 → OfFile circuit.now (Unrolls frames (format_of binary)) (Ok tt)
-        (take written.new room.new) }
-    ensures refused { result ≡ 1 → Refuses (OfFile circuit.now (Unrolls frames (format_of binary))) }
-    ensures no_room { result ≡ 2 → Exceeds (length room.old) (OfFile circuit.now (Unrolls frames (format_of binary))) }
-    ensures inside { result ≤ 1 → written.new ≤ length room.old }
-    ensures kept { 1 < result → (room.new ≡ room.old) × (written.new ≡ written.old) }
-    ensures statuses { result ≤ 3 }
+    ensures returns { Returns (OfFile circuit.now (Unrolls frames (format_of binary)))
+        result room.old room.new written.old written.new }
 {
     let Ok(mut out) = writer(alloc, room) else {
         return NO_MEMORY;
@@ -161,15 +137,8 @@ pub extern "C" fn aig_strengthen(
     room: &mut [u8],
     written: &mut usize,
 ) -> u8
-    ensures done { result ≡ 0 → OfCertified purposes.Circuit circuit.now property certificate.now
-        (Converts (format_of binary)) (Ok tt) (take written.new room.new) }
-    ensures refused { result ≡ 1 → Refuses (OfCertified purposes.Circuit circuit.now property certificate.now
-        (Converts (format_of binary))) }
-    ensures no_room { result ≡ 2 → Exceeds (length room.old)
-        (OfCertified purposes.Circuit circuit.now property certificate.now (Converts (format_of binary))) }
-    ensures inside { result ≤ 1 → written.new ≤ length room.old }
-    ensures kept { 1 < result → (room.new ≡ room.old) × (written.new ≡ written.old) }
-    ensures statuses { result ≤ 3 }
+    ensures returns { Returns (OfCertified purposes.Circuit circuit.now property certificate.now
+        (Converts (format_of binary))) result room.old room.new written.old written.new }
 {
     let Ok(mut out) = writer(alloc, room) else {
         return NO_MEMORY;

@@ -1,5 +1,4 @@
 //! Formulas for SAT solvers, and the witnesses that their models name.
-ghost use Rattle.std.specs.Prelude.{◌≡◌, ◌<◌, ◌≤◌, Ok, length, take};
 ghost use Rattle.aig_cnf.specs.Query.{induction};
 ghost use Rattle.aig_command.specs.Command.{OfFile};
 ghost use Rattle.aig_commands.specs.Alive.{WritesAlive};
@@ -8,7 +7,7 @@ ghost use Rattle.aig_commands.specs.Cnf.{WritesCertified, WritesFormula};
 ghost use Rattle.aig_commands.specs.ModelWitness.{WritesModel};
 ghost use Rattle.aig_commands.specs.Questions.{NamesQuestion, WritesQuestion, asked_of};
 ghost use Rattle.aig_commands.specs.declared.certified.Purpose.TheVariants as purposes;
-ghost use Rattle.aig_c.specs.Answers.{Exceeds, Refuses, query_of};
+ghost use Rattle.aig_c.specs.Answers.{Returns, query_of};
 
 use crate::answer::{NO_MEMORY, answer, refuse, writer};
 use crate::asked::{Asked, question};
@@ -19,14 +18,8 @@ use std::alloc::Global;
 
 /// Writes the formula of a question.
 fn write_formula(alloc: Global, asked: Asked<'_>, room: &mut [u8], written: &mut usize) -> u8
-    ensures done { result ≡ 0 →
-        WritesQuestion (asked_of asked.entry.question) asked.entry.circuit.now (Ok tt) (take written.new room.new) }
-    ensures refused { result ≡ 1 → Refuses (WritesQuestion (asked_of asked.entry.question) asked.entry.circuit.now) }
-    ensures no_room { result ≡ 2 → Exceeds (length room.old)
-        (WritesQuestion (asked_of asked.entry.question) asked.entry.circuit.now) }
-    ensures inside { result ≤ 1 → written.new ≤ length room.old }
-    ensures kept { 1 < result → (room.new ≡ room.old) × (written.new ≡ written.old) }
-    ensures statuses { result ≤ 3 }
+    ensures returns { Returns (WritesQuestion (asked_of asked.entry.question) asked.entry.circuit.now)
+        result room.old room.new written.old written.new }
 {
     let Ok(mut out) = writer(alloc, room) else {
         return NO_MEMORY;
@@ -45,15 +38,8 @@ fn write_named(
     room: &mut [u8],
     written: &mut usize,
 ) -> u8
-    ensures done { result ≡ 0 → NamesQuestion (asked_of asked.entry.question) model.now asked.entry.circuit.now
-        (Ok tt) (take written.new room.new) }
-    ensures refused { result ≡ 1 →
-        Refuses (NamesQuestion (asked_of asked.entry.question) model.now asked.entry.circuit.now) }
-    ensures no_room { result ≡ 2 → Exceeds (length room.old)
-        (NamesQuestion (asked_of asked.entry.question) model.now asked.entry.circuit.now) }
-    ensures inside { result ≤ 1 → written.new ≤ length room.old }
-    ensures kept { 1 < result → (room.new ≡ room.old) × (written.new ≡ written.old) }
-    ensures statuses { result ≤ 3 }
+    ensures returns { Returns (NamesQuestion (asked_of asked.entry.question) model.now asked.entry.circuit.now)
+        result room.old room.new written.old written.new }
 {
     let Ok(mut out) = writer(alloc, room) else {
         return NO_MEMORY;
@@ -75,14 +61,8 @@ pub extern "C" fn aig_cnf(
     room: &mut [u8],
     written: &mut usize,
 ) -> u8
-    ensures done { result ≡ 0 →
-        OfFile circuit.now (WritesFormula (query_of step frames property)) (Ok tt) (take written.new room.new) }
-    ensures refused { result ≡ 1 → Refuses (OfFile circuit.now (WritesFormula (query_of step frames property))) }
-    ensures no_room { result ≡ 2 →
-        Exceeds (length room.old) (OfFile circuit.now (WritesFormula (query_of step frames property))) }
-    ensures inside { result ≤ 1 → written.new ≤ length room.old }
-    ensures kept { 1 < result → (room.new ≡ room.old) × (written.new ≡ written.old) }
-    ensures statuses { result ≤ 3 }
+    ensures returns { Returns (OfFile circuit.now (WritesFormula (query_of step frames property)))
+        result room.old room.new written.old written.new }
 {
     let question = question(step, frames, property);
     write_formula(alloc, Asked { circuit, question }, room, written)
@@ -97,12 +77,8 @@ pub extern "C" fn aig_cnf_alive(
     room: &mut [u8],
     written: &mut usize,
 ) -> u8
-    ensures done { result ≡ 0 → OfFile circuit.now (WritesAlive frames) (Ok tt) (take written.new room.new) }
-    ensures refused { result ≡ 1 → Refuses (OfFile circuit.now (WritesAlive frames)) }
-    ensures no_room { result ≡ 2 → Exceeds (length room.old) (OfFile circuit.now (WritesAlive frames)) }
-    ensures inside { result ≤ 1 → written.new ≤ length room.old }
-    ensures kept { 1 < result → (room.new ≡ room.old) × (written.new ≡ written.old) }
-    ensures statuses { result ≤ 3 }
+    ensures returns { Returns (OfFile circuit.now (WritesAlive frames))
+        result room.old room.new written.old written.new }
 {
     let question = Question::Alive { frames };
     write_formula(alloc, Asked { circuit, question }, room, written)
@@ -118,15 +94,8 @@ pub extern "C" fn aig_cnf_certified(
     room: &mut [u8],
     written: &mut usize,
 ) -> u8
-    ensures done { result ≡ 0 → OfCertified purposes.Formula circuit.now property certificate.now
-        (WritesCertified property) (Ok tt) (take written.new room.new) }
-    ensures refused { result ≡ 1 → Refuses (OfCertified purposes.Formula circuit.now property certificate.now
-        (WritesCertified property)) }
-    ensures no_room { result ≡ 2 → Exceeds (length room.old)
-        (OfCertified purposes.Formula circuit.now property certificate.now (WritesCertified property)) }
-    ensures inside { result ≤ 1 → written.new ≤ length room.old }
-    ensures kept { 1 < result → (room.new ≡ room.old) × (written.new ≡ written.old) }
-    ensures statuses { result ≤ 3 }
+    ensures returns { Returns (OfCertified purposes.Formula circuit.now property certificate.now
+        (WritesCertified property)) result room.old room.new written.old written.new }
 {
     let question = Question::Certified {
         certificate,
@@ -147,15 +116,8 @@ pub extern "C" fn aig_model_witness(
     room: &mut [u8],
     written: &mut usize,
 ) -> u8
-    ensures done { result ≡ 0 →
-        OfFile circuit.now (WritesModel (query_of step frames property) model.now) (Ok tt) (take written.new room.new) }
-    ensures refused { result ≡ 1 →
-        Refuses (OfFile circuit.now (WritesModel (query_of step frames property) model.now)) }
-    ensures no_room { result ≡ 2 →
-        Exceeds (length room.old) (OfFile circuit.now (WritesModel (query_of step frames property) model.now)) }
-    ensures inside { result ≤ 1 → written.new ≤ length room.old }
-    ensures kept { 1 < result → (room.new ≡ room.old) × (written.new ≡ written.old) }
-    ensures statuses { result ≤ 3 }
+    ensures returns { Returns (OfFile circuit.now (WritesModel (query_of step frames property) model.now))
+        result room.old room.new written.old written.new }
 {
     let asked = Asked {
         circuit,
@@ -176,15 +138,8 @@ pub extern "C" fn aig_model_witness_certified(
     room: &mut [u8],
     written: &mut usize,
 ) -> u8
-    ensures done { result ≡ 0 → OfCertified purposes.Formula circuit.now property certificate.now
-        (WritesModel (induction 1 0) model.now) (Ok tt) (take written.new room.new) }
-    ensures refused { result ≡ 1 → Refuses (OfCertified purposes.Formula circuit.now property certificate.now
-        (WritesModel (induction 1 0) model.now)) }
-    ensures no_room { result ≡ 2 → Exceeds (length room.old)
-        (OfCertified purposes.Formula circuit.now property certificate.now (WritesModel (induction 1 0) model.now)) }
-    ensures inside { result ≤ 1 → written.new ≤ length room.old }
-    ensures kept { 1 < result → (room.new ≡ room.old) × (written.new ≡ written.old) }
-    ensures statuses { result ≤ 3 }
+    ensures returns { Returns (OfCertified purposes.Formula circuit.now property certificate.now
+        (WritesModel (induction 1 0) model.now)) result room.old room.new written.old written.new }
 {
     let question = Question::Certified {
         certificate,

@@ -1,5 +1,5 @@
 //! Refutations: what a SAT solver's proofs say of a circuit.
-ghost use Rattle.std.specs.Prelude.{◌≡◌, ◌<◌, ◌≤◌, Ok, length, take};
+ghost use Rattle.std.specs.Prelude.{◌≡◌};
 ghost use Rattle.aig_command.specs.Command.{OfFile};
 ghost use Rattle.aig_commands.specs.Alive.{IsFileWithoutRun, RefutesAlive};
 ghost use Rattle.aig_commands.specs.Certified.{OfCertified};
@@ -7,7 +7,7 @@ ghost use Rattle.aig_commands.specs.Questions.{RefutesQuestion, Says, asked_of};
 ghost use Rattle.aig_commands.specs.Refute.{IsFileNeverReached, IsFileUnreachable};
 ghost use Rattle.aig_commands.specs.Refute.{Refutes, RefutesInduction, RefutesStep};
 ghost use Rattle.aig_commands.specs.declared.certified.Purpose.TheVariants as purposes;
-ghost use Rattle.aig_c.specs.Answers.{Exceeds, Refuses};
+ghost use Rattle.aig_c.specs.Answers.{Returns};
 
 use crate::answer::{NO_MEMORY, answer, refuse, writer};
 use crate::asked::Asked;
@@ -25,14 +25,8 @@ fn refute_by(
     written: &mut usize,
 ) -> u8
     ensures says { result ≡ 0 → Says (asked_of asked.entry.question) asked.entry.circuit.now }
-    ensures done { result ≡ 0 →
-        RefutesQuestion (asked_of asked.entry.question) asked.entry.circuit.now (Ok tt) (take written.new room.new) }
-    ensures refused { result ≡ 1 → Refuses (RefutesQuestion (asked_of asked.entry.question) asked.entry.circuit.now) }
-    ensures no_room { result ≡ 2 → Exceeds (length room.old)
-        (RefutesQuestion (asked_of asked.entry.question) asked.entry.circuit.now) }
-    ensures inside { result ≤ 1 → written.new ≤ length room.old }
-    ensures kept { 1 < result → (room.new ≡ room.old) × (written.new ≡ written.old) }
-    ensures statuses { result ≤ 3 }
+    ensures returns { Returns (RefutesQuestion (asked_of asked.entry.question) asked.entry.circuit.now)
+        result room.old room.new written.old written.new }
 {
     let Ok(mut out) = writer(alloc, room) else {
         return NO_MEMORY;
@@ -59,12 +53,8 @@ pub extern "C" fn aig_refute(
     written: &mut usize,
 ) -> u8
     ensures unreachable { result ≡ 0 → IsFileUnreachable circuit.now frames property }
-    ensures done { result ≡ 0 → OfFile circuit.now (Refutes frames property) (Ok tt) (take written.new room.new) }
-    ensures refused { result ≡ 1 → Refuses (OfFile circuit.now (Refutes frames property)) }
-    ensures no_room { result ≡ 2 → Exceeds (length room.old) (OfFile circuit.now (Refutes frames property)) }
-    ensures inside { result ≤ 1 → written.new ≤ length room.old }
-    ensures kept { 1 < result → (room.new ≡ room.old) × (written.new ≡ written.old) }
-    ensures statuses { result ≤ 3 }
+    ensures returns { Returns (OfFile circuit.now (Refutes frames property))
+        result room.old room.new written.old written.new }
 {
     let question = Question::Within { frames, property };
     let proofs: Proofs<&[u8], &[u8]> = Proofs { proof, step: b"" };
@@ -82,12 +72,8 @@ pub extern "C" fn aig_refute_alive(
     written: &mut usize,
 ) -> u8
     ensures no_run { result ≡ 0 → IsFileWithoutRun circuit.now frames }
-    ensures done { result ≡ 0 → OfFile circuit.now (RefutesAlive frames) (Ok tt) (take written.new room.new) }
-    ensures refused { result ≡ 1 → Refuses (OfFile circuit.now (RefutesAlive frames)) }
-    ensures no_room { result ≡ 2 → Exceeds (length room.old) (OfFile circuit.now (RefutesAlive frames)) }
-    ensures inside { result ≤ 1 → written.new ≤ length room.old }
-    ensures kept { 1 < result → (room.new ≡ room.old) × (written.new ≡ written.old) }
-    ensures statuses { result ≤ 3 }
+    ensures returns { Returns (OfFile circuit.now (RefutesAlive frames))
+        result room.old room.new written.old written.new }
 {
     let question = Question::Alive { frames };
     let proofs: Proofs<&[u8], &[u8]> = Proofs { proof, step: b"" };
@@ -107,12 +93,8 @@ pub extern "C" fn aig_refute_step(
     written: &mut usize,
 ) -> u8
     ensures unreachable { result ≡ 0 → IsFileNeverReached circuit.now property }
-    ensures done { result ≡ 0 → OfFile circuit.now (RefutesStep frames property) (Ok tt) (take written.new room.new) }
-    ensures refused { result ≡ 1 → Refuses (OfFile circuit.now (RefutesStep frames property)) }
-    ensures no_room { result ≡ 2 → Exceeds (length room.old) (OfFile circuit.now (RefutesStep frames property)) }
-    ensures inside { result ≤ 1 → written.new ≤ length room.old }
-    ensures kept { 1 < result → (room.new ≡ room.old) × (written.new ≡ written.old) }
-    ensures statuses { result ≤ 3 }
+    ensures returns { Returns (OfFile circuit.now (RefutesStep frames property))
+        result room.old room.new written.old written.new }
 {
     let question = Question::Step { frames, property };
     let proofs = Proofs { proof, step };
@@ -131,15 +113,8 @@ pub extern "C" fn aig_refute_certified(
     written: &mut usize,
 ) -> u8
     ensures unreachable { result ≡ 0 → IsFileNeverReached circuit.now property }
-    ensures done { result ≡ 0 → OfCertified purposes.Formula circuit.now property certificate.now RefutesInduction
-        (Ok tt) (take written.new room.new) }
-    ensures refused { result ≡ 1 →
-        Refuses (OfCertified purposes.Formula circuit.now property certificate.now RefutesInduction) }
-    ensures no_room { result ≡ 2 →
-        Exceeds (length room.old) (OfCertified purposes.Formula circuit.now property certificate.now RefutesInduction) }
-    ensures inside { result ≤ 1 → written.new ≤ length room.old }
-    ensures kept { 1 < result → (room.new ≡ room.old) × (written.new ≡ written.old) }
-    ensures statuses { result ≤ 3 }
+    ensures returns { Returns (OfCertified purposes.Formula circuit.now property certificate.now RefutesInduction)
+        result room.old room.new written.old written.new }
 {
     let question = Question::Certified {
         certificate,

@@ -1,13 +1,12 @@
 //! Runs: verdicts on witnesses, witnesses, waves and scripts.
-ghost use Rattle.std.specs.Prelude.{◌≡◌, ◌≢◌, ◌<◌, ◌≤◌, Ok, Some, length, take};
+ghost use Rattle.std.specs.Prelude.{◌≡◌, ◌≢◌, Ok, Some, length};
 ghost use Rattle.aig_command.specs.Command.{OfFile, Text};
-ghost use Rattle.aig_sim.specs.declared.witness.verdict.Verdict.{Verdict};
 ghost use Rattle.aig_script.specs.Bench.{RunsScript};
 ghost use Rattle.aig_commands.specs.Check.{Checks};
 ghost use Rattle.aig_commands.specs.Reduce.{Reduces};
 ghost use Rattle.aig_commands.specs.Wave.{DumpsRun};
 ghost use Rattle.aig_commands.specs.Witness.{WritesWitness};
-ghost use Rattle.aig_c.specs.Answers.{Exceeds, ExceedsReading, Refuses, is_confirmed};
+ghost use Rattle.aig_c.specs.Answers.{ExceedsReading, Fills, Refuses, Returns, ReturnsVerdict};
 
 use crate::answer::{DONE, NO_MEMORY, answer, is_confirmed, refuse, writer};
 use aig_base::{MemReader, MemWriter};
@@ -29,14 +28,9 @@ pub extern "C" fn aig_check(
     written: &mut usize,
     confirmed: &mut bool,
 ) -> u8
-    ensures done { result ≡ 0 → (verdict : Verdict) × (confirmed.new ≡ is_confirmed verdict)
-        × OfFile circuit.now (Checks witness.now) (Ok verdict) (take written.new room.new) }
-    ensures refused { result ≡ 1 → Refuses (OfFile circuit.now (Checks witness.now)) }
-    ensures no_room { result ≡ 2 → Exceeds (length room.old) (OfFile circuit.now (Checks witness.now)) }
-    ensures inside { result ≤ 1 → written.new ≤ length room.old }
-    ensures kept { 1 < result → (room.new ≡ room.old) × (written.new ≡ written.old) }
+    ensures returns { ReturnsVerdict (OfFile circuit.now (Checks witness.now)) confirmed.new
+        result room.old room.new written.old written.new }
     ensures no_verdict { result ≢ 0 → confirmed.new ≡ confirmed.old }
-    ensures statuses { result ≤ 3 }
 {
     let Ok(mut out) = writer(alloc, room) else {
         return NO_MEMORY;
@@ -63,14 +57,8 @@ pub extern "C" fn aig_witness(
     room: &mut [u8],
     written: &mut usize,
 ) -> u8
-    ensures done { result ≡ 0 →
-        OfFile circuit.now (WritesWitness (Some property) rows.now) (Ok tt) (take written.new room.new) }
-    ensures refused { result ≡ 1 → Refuses (OfFile circuit.now (WritesWitness (Some property) rows.now)) }
-    ensures no_room { result ≡ 2 →
-        Exceeds (length room.old) (OfFile circuit.now (WritesWitness (Some property) rows.now)) }
-    ensures inside { result ≤ 1 → written.new ≤ length room.old }
-    ensures kept { 1 < result → (room.new ≡ room.old) × (written.new ≡ written.old) }
-    ensures statuses { result ≤ 3 }
+    ensures returns { Returns (OfFile circuit.now (WritesWitness (Some property) rows.now))
+        result room.old room.new written.old written.new }
 {
     let Ok(mut out) = writer(alloc, room) else {
         return NO_MEMORY;
@@ -92,14 +80,9 @@ pub extern "C" fn aig_reduce(
     written: &mut usize,
     confirmed: &mut bool,
 ) -> u8
-    ensures done { result ≡ 0 → (verdict : Verdict) × (confirmed.new ≡ is_confirmed verdict)
-        × OfFile circuit.now (Reduces witness.now) (Ok verdict) (take written.new room.new) }
-    ensures refused { result ≡ 1 → Refuses (OfFile circuit.now (Reduces witness.now)) }
-    ensures no_room { result ≡ 2 → Exceeds (length room.old) (OfFile circuit.now (Reduces witness.now)) }
-    ensures inside { result ≤ 1 → written.new ≤ length room.old }
-    ensures kept { 1 < result → (room.new ≡ room.old) × (written.new ≡ written.old) }
+    ensures returns { ReturnsVerdict (OfFile circuit.now (Reduces witness.now)) confirmed.new
+        result room.old room.new written.old written.new }
     ensures no_verdict { result ≢ 0 → confirmed.new ≡ confirmed.old }
-    ensures statuses { result ≤ 3 }
 {
     let Ok(mut out) = writer(alloc, room) else {
         return NO_MEMORY;
@@ -125,12 +108,8 @@ pub extern "C" fn aig_wave_witness(
     room: &mut [u8],
     written: &mut usize,
 ) -> u8
-    ensures done { result ≡ 0 → OfFile circuit.now (DumpsRun witness.now) (Ok tt) (take written.new room.new) }
-    ensures refused { result ≡ 1 → Refuses (OfFile circuit.now (DumpsRun witness.now)) }
-    ensures no_room { result ≡ 2 → Exceeds (length room.old) (OfFile circuit.now (DumpsRun witness.now)) }
-    ensures inside { result ≤ 1 → written.new ≤ length room.old }
-    ensures kept { 1 < result → (room.new ≡ room.old) × (written.new ≡ written.old) }
-    ensures statuses { result ≤ 3 }
+    ensures returns { Returns (OfFile circuit.now (DumpsRun witness.now))
+        result room.old room.new written.old written.new }
 {
     let Ok(mut out) = writer(alloc, room) else {
         return NO_MEMORY;
@@ -151,13 +130,11 @@ pub extern "C" fn aig_bench(
     room: &mut [u8],
     written: &mut usize,
 ) -> u8
-    ensures done { result ≡ 0 → (text : Text) × (text.bytes ≡ script.now)
-        × RunsScript circuit.now rows.now text (Ok tt) (take written.new room.new) }
-    ensures refused { result ≡ 1 → (text : Text) × Refuses (RunsScript circuit.now rows.now text) }
-    ensures no_room { result ≡ 2 → ExceedsReading (length room.old) script.now (RunsScript circuit.now rows.now) }
-    ensures inside { result ≤ 1 → written.new ≤ length room.old }
-    ensures kept { 1 < result → (room.new ≡ room.old) × (written.new ≡ written.old) }
-    ensures statuses { result ≤ 3 }
+    ensures returns { Fills (λ replies. (text : Text) × (text.bytes ≡ script.now)
+        × RunsScript circuit.now rows.now text (Ok tt) replies)
+        ((text : Text) × Refuses (RunsScript circuit.now rows.now text))
+        (ExceedsReading (length room.old) script.now (RunsScript circuit.now rows.now))
+        result room.old room.new written.old written.new }
 {
     let Ok(mut out) = writer(alloc, room) else {
         return NO_MEMORY;

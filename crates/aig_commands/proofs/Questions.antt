@@ -26,16 +26,18 @@ use Rattle.aig_command.specs.declared.run_fault.RunFault.TheVariants as run_faul
 use Rattle.aig_command.proofs.Files.{MeansNoFault, answered, of_file}
 use Rattle.aig_command.proofs.Written.{ends_map, got_none}
 use Rattle.aig_sat.specs.declared.proof.fault.ProofFault.{ProofFault}
+use Rattle.aig_sat.specs.declared.proof.fault.ProofFault.TheVariants as proof_faults
 use Rattle.aig_commands.specs.AliveWitness.{WritesAliveModel}
 use Rattle.aig_commands.specs.Certified.{IsCertified, RefusesCertified, apart, no_certificate, no_circuit, strengthening_fault}
 use Rattle.aig_commands.specs.Questions.{Asked, ChecksFor, NamesFor, OfSubject, RefutesFor, RefutesQuestion, Says, WritesFor}
 use Rattle.aig_commands.specs.Questions.{asked_of, certificate_of, heading_of, query_of, question_map}
 use Rattle.aig_commands.specs.Refute.{ChecksStep, answer_line, answer_text, proof_reads_failed, step_reads_failed}
 use Rattle.aig_commands.specs.declared.certified.Purpose.TheVariants.{Formula}
+use Rattle.aig_commands.specs.declared.refute.Proofs.{Proofs}
 use Rattle.aig_commands.specs.declared.question.Question.{Question}
 use Rattle.aig_commands.specs.declared.question.Question.TheVariants as questions
 use Rattle.aig_commands.specs.state.About.{ChecksFormula, HasItsFormula, IsAbout, IsItsFormula, RefusesFile, RefusesFiles}
-use Rattle.aig_commands.specs.state.About.{Answers, IsChecked, RefusesItsFormula, subject_of}
+use Rattle.aig_commands.specs.state.About.{Answers, IsChecked, ReadsProofs, RefusesItsFormula, subject_of}
 use Rattle.aig_commands.specs.state.Extended.{IsExtensionOf}
 use Rattle.aig_commands.proofs.Certificates.{never_reached}
 use Rattle.aig_commands.proofs.ModelWitnesses.{no_circuit_fault}
@@ -229,30 +231,42 @@ step_unread (run_faults.StepProof fault) never = absurd never
 step_unread part is = refl
 
 -- so no proof was read
-pub no_proof_read : (n : ℕ) (part : RunFault) → IsOfFile part → (r : Result (Unit {0}) RunFault) → IsErrAnd r (λ f. f ≡ part)
+no_proof_read : (n : ℕ) (part : RunFault) → IsOfFile part → (r : Result (Unit {0}) RunFault) → IsErrAnd r (λ f. f ≡ part)
     → n ≡ n + proof_reads_failed r
 no_proof_read n part plain r is =
     answered r part (λ (x : Result (Unit {0}) RunFault). n ≡ n + proof_reads_failed x) is
     (let none = proof_unread part plain in omega (arith, none))
 
-pub no_step_read : (n : ℕ) (part : RunFault) → IsOfFile part → (r : Result (Unit {0}) RunFault) → IsErrAnd r (λ f. f ≡ part)
+no_step_read : (n : ℕ) (part : RunFault) → IsOfFile part → (r : Result (Unit {0}) RunFault) → IsErrAnd r (λ f. f ≡ part)
     → n ≡ n + step_reads_failed r
 no_step_read n part plain r is =
     answered r part (λ (x : Result (Unit {0}) RunFault). n ≡ n + step_reads_failed x) is
     (let none = step_unread part plain in omega (arith, none))
 
 -- and none was refused
-pub no_proof_refused : (part : RunFault) → IsOfFile part → (why : ProofFault) (r : Result (Unit {0}) RunFault)
+no_proof_refused : (part : RunFault) → IsOfFile part → (why : ProofFault) (r : Result (Unit {0}) RunFault)
     → IsErrAnd r (λ f. f ≡ part) → r ≢ Err (run_faults.Proof why)
 no_proof_refused part plain why r is =
     answered r part (λ (x : Result (Unit {0}) RunFault). x ≢ Err (run_faults.Proof why)) is
     (λ e. let same : part ≡ run_faults.Proof why = cc in absurd (subst IsOfFile same plain))
 
-pub no_step_refused : (part : RunFault) → IsOfFile part → (why : ProofFault) (r : Result (Unit {0}) RunFault)
+no_step_refused : (part : RunFault) → IsOfFile part → (why : ProofFault) (r : Result (Unit {0}) RunFault)
     → IsErrAnd r (λ f. f ≡ part) → r ≢ Err (run_faults.StepProof why)
 no_step_refused part plain why r is =
     answered r part (λ (x : Result (Unit {0}) RunFault). x ≢ Err (run_faults.StepProof why)) is
     (λ e. let same : part ≡ run_faults.StepProof why = cc in absurd (subst IsOfFile same plain))
+
+pub reads_none : {X Y : Type 0} {left : X → Option (List ℕ)} {failures : X → ℕ} {left_step : Y → Option (List ℕ)}
+    {failures_step : Y → ℕ} (proofs : Proofs X Y) (part : RunFault) → IsOfFile part → (r : Result (Unit {0}) RunFault)
+    → IsErrAnd r (λ f. f ≡ part) → ReadsProofs left failures left_step failures_step proofs proofs r
+reads_none {failures = failures} {failures_step = failures_step} proofs part plain r is = record {
+  reads = no_proof_read (failures proofs.proof) part plain r is;
+  reads_step = no_step_read (failures_step proofs.step) part plain r is;
+  whole = λ e. absurd (no_proof_refused part plain proof_faults.NoRefutation r is e);
+  whole_step = λ e. absurd (no_step_refused part plain proof_faults.NoRefutation r is e);
+  named = λ n e below. absurd (no_proof_refused part plain (proof_faults.Step n) r is e);
+  named_step = λ n e below. absurd (no_step_refused part plain (proof_faults.Step n) r is e);
+}
 
 -- ---- the answer
 

@@ -58,15 +58,6 @@ fn cut_rows(alloc: Global, values: &[Tern], width: u32, frames: u32) -> Result<S
     Ok(rows)
 }
 
-/// How many inputs the circuit has that is unrolled for so many frames.
-fn unrolled_inputs(circuit: &Circuit, frames: u32) -> usize
-    requires circuit { IsCircuit circuit.now }
-    requires frames { frames ≤ frame_limit }
-    ensures { result ≡ input_count circuit.now frames }
-{
-    frames as usize * circuit.inputs().len() + uninitialised(circuit)
-}
-
 /// The run of so many frames that the values of a formula's variables name, where that is over this circuit.
 pub(crate) fn named_run(
     alloc: Global,
@@ -81,12 +72,12 @@ pub(crate) fn named_run(
     ensures rows { IfOk result (λ run. run.rows.rows ≡ named_rows circuit.now frames values.now) }
     ensures width { IfOk result (λ run. run.rows.width ≡ length circuit.now.inputs) }
 {
-    let inputs = unrolled_inputs(circuit, frames);
-    let (_false, rest) = values.split_at(1);
-    let (row, _gates) = rest.split_at(inputs);
     let width = circuit.inputs().len();
+    let in_rows = frames as usize * width;
+    let (_false, rest) = values.split_at(1);
+    let (row, _gates) = rest.split_at(in_rows + uninitialised(circuit));
     let rows = cut_rows(alloc, row, width as u32, frames)?;
-    let (_rows, free) = row.split_at(frames as usize * width);
+    let (_rows, free) = row.split_at(in_rows);
     let start = fill_start(alloc, circuit.latches(), free)?;
     Ok(Run { start, rows })
 }

@@ -8,7 +8,7 @@ ghost use Rattle.aig_sat.specs.proof.Proofs.{HasAddition, IsProof};
 ghost use Rattle.aig_command.specs.Command.{CommandEnds};
 ghost use Rattle.aig_commands.specs.Questions.{ChecksFor, RefutesQuestion, Says, asked_of, heading_of};
 ghost use Rattle.aig_commands.specs.Refute.{ChecksStep, answer_line, proof_reads_failed, step_reads_failed};
-ghost use Rattle.aig_commands.specs.state.About.{Answers, ChecksFormula, IsChecked, IsOfStepProof};
+ghost use Rattle.aig_commands.specs.state.About.{Answers, ChecksFormula, IsChecked, IsOfStepProof, ReadsProofs};
 
 use crate::question::{Question, circuit_of, formula_of, query_of};
 use aig_base::{Circuit, Io, Read, Write, write_all, write_number};
@@ -28,23 +28,17 @@ pub struct Proofs<R, S> {
 }
 
 /// Checks a proof that no assignment satisfies the formula of a question.
-fn check_formula<R: Read>(
+fn check_formula<R: Read, S: Read>(
     alloc: Global,
     circuit: &mut Circuit,
     question: Question<&[u8]>,
-    proof: &mut R,
+    proofs: &mut Proofs<R, S>,
 ) -> Result<(), RunFault>
     ensures checks { ChecksFormula (heading_of (asked_of question.entry)) circuit.old result }
-    ensures reads { R.failures proof.new ≡ R.failures proof.old + proof_reads_failed result }
-    ensures reads_step { step_reads_failed result ≡ 0 }
-    ensures whole { result ≡ Err (RunFault.Proof ProofFault.NoRefutation) → IfSome (R.left proof.old) IsProof }
-    ensures whole_step { result ≢ Err (RunFault.StepProof ProofFault.NoRefutation) }
-    ensures named { (n : ℕ) → result ≡ Err (RunFault.Proof (ProofFault.Step n)) → n + 1 < 2 ^ 64 →
-        IfSome (R.left proof.old) (HasAddition n) }
-    ensures named_step { (n : ℕ) → result ≢ Err (RunFault.StepProof (ProofFault.Step n)) }
+    ensures reads { ReadsProofs R.left R.failures S.left S.failures proofs.old proofs.new result }
 {
     let read = formula_of(alloc, question, circuit)?;
-    check(alloc, read.formula(), proof)?;
+    check(alloc, read.formula(), &mut proofs.proof)?;
     Ok(())
 }
 
@@ -73,14 +67,7 @@ fn check_step<R: Read, S: Read>(
     proofs: &mut Proofs<R, S>,
 ) -> Result<(), RunFault>
     ensures checks { ChecksStep query.frames query.property circuit.old result }
-    ensures reads { R.failures proofs.new.proof ≡ R.failures proofs.old.proof + proof_reads_failed result }
-    ensures reads_step { S.failures proofs.new.step ≡ S.failures proofs.old.step + step_reads_failed result }
-    ensures whole { result ≡ Err (RunFault.Proof ProofFault.NoRefutation) → IfSome (R.left proofs.old.proof) IsProof }
-    ensures whole_step { result ≡ Err (RunFault.StepProof ProofFault.NoRefutation) → IfSome (S.left proofs.old.step) IsProof }
-    ensures named { (n : ℕ) → result ≡ Err (RunFault.Proof (ProofFault.Step n)) → n + 1 < 2 ^ 64 →
-        IfSome (R.left proofs.old.proof) (HasAddition n) }
-    ensures named_step { (n : ℕ) → result ≡ Err (RunFault.StepProof (ProofFault.Step n)) → n + 1 < 2 ^ 64 →
-        IfSome (S.left proofs.old.step) (HasAddition n) }
+    ensures reads { ReadsProofs R.left R.failures S.left S.failures proofs.old proofs.new result }
 {
     circuit.facts();
     let within = Query {
@@ -106,22 +93,15 @@ fn check_question<R: Read, S: Read>(
     proofs: &mut Proofs<R, S>,
 ) -> Result<(), RunFault>
     ensures checks { ChecksFor (asked_of question.entry) circuit.old result }
-    ensures reads { R.failures proofs.new.proof ≡ R.failures proofs.old.proof + proof_reads_failed result }
-    ensures reads_step { S.failures proofs.new.step ≡ S.failures proofs.old.step + step_reads_failed result }
-    ensures whole { result ≡ Err (RunFault.Proof ProofFault.NoRefutation) → IfSome (R.left proofs.old.proof) IsProof }
-    ensures whole_step { result ≡ Err (RunFault.StepProof ProofFault.NoRefutation) → IfSome (S.left proofs.old.step) IsProof }
-    ensures named { (n : ℕ) → result ≡ Err (RunFault.Proof (ProofFault.Step n)) → n + 1 < 2 ^ 64 →
-        IfSome (R.left proofs.old.proof) (HasAddition n) }
-    ensures named_step { (n : ℕ) → result ≡ Err (RunFault.StepProof (ProofFault.Step n)) → n + 1 < 2 ^ 64 →
-        IfSome (S.left proofs.old.step) (HasAddition n) }
+    ensures reads { ReadsProofs R.left R.failures S.left S.failures proofs.old proofs.new result }
 {
     circuit.facts();
     let query = query_of(question);
     match query.goal {
-        Goal::Within => check_formula(alloc, circuit, question, &mut proofs.proof),
-        Goal::Last => check_formula(alloc, circuit, question, &mut proofs.proof),
+        Goal::Within => check_formula(alloc, circuit, question, proofs),
+        Goal::Last => check_formula(alloc, circuit, question, proofs),
         Goal::Step => check_step(alloc, circuit, query, proofs),
-        Goal::Induction => check_formula(alloc, circuit, question, &mut proofs.proof),
+        Goal::Induction => check_formula(alloc, circuit, question, proofs),
     }
 }
 
@@ -134,14 +114,7 @@ fn read_and_check<R: Read, S: Read>(
 ) -> Result<(), RunFault>
     ensures checks { IsChecked (asked_of question.entry) file.now result }
     ensures says { OnOk result (Says (asked_of question.entry) file.now) }
-    ensures reads { R.failures proofs.new.proof ≡ R.failures proofs.old.proof + proof_reads_failed result }
-    ensures reads_step { S.failures proofs.new.step ≡ S.failures proofs.old.step + step_reads_failed result }
-    ensures whole { result ≡ Err (RunFault.Proof ProofFault.NoRefutation) → IfSome (R.left proofs.old.proof) IsProof }
-    ensures whole_step { result ≡ Err (RunFault.StepProof ProofFault.NoRefutation) → IfSome (S.left proofs.old.step) IsProof }
-    ensures named { (n : ℕ) → result ≡ Err (RunFault.Proof (ProofFault.Step n)) → n + 1 < 2 ^ 64 →
-        IfSome (R.left proofs.old.proof) (HasAddition n) }
-    ensures named_step { (n : ℕ) → result ≡ Err (RunFault.StepProof (ProofFault.Step n)) → n + 1 < 2 ^ 64 →
-        IfSome (S.left proofs.old.step) (HasAddition n) }
+    ensures reads { ReadsProofs R.left R.failures S.left S.failures proofs.old proofs.new result }
 {
     let mut circuit = circuit_of(alloc, question, file)?;
     circuit.facts();

@@ -4,7 +4,7 @@ ghost use Rattle.aig_format.specs.declared.reader.header.Format.TheVariants.{Bin
 ghost use Rattle.aig_bytes.specs.Flow.{flow};
 ghost use Rattle.aig_command.specs.Command.{OfFile, OfReader};
 ghost use Rattle.aig_command.specs.Command.{CommandEnds};
-ghost use Rattle.aig_commands.specs.GoesWell.{GoesWell};
+ghost use Rattle.aig_commands.specs.GoesWell.{GoesWell, WritesOnce};
 ghost use Rattle.aig_commands.specs.Toaig.{Converts};
 
 use aig_base::{Circuit, Read, Write, is_binary_ready, renumber};
@@ -16,9 +16,7 @@ use std::alloc::Global;
 fn write_ready<W: Write>(alloc: Global, circuit: &Circuit, out: &mut W) -> Result<(), RunFault>
     ensures ends { CommandEnds (flow W.written W.failures out.old out.new) RunFault.Output (Converts Binary circuit.now)
         result }
-    ensures count { W.failures out.new ≤ W.failures out.old + 1 }
-    ensures refused { IfErr result (λ fault. fault ≢ RunFault.Output → out.new ≡ out.old) }
-    ensures output { result ≡ Err RunFault.Output → GoesWell (Converts Binary circuit.now) }
+    ensures once { WritesOnce (Converts Binary circuit.now) (flow W.written W.failures out.old out.new) result }
 {
     if is_binary_ready(circuit) {
         return as_output(write_binary(circuit, out));
@@ -39,9 +37,7 @@ pub(crate) fn write_converted<W: Write>(
 ) -> Result<(), RunFault>
     ensures ends { CommandEnds (flow W.written W.failures out.old out.new) RunFault.Output (Converts to circuit.now)
         result }
-    ensures count { W.failures out.new ≤ W.failures out.old + 1 }
-    ensures refused { IfErr result (λ fault. fault ≢ RunFault.Output → out.new ≡ out.old) }
-    ensures output { result ≡ Err RunFault.Output → GoesWell (Converts to circuit.now) }
+    ensures once { WritesOnce (Converts to circuit.now) (flow W.written W.failures out.old out.new) result }
 {
     match to {
         Format::Ascii => as_output(write_ascii(circuit, out)),

@@ -6,7 +6,7 @@ ghost use Rattle.aig_bytes.specs.Flow.{flow};
 ghost use Rattle.aig_unroll.specs.InputMap.{map_text};
 ghost use Rattle.aig_command.specs.Command.{OfFile};
 ghost use Rattle.aig_command.specs.Command.{CommandEnds};
-ghost use Rattle.aig_commands.specs.GoesWell.{GoesWell};
+ghost use Rattle.aig_commands.specs.GoesWell.{GoesWell, WritesOnce};
 ghost use Rattle.aig_commands.specs.Unroll.{IsMap, Unrolls, UnrollsKept, short_spelling};
 
 use aig_base::{Circuit, Io, Levels, Write};
@@ -37,9 +37,7 @@ fn unroll_circuit<W: Write>(
 ) -> Result<(), RunFault>
     ensures ends { CommandEnds (flow W.written W.failures out.old out.new) RunFault.Output
         (Unrolls frames to circuit.now) result }
-    ensures count { W.failures out.new ≤ W.failures out.old + 1 }
-    ensures refused { IfErr result (λ fault. fault ≢ RunFault.Output → out.new ≡ out.old) }
-    ensures output { result ≡ Err RunFault.Output → GoesWell (Unrolls frames to circuit.now) }
+    ensures once { WritesOnce (Unrolls frames to circuit.now) (flow W.written W.failures out.old out.new) result }
 {
     let levels = Levels::of(alloc, circuit)?;
     let unrolled = aig_unroll::unroll(alloc, circuit, &levels, frames)?;

@@ -99,17 +99,6 @@ fn circuit_with_format<S: Source>(alloc: Global, s: &mut S) -> Result<(Format, C
     Ok((format, circuit))
 }
 
-/// The circuit that the bytes left spell, all of them.
-fn circuit<S: Source>(alloc: Global, s: &mut S) -> Result<Circuit, Fault>
-    ensures answers { S.reports s.old → result ≢ Err Fault.Io → IsReading (S.left s.old) result }
-    ensures circuit { IfOk result IsCircuit }
-    ensures reader { S.reader s.new ≡ S.reader s.old }
-    ensures failures { Raises result (S.failures s.old) (S.failures s.new) }
-{
-    let (_, circuit) = circuit_with_format(alloc, s)?;
-    Ok(circuit)
-}
-
 /// The circuit of a file, ASCII or binary as its first word says (AIGER 1.0; AIGER 1.9 for resets and properties).
 ///
 /// It tries the faults in this order. First comes the first token of the header line that is refused (`Text` with its
@@ -122,7 +111,8 @@ pub fn read(alloc: Global, bytes: &[u8]) -> Result<Circuit, Fault>
     ensures io { result ≢ Err Fault.Io }
 {
     let mut source = Slice::new(bytes);
-    circuit(alloc, &mut source)
+    let (_, circuit) = circuit_with_format(alloc, &mut source)?;
+    Ok(circuit)
 }
 
 /// What `read` answers for the bytes that the reader holds, or `Io` where a read failed, which ends it.
@@ -136,8 +126,8 @@ pub fn read_from<R: Read>(alloc: Global, reader: &mut R) -> Result<Circuit, Faul
     // It answers `Io` where a read failed, and then only.
     ensures io { Raises result (R.failures reader.old) (R.failures reader.new) }
 {
-    let mut source = Stream::new(reader);
-    circuit(alloc, &mut source)
+    let (_, circuit) = read_with_format(alloc, reader)?;
+    Ok(circuit)
 }
 
 /// What `read_from` answers, and the format of the file.

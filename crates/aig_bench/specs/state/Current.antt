@@ -1,14 +1,15 @@
 -- When the cells of a grid are the values of a pair (our own choice).
-use Rattle.std.specs.Prelude.{◌≡◌, ℕ, suc, ◌+◌, ◌<◌, ◌≤◌, Bool, true, false, List, length, Some, slice_get}
+use Rattle.std.specs.Prelude.{◌≡◌, ℕ, suc, ◌+◌, ◌*◌, ◌<◌, ◌≤◌, Bool, true, false, List, length, Some, slice_get}
 use Rattle.aig_parts.specs.declared.ternary.Tern.{Tern}
 use Rattle.aig_parts.specs.declared.ternary.Tern.TheVariants.{Zero}
 use Rattle.aig_parts.specs.declared.raw.Raw.{Raw}
+use Rattle.aig_base.specs.Grounded.{IsSource}
 use Rattle.aig_base.specs.Sections.{IsGate}
 use Rattle.aig_base.specs.Value.{start_of}
 use Rattle.aig_values.specs.state.Frame as frame
 use Rattle.aig_values.specs.InputRows.{row_at}
 use Rattle.aig_bench.specs.declared.engine.driven_circuit.DrivenCircuit.{DrivenCircuit}
-use Rattle.aig_bench.specs.BenchState.{CircuitAndRows}
+use Rattle.aig_bench.specs.BenchState.{CircuitAndRows, HasValue}
 use Rattle.aig_bench.specs.state.DrivenCircuit.{IsDriven, pair_of}
 
 -- a flag for each variable, true for those of gates
@@ -52,6 +53,18 @@ pub record AreCurrent (p : CircuitAndRows) (n : ℕ) (cells : List (List Tern)) 
 -- what the latches at the next frame rest on
 abbrev pub IsCurrentBefore : CircuitAndRows → ℕ → List (List Tern) → Type 0
 IsCurrentBefore p t cells = (u : ℕ) → t ≡ suc u → IsCurrentRow p u (row_at cells u)
+
+-- at a frame of the pair, this is the value of an input or of a latch
+pub record IsSourceValue (p : CircuitAndRows) (t v : ℕ) (w : Tern) : Type 0 where
+  pub frame : t < length p.rows
+  pub positive : 0 < v
+  pub source : IsSource p.circuit v
+  pub value : HasValue p t (2 * v) w
+
+-- the next frame to fill: one of the pair, with current values in the frame before it
+pub record IsNext (p : CircuitAndRows) (t : ℕ) (cells : List (List Tern)) : Type 0 where
+  pub frame : t < length p.rows
+  pub before : IsCurrentBefore p t cells
 
 -- what a bench keeps: a grid for its driven circuit, with the values of all frames
 pub record IsBench (driven : DrivenCircuit) (flags : List Bool) (cells : List (List Tern)) : Type 0 where

@@ -4,7 +4,7 @@ ghost use Rattle.aig_parts.specs.Literal.{variable};
 ghost use Rattle.aig_values.specs.Cells.{literal_value};
 ghost use Rattle.aig_values.specs.InputRows.{row_at};
 ghost use Rattle.aig_bench.specs.BenchState.{HasValue};
-ghost use Rattle.aig_bench.specs.state.Current.{IsCurrentBefore};
+ghost use Rattle.aig_bench.specs.state.Current.{IsNext};
 
 use crate::engine::Engine;
 use aig_base::{Latch, Lit, Tern};
@@ -22,8 +22,7 @@ pub fn literal_at<G: Grid>(grid: &G, frame: u32, literal: Lit) -> Tern
 impl<G: Grid> Engine<G> {
     /// The value of a latch at a frame, by its reset or by the frame before.
     pub fn latch_value(&self, frame: u32, latch: Latch) -> Tern
-        requires frame { frame < length self.now.pair.rows }
-        requires before { IsCurrentBefore self.now.pair frame self.now.cells }
+        requires next { IsNext self.now.pair frame self.now.cells }
         requires latch { (i : ℕ) × (slice_get self.now.pair.circuit.latches i ≡ Some latch) }
         ensures value { HasValue self.now.pair frame (2 * variable latch.lit) result }
         ensures positive { 0 < variable latch.lit }

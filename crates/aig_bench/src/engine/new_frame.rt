@@ -1,12 +1,10 @@
 //! The cells of a new frame, evaluated in a topological order.
-ghost use Rattle.std.specs.Prelude.{◌≡◌, ℕ, ◌*◌, ◌<◌, length, Some, slice_get};
-ghost use Rattle.aig_base.specs.Grounded.{IsSource};
+ghost use Rattle.std.specs.Prelude.{◌≡◌, ℕ, ◌<◌, length, Some, slice_get};
 ghost use Rattle.aig_parts.specs.Literal.{variable};
 ghost use Rattle.aig_values.specs.InputRows.{row_at};
-ghost use Rattle.aig_bench.specs.state.Current.{HoldsInputsInPair, HoldsLatchesInPair, IsCurrentBefore, IsCurrentRow};
+ghost use Rattle.aig_bench.specs.state.Current.{HoldsInputsInPair, HoldsLatchesInPair, IsCurrentRow, IsNext, IsSourceValue};
 ghost use Rattle.aig_bench.specs.state.Filled.{FillsRow, FillsSource, KeepsRowValues};
 ghost use Rattle.aig_bench.specs.state.SweepOrder.{IsKnownOrder};
-ghost use Rattle.aig_bench.specs.BenchState.{HasValue};
 
 use crate::engine::Engine;
 use aig_base::{Latch, Tern};
@@ -15,10 +13,7 @@ use aig_values::Grid;
 impl<G: Grid> Engine<G> {
     // Writes the value of an input or a latch; nothing is queued.
     fn fill_source(&mut self, frame: u32, variable: u32, value: Tern)
-        requires frame { frame < length self.old.pair.rows }
-        requires positive { 0 < variable }
-        requires source { IsSource self.old.pair.circuit variable }
-        requires value { HasValue self.old.pair frame (2 * variable) value }
+        requires { IsSourceValue self.old.pair frame variable value }
         ensures { FillsSource frame variable self.old self.new }
     {
         self.grid.put_source(frame, variable, value);
@@ -38,8 +33,7 @@ impl<G: Grid> Engine<G> {
 
     // Writes the value of a latch at a frame, by its reset or by the frame before.
     fn fill_latch(&mut self, frame: u32, latch: Latch)
-        requires frame { frame < length self.old.pair.rows }
-        requires before { IsCurrentBefore self.old.pair frame self.old.cells }
+        requires next { IsNext self.old.pair frame self.old.cells }
         requires latch { (i : ℕ) × (slice_get self.old.pair.circuit.latches i ≡ Some latch) }
         ensures { FillsSource frame (variable latch.lit) self.old self.new }
     {
@@ -61,8 +55,7 @@ impl<G: Grid> Engine<G> {
 
     // Writes the latches' values at a frame.
     fn fill_latches(&mut self, frame: u32)
-        requires frame { frame < length self.old.pair.rows }
-        requires before { IsCurrentBefore self.old.pair frame self.old.cells }
+        requires { IsNext self.old.pair frame self.old.cells }
         ensures fills { FillsRow frame 0 self.old self.new }
         ensures keeps { KeepsRowValues self.old.pair frame (row_at self.old.cells frame) (row_at self.new.cells frame) }
         ensures latches { HoldsLatchesInPair self.old.pair frame (row_at self.new.cells frame) }
@@ -75,9 +68,8 @@ impl<G: Grid> Engine<G> {
 
     /// Writes all values of a frame, by the frame before: each gate is evaluated once, and nothing is queued.
     pub fn fill(&mut self, frame: u32)
-        requires frame { frame < length self.old.pair.rows }
         requires known { IsKnownOrder self.old.way }
-        requires before { IsCurrentBefore self.old.pair frame self.old.cells }
+        requires next { IsNext self.old.pair frame self.old.cells }
         ensures fills { FillsRow frame (length self.old.pair.circuit.gates) self.old self.new }
         ensures current { IsCurrentRow self.old.pair frame (row_at self.new.cells frame) }
     {

@@ -1,11 +1,10 @@
 //! The evaluation of what waits at a frame, level by level: event-driven and levelized.
-ghost use Rattle.std.specs.Prelude.{◌≡◌, ◌≢◌, ◌*◌, ◌+◌, ◌<◌, ◌≤◌, length};
+ghost use Rattle.std.specs.Prelude.{◌≡◌, ◌≢◌, ◌+◌, ◌<◌, ◌≤◌, length};
 ghost use Rattle.aig_parts.specs.Formed.{limit};
-ghost use Rattle.aig_base.specs.Grounded.{IsSource};
 ghost use Rattle.aig_base.specs.Levels.{AreLevels};
 ghost use Rattle.aig_parts.specs.Limits.{cell_limit};
-ghost use Rattle.aig_bench.specs.BenchState.{HasValue};
 ghost use Rattle.aig_bench.specs.state.Buckets.{IsFirst};
+ghost use Rattle.aig_bench.specs.state.Current.{IsSourceValue};
 ghost use Rattle.aig_bench.specs.state.Steps.{frame_work, report_of, PutsSource, Settles, SettlesLevels};
 ghost use Rattle.aig_bench.specs.state.Sweep.{queued_count};
 
@@ -110,10 +109,7 @@ impl<G: Grid> Engine<G> {
     /// Writes the value of an input or a latch, and lets its readers wait if the cell changed; its latches are carried
     /// ahead.
     pub fn put(&mut self, frame: u32, variable: u32, value: Tern)
-        requires frame { frame < length self.old.pair.rows }
-        requires positive { 0 < variable }
-        requires source { IsSource self.old.pair.circuit variable }
-        requires value { HasValue self.old.pair frame (2 * variable) value }
+        requires { IsSourceValue self.old.pair frame variable value }
         ensures { PutsSource frame variable self.old self.new }
     {
         let before = self.grid.get(frame, variable);

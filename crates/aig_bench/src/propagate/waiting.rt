@@ -31,10 +31,7 @@ pub struct EventSlot {
 impl EventSlot {
     // The slot of a variable that does not wait.
     fn idle(level: u32, rhs0: Lit, rhs1: Lit) -> EventSlot
-        ensures next { result.next ≡ idle }
-        ensures level { result.level ≡ level }
-        ensures first { result.rhs0 ≡ rhs0 }
-        ensures second { result.rhs1 ≡ rhs1 }
+        ensures { result ≡ record { next = idle; level = level; rhs0 = rhs0; rhs1 = rhs1 } }
     {
         EventSlot {
             next: IDLE,
@@ -101,10 +98,7 @@ impl Waiting {
 
     /// Makes room for one more variable; nothing else changes.
     pub fn make_room(&mut self) -> Result<(), Memory>
-        ensures next { self.new.next ≡ self.old.next }
-        ensures marks { self.new.items ≡ self.old.items }
-        ensures levels { self.new.levels ≡ self.old.levels }
-        ensures sides { self.new.sides ≡ self.old.sides }
+        ensures same { self.new ≡ record self.old { room = self.new.room } }
         ensures room { OnOk result (IsTrue self.new.room) }
     {
         self.slots.reserve(1)?;

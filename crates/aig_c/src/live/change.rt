@@ -1,6 +1,6 @@
 //! An edit of a bench that C holds, and what it answers.
-ghost use Rattle.std.specs.Prelude.{◌≡◌, ◌≢◌, ◌↔◌, false};
-ghost use Rattle.aig_c.specs.Live.{Does, LiveEdits, Tells, is_open};
+ghost use Rattle.std.specs.Prelude.{◌≡◌, ◌≢◌, Ok};
+ghost use Rattle.aig_c.specs.Live.{Does, LiveEdit, Tells};
 ghost use Rattle.aig_c.specs.state.Changes.{edit_of};
 
 use crate::answer::DONE;
@@ -75,11 +75,7 @@ pub(crate) fn tell(answer: Result<EditReport, EditFault>, report: &mut AigReport
 
 /// Does an edit of a bench that C holds.
 pub(crate) fn edit(alloc: Global, live: &mut AigLive, change: Change, report: &mut AigReport) -> u8
-    ensures edits { LiveEdits live.old.seat.held (edit_of change) result report.new.evaluated report.new.changed
-        live.new.seat.held }
-    ensures kept { result ≢ 0 → live.new.seat.held ≡ live.old.seat.held }
-    ensures report_kept { result ≢ 0 → report.new ≡ report.old }
-    ensures closed { (result ≡ 255) ↔ (is_open live.old.seat.held ≡ false) }
+    ensures edits { LiveEdit live.old.seat.held (Ok (edit_of change)) result report.old report.new live.new.seat.held }
 {
     let Some(mut held) = live.take(alloc) else {
         return NOT_OPEN;

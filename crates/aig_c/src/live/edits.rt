@@ -1,8 +1,7 @@
 //! Edits of a bench, one a call.
-ghost use Rattle.std.specs.Prelude.{◌≡◌, ◌≢◌, ◌*◌, ◌↔◌, IfSome, None, Some, false, true};
-ghost use Rattle.aig_parts.specs.declared.ternary.Tern.{Tern};
+ghost use Rattle.std.specs.Prelude.{◌≡◌, ◌≢◌, ◌*◌, IfSome, Ok};
 ghost use Rattle.aig_bench.specs.Edit.{set_bit, rewire, set_reset, set_output, append_gate, drop_frame};
-ghost use Rattle.aig_c.specs.Live.{LiveEdits, is_open, value_of};
+ghost use Rattle.aig_c.specs.Live.{LiveEdit, value_of, valued};
 
 use crate::live::change::{AigReport, Change, apply, edit, tell};
 use crate::live::handle::AigLive;
@@ -22,12 +21,8 @@ pub extern "C" fn aig_live_set(
     value: u8,
     report: &mut AigReport,
 ) -> u8
-    ensures edits { (w : Tern) → value_of value ≡ Some w → LiveEdits bench.old.seat.held (set_bit frame input w) result
-        report.new.evaluated report.new.changed bench.new.seat.held }
-    ensures value { value_of value ≡ None → is_open bench.old.seat.held ≡ true → result ≡ 253 }
-    ensures closed { (result ≡ 255) ↔ (is_open bench.old.seat.held ≡ false) }
-    ensures kept { result ≢ 0 → bench.new.seat.held ≡ bench.old.seat.held }
-    ensures report_kept { result ≢ 0 → report.new ≡ report.old }
+    ensures edits { LiveEdit bench.old.seat.held (valued (value_of value) (set_bit frame input))
+        result report.old report.new bench.new.seat.held }
 {
     match value_of(u32::from(value)) {
         Some(value) => edit(
@@ -54,11 +49,8 @@ pub extern "C" fn aig_live_rewire(
     right1: u32,
     report: &mut AigReport,
 ) -> u8
-    ensures edits { LiveEdits bench.old.seat.held (rewire gate right0 right1) result
-        report.new.evaluated report.new.changed bench.new.seat.held }
-    ensures closed { (result ≡ 255) ↔ (is_open bench.old.seat.held ≡ false) }
-    ensures kept { result ≢ 0 → bench.new.seat.held ≡ bench.old.seat.held }
-    ensures report_kept { result ≢ 0 → report.new ≡ report.old }
+    ensures edits { LiveEdit bench.old.seat.held (Ok (rewire gate right0 right1))
+        result report.old report.new bench.new.seat.held }
 {
     let change = Change::Rewire {
         gate: Lit::new(gate),
@@ -77,12 +69,8 @@ pub extern "C" fn aig_live_reset(
     value: u8,
     report: &mut AigReport,
 ) -> u8
-    ensures edits { (w : Tern) → value_of value ≡ Some w → LiveEdits bench.old.seat.held (set_reset latch w) result
-        report.new.evaluated report.new.changed bench.new.seat.held }
-    ensures value { value_of value ≡ None → is_open bench.old.seat.held ≡ true → result ≡ 253 }
-    ensures closed { (result ≡ 255) ↔ (is_open bench.old.seat.held ≡ false) }
-    ensures kept { result ≢ 0 → bench.new.seat.held ≡ bench.old.seat.held }
-    ensures report_kept { result ≢ 0 → report.new ≡ report.old }
+    ensures edits { LiveEdit bench.old.seat.held (valued (value_of value) (set_reset latch))
+        result report.old report.new bench.new.seat.held }
 {
     match value_of(u32::from(value)) {
         Some(value) => edit(
@@ -107,11 +95,8 @@ pub extern "C" fn aig_live_output(
     literal: u32,
     report: &mut AigReport,
 ) -> u8
-    ensures edits { LiveEdits bench.old.seat.held (set_output position literal) result
-        report.new.evaluated report.new.changed bench.new.seat.held }
-    ensures closed { (result ≡ 255) ↔ (is_open bench.old.seat.held ≡ false) }
-    ensures kept { result ≢ 0 → bench.new.seat.held ≡ bench.old.seat.held }
-    ensures report_kept { result ≢ 0 → report.new ≡ report.old }
+    ensures edits { LiveEdit bench.old.seat.held (Ok (set_output position literal))
+        result report.old report.new bench.new.seat.held }
 {
     let change = Change::Output {
         position,
@@ -139,14 +124,11 @@ pub extern "C" fn aig_live_append_gate(
     literal: &mut u32,
     report: &mut AigReport,
 ) -> u8
-    ensures edits { LiveEdits bench.old.seat.held (append_gate right0 right1) result
-        report.new.evaluated report.new.changed bench.new.seat.held }
+    ensures edits { LiveEdit bench.old.seat.held (Ok (append_gate right0 right1))
+        result report.old report.new bench.new.seat.held }
     ensures literal { result ≡ 0 →
         IfSome bench.new.seat.held (λ state. literal.new ≡ 2 * state.pair.circuit.max_var) }
     ensures literal_kept { result ≢ 0 → literal.new ≡ literal.old }
-    ensures closed { (result ≡ 255) ↔ (is_open bench.old.seat.held ≡ false) }
-    ensures kept { result ≢ 0 → bench.new.seat.held ≡ bench.old.seat.held }
-    ensures report_kept { result ≢ 0 → report.new ≡ report.old }
 {
     let Some(mut held) = bench.take(alloc) else {
         return NOT_OPEN;
@@ -170,11 +152,7 @@ pub extern "C" fn aig_live_drop_frame(
     bench: &mut AigLive,
     report: &mut AigReport,
 ) -> u8
-    ensures edits { LiveEdits bench.old.seat.held drop_frame result
-        report.new.evaluated report.new.changed bench.new.seat.held }
-    ensures closed { (result ≡ 255) ↔ (is_open bench.old.seat.held ≡ false) }
-    ensures kept { result ≢ 0 → bench.new.seat.held ≡ bench.old.seat.held }
-    ensures report_kept { result ≢ 0 → report.new ≡ report.old }
+    ensures edits { LiveEdit bench.old.seat.held (Ok drop_frame) result report.old report.new bench.new.seat.held }
 {
     edit(alloc, bench, Change::DropFrame, report)
 }

@@ -1,6 +1,7 @@
 //! Questions to a bench, one or many a call.
-ghost use Rattle.std.specs.Prelude.{◌≡◌, ◌≢◌, ◌⊎◌, ◌<◌, ◌≤◌, ◌↔◌, IfSome, false, length, true};
-ghost use Rattle.aig_c.specs.Live.{CellValue, HasRow, HasSizes, HasValues, IsKeptFrom, LiveValue, TellsValue, is_open};
+ghost use Rattle.std.specs.Prelude.{◌≡◌, ◌≢◌, ◌⊎◌, ◌≤◌, IfSome, length};
+ghost use Rattle.aig_c.specs.Live.{Asks, AsksMany, CellValue, HasRow, HasSizes, HasValues, IsKeptFrom};
+ghost use Rattle.aig_c.specs.Live.{LiveValue, TellsValue};
 
 use crate::answer::DONE;
 use crate::live::handle::AigLive;
@@ -55,8 +56,7 @@ pub extern "C" fn aig_live_value(
     value: &mut u8,
 ) -> u8
     ensures answer { LiveValue bench.old.seat.held frame literal result value.new }
-    ensures closed { (result ≡ 255) ↔ (is_open bench.old.seat.held ≡ false) }
-    ensures kept { bench.new.seat.held ≡ bench.old.seat.held }
+    ensures asks { Asks result bench.old.seat.held bench.new.seat.held }
     ensures value_kept { result ≢ 0 → value.new ≡ value.old }
 {
     let Some(held) = bench.take(alloc) else {
@@ -97,12 +97,7 @@ pub extern "C" fn aig_live_values(
     values: &mut [u8],
 ) -> u8
     ensures done { result ≡ 0 → IfSome bench.old.seat.held (HasValues cells.now values.new) }
-    ensures closed { (result ≡ 255) ↔ (is_open bench.old.seat.held ≡ false) }
-    ensures short { is_open bench.old.seat.held ≡ true → (result ≡ 254) ↔ (length values.old < length cells.now) }
-    ensures kept { bench.new.seat.held ≡ bench.old.seat.held }
-    ensures room_kept { result ≢ 0 → values.new ≡ values.old }
-    ensures behind { IsKeptFrom (length cells.now) values.old values.new }
-    ensures statuses { (result ≡ 0) ⊎ (254 ≤ result) }
+    ensures asks { AsksMany result (length cells.now) bench.old.seat.held bench.new.seat.held values.old values.new }
 {
     let Some(held) = bench.take(alloc) else {
         return NOT_OPEN;
@@ -136,12 +131,7 @@ pub extern "C" fn aig_live_row(
     values: &mut [u8],
 ) -> u8
     ensures done { result ≡ 0 → IfSome bench.old.seat.held (HasRow frame literals.now values.new) }
-    ensures closed { (result ≡ 255) ↔ (is_open bench.old.seat.held ≡ false) }
-    ensures short { is_open bench.old.seat.held ≡ true → (result ≡ 254) ↔ (length values.old < length literals.now) }
-    ensures kept { bench.new.seat.held ≡ bench.old.seat.held }
-    ensures room_kept { result ≢ 0 → values.new ≡ values.old }
-    ensures behind { IsKeptFrom (length literals.now) values.old values.new }
-    ensures statuses { (result ≡ 0) ⊎ (254 ≤ result) }
+    ensures asks { AsksMany result (length literals.now) bench.old.seat.held bench.new.seat.held values.old values.new }
 {
     let Some(held) = bench.take(alloc) else {
         return NOT_OPEN;
@@ -175,8 +165,7 @@ fn sizes_of(bench: &Bench<PlaneGrid>) -> AigSizes
 #[unsafe(no_mangle)]
 pub extern "C" fn aig_live_sizes(alloc: Global, bench: &mut AigLive, sizes: &mut AigSizes) -> u8
     ensures done { result ≡ 0 → IfSome bench.old.seat.held (HasSizes sizes.new) }
-    ensures closed { (result ≡ 255) ↔ (is_open bench.old.seat.held ≡ false) }
-    ensures kept { bench.new.seat.held ≡ bench.old.seat.held }
+    ensures asks { Asks result bench.old.seat.held bench.new.seat.held }
     ensures sizes_kept { result ≢ 0 → sizes.new ≡ sizes.old }
     ensures statuses { (result ≡ 0) ⊎ (result ≡ 255) }
 {

@@ -1,10 +1,10 @@
 //! Texts of a bench, in a room.
-ghost use Rattle.std.specs.Prelude.{◌≡◌, ◌≢◌, ◌⊎◌, ◌+◌, ◌<◌, ◌≤◌, ◌↔◌, ◌++◌, IfSome, false, length, take, true};
+ghost use Rattle.std.specs.Prelude.{◌≡◌, ◌+◌, ◌<◌, ◌≤◌, ◌++◌, length, true};
 ghost use Rattle.aig_base.specs.Renumbered.{IsBinaryReady};
 ghost use Rattle.aig_commands.specs.Unroll.{short_spelling};
-ghost use Rattle.aig_c.specs.Answers.{format_of};
-ghost use Rattle.aig_c.specs.Live.{is_open};
-ghost use Rattle.aig_c.specs.Texts.{IsCircuitText, IsLonger, IsNotUnrolled, IsStimulusText, IsTrace, IsUnrolling};
+ghost use Rattle.aig_c.specs.Answers.{Fills, format_of};
+ghost use Rattle.aig_c.specs.Texts.{FillsText, LiveFills};
+ghost use Rattle.aig_c.specs.Texts.{IsCircuitText, IsNotUnrolled, IsStimulusText, IsTrace, IsUnrolling};
 
 use crate::answer::{NO_MEMORY, NO_ROOM, answer, format, refuse, writer};
 use crate::live::handle::AigLive;
@@ -19,11 +19,8 @@ use std::alloc::Global;
 
 /// Copies what a writer took of a text to the front of a room that is large enough, if all was written.
 fn ended(whole: bool, bytes: &[u8], room: &mut [u8], written: &mut usize) -> u8
-    ensures done { result ≡ 0 → (whole ≡ true) × (take written.new room.new ≡ bytes.now) }
-    ensures no_room { result ≡ 2 → length room.old < length bytes.now }
-    ensures inside { result ≤ 1 → written.new ≤ length room.old }
-    ensures kept { 1 < result → (room.new ≡ room.old) × (written.new ≡ written.old) }
-    ensures statuses { (result ≢ 1) × (result ≤ 3) }
+    ensures { Fills (λ text. (whole ≡ true) × (text ≡ bytes.now)) ⊥ (length room.old < length bytes.now)
+        result room.old room.new written.old written.new }
 {
     if whole {
         return answer(bytes, room, written);
@@ -36,11 +33,7 @@ fn ended(whole: bool, bytes: &[u8], room: &mut [u8], written: &mut usize) -> u8
 }
 
 fn trace(alloc: Global, bench: &Bench<PlaneGrid>, room: &mut [u8], written: &mut usize) -> u8
-    ensures done { result ≡ 0 → IsTrace bench.now (take written.new room.new) }
-    ensures no_room { result ≡ 2 → IsLonger (IsTrace bench.now) (length room.old) }
-    ensures inside { result ≤ 1 → written.new ≤ length room.old }
-    ensures kept { 1 < result → (room.new ≡ room.old) × (written.new ≡ written.old) }
-    ensures statuses { (result ≢ 1) × (result ≤ 3) }
+    ensures { FillsText (IsTrace bench.now) ⊥ result room.old room.new written.old written.new }
 {
     let Ok(mut out) = writer(alloc, room) else {
         return NO_MEMORY;
@@ -50,11 +43,7 @@ fn trace(alloc: Global, bench: &Bench<PlaneGrid>, room: &mut [u8], written: &mut
 }
 
 fn circuit(alloc: Global, bench: &Bench<PlaneGrid>, room: &mut [u8], written: &mut usize) -> u8
-    ensures done { result ≡ 0 → IsCircuitText bench.now (take written.new room.new) }
-    ensures no_room { result ≡ 2 → IsLonger (IsCircuitText bench.now) (length room.old) }
-    ensures inside { result ≤ 1 → written.new ≤ length room.old }
-    ensures kept { 1 < result → (room.new ≡ room.old) × (written.new ≡ written.old) }
-    ensures statuses { (result ≢ 1) × (result ≤ 3) }
+    ensures { FillsText (IsCircuitText bench.now) ⊥ result room.old room.new written.old written.new }
 {
     let Ok(mut out) = writer(alloc, room) else {
         return NO_MEMORY;
@@ -64,11 +53,7 @@ fn circuit(alloc: Global, bench: &Bench<PlaneGrid>, room: &mut [u8], written: &m
 }
 
 fn stimulus(alloc: Global, bench: &Bench<PlaneGrid>, room: &mut [u8], written: &mut usize) -> u8
-    ensures done { result ≡ 0 → IsStimulusText bench.now (take written.new room.new) }
-    ensures no_room { result ≡ 2 → IsLonger (IsStimulusText bench.now) (length room.old) }
-    ensures inside { result ≤ 1 → written.new ≤ length room.old }
-    ensures kept { 1 < result → (room.new ≡ room.old) × (written.new ≡ written.old) }
-    ensures statuses { (result ≢ 1) × (result ≤ 3) }
+    ensures { FillsText (IsStimulusText bench.now) ⊥ result room.old room.new written.old written.new }
 {
     let Ok(mut out) = writer(alloc, room) else {
         return NO_MEMORY;
@@ -97,12 +82,8 @@ fn unrolled(
     room: &mut [u8],
     written: &mut usize,
 ) -> u8
-    ensures done { result ≡ 0 → IsUnrolling to bench.now (take written.new room.new) }
-    ensures refused { result ≡ 1 → IsNotUnrolled bench.now }
-    ensures no_room { result ≡ 2 → IsLonger (IsUnrolling to bench.now) (length room.old) }
-    ensures inside { result ≤ 1 → written.new ≤ length room.old }
-    ensures kept { 1 < result → (room.new ≡ room.old) × (written.new ≡ written.old) }
-    ensures statuses { result ≤ 3 }
+    ensures { FillsText (IsUnrolling to bench.now) (IsNotUnrolled bench.now)
+        result room.old room.new written.old written.new }
 {
     let circuit = match bench.unrolled(alloc) {
         Ok(circuit) => circuit,
@@ -123,13 +104,8 @@ pub extern "C" fn aig_live_trace(
     room: &mut [u8],
     written: &mut usize,
 ) -> u8
-    ensures done { result ≡ 0 → IfSome bench.old.seat.held (λ state. IsTrace state (take written.new room.new)) }
-    ensures no_room { result ≡ 2 → IfSome bench.old.seat.held (λ state. IsLonger (IsTrace state) (length room.old)) }
-    ensures closed { (result ≡ 255) ↔ (is_open bench.old.seat.held ≡ false) }
-    ensures inside { result ≡ 0 → written.new ≤ length room.old }
-    ensures kept { bench.new.seat.held ≡ bench.old.seat.held }
-    ensures room_kept { result ≢ 0 → (room.new ≡ room.old) × (written.new ≡ written.old) }
-    ensures statuses { (result ≢ 1) × ((result ≤ 3) ⊎ (result ≡ 255)) }
+    ensures fills { LiveFills IsTrace (λ state. ⊥) bench.old.seat.held bench.new.seat.held
+        result room.old room.new written.old written.new }
 {
     let Some(held) = bench.take(alloc) else {
         return NOT_OPEN;
@@ -148,16 +124,8 @@ pub extern "C" fn aig_live_unrolled(
     room: &mut [u8],
     written: &mut usize,
 ) -> u8
-    ensures done { result ≡ 0 →
-        IfSome bench.old.seat.held (λ state. IsUnrolling (format_of binary) state (take written.new room.new)) }
-    ensures refused { result ≡ 1 → IfSome bench.old.seat.held IsNotUnrolled }
-    ensures no_room { result ≡ 2 →
-        IfSome bench.old.seat.held (λ state. IsLonger (IsUnrolling (format_of binary) state) (length room.old)) }
-    ensures closed { (result ≡ 255) ↔ (is_open bench.old.seat.held ≡ false) }
-    ensures inside { result ≤ 1 → written.new ≤ length room.old }
-    ensures kept { bench.new.seat.held ≡ bench.old.seat.held }
-    ensures room_kept { 1 < result → (room.new ≡ room.old) × (written.new ≡ written.old) }
-    ensures statuses { (result ≤ 3) ⊎ (result ≡ 255) }
+    ensures fills { LiveFills (IsUnrolling (format_of binary)) IsNotUnrolled bench.old.seat.held bench.new.seat.held
+        result room.old room.new written.old written.new }
 {
     let Some(held) = bench.take(alloc) else {
         return NOT_OPEN;
@@ -175,14 +143,8 @@ pub extern "C" fn aig_live_circuit(
     room: &mut [u8],
     written: &mut usize,
 ) -> u8
-    ensures done { result ≡ 0 → IfSome bench.old.seat.held (λ state. IsCircuitText state (take written.new room.new)) }
-    ensures no_room { result ≡ 2 →
-        IfSome bench.old.seat.held (λ state. IsLonger (IsCircuitText state) (length room.old)) }
-    ensures closed { (result ≡ 255) ↔ (is_open bench.old.seat.held ≡ false) }
-    ensures inside { result ≡ 0 → written.new ≤ length room.old }
-    ensures kept { bench.new.seat.held ≡ bench.old.seat.held }
-    ensures room_kept { result ≢ 0 → (room.new ≡ room.old) × (written.new ≡ written.old) }
-    ensures statuses { (result ≢ 1) × ((result ≤ 3) ⊎ (result ≡ 255)) }
+    ensures fills { LiveFills IsCircuitText (λ state. ⊥) bench.old.seat.held bench.new.seat.held
+        result room.old room.new written.old written.new }
 {
     let Some(held) = bench.take(alloc) else {
         return NOT_OPEN;
@@ -200,14 +162,8 @@ pub extern "C" fn aig_live_stimulus(
     room: &mut [u8],
     written: &mut usize,
 ) -> u8
-    ensures done { result ≡ 0 → IfSome bench.old.seat.held (λ state. IsStimulusText state (take written.new room.new)) }
-    ensures no_room { result ≡ 2 →
-        IfSome bench.old.seat.held (λ state. IsLonger (IsStimulusText state) (length room.old)) }
-    ensures closed { (result ≡ 255) ↔ (is_open bench.old.seat.held ≡ false) }
-    ensures inside { result ≡ 0 → written.new ≤ length room.old }
-    ensures kept { bench.new.seat.held ≡ bench.old.seat.held }
-    ensures room_kept { result ≢ 0 → (room.new ≡ room.old) × (written.new ≡ written.old) }
-    ensures statuses { (result ≢ 1) × ((result ≤ 3) ⊎ (result ≡ 255)) }
+    ensures fills { LiveFills IsStimulusText (λ state. ⊥) bench.old.seat.held bench.new.seat.held
+        result room.old room.new written.old written.new }
 {
     let Some(held) = bench.take(alloc) else {
         return NOT_OPEN;

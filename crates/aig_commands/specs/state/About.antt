@@ -1,5 +1,5 @@
 -- The circuit that a question is about, its formula, and the check of a proof about it.
-use Rattle.std.specs.Prelude.{◌≡◌, ◌⊎◌, ℕ, List, Option, None, Some, Result, Ok, Err}
+use Rattle.std.specs.Prelude.{◌≡◌, ◌⊎◌, ℕ, ◌+◌, ◌^◌, ◌<◌, List, Option, None, Some, IfSome, Result, Ok, Err}
 use Rattle.aig_parts.specs.declared.fault.Fault.{Fault}
 use Rattle.aig_parts.specs.declared.raw.Raw.{Raw}
 use Rattle.aig_cnf.specs.Query.{from_any_state, induction, subject}
@@ -13,10 +13,13 @@ use Rattle.aig_command.specs.declared.run_fault.RunFault.{RunFault}
 use Rattle.aig_command.specs.declared.run_fault.RunFault.TheVariants as run_faults
 use Rattle.aig_sat.specs.checker.Consequence.{IsUnsatisfiable}
 use Rattle.aig_sat.specs.declared.proof.fault.ProofFault.{ProofFault}
+use Rattle.aig_sat.specs.declared.proof.fault.ProofFault.TheVariants as faults
+use Rattle.aig_sat.specs.proof.Proofs.{HasAddition, IsProof}
 use Rattle.aig_commands.specs.Certified.{IsCertified, RefusesCertified}
 use Rattle.aig_commands.specs.Questions.{Asked, ChecksFor, certificate_of}
-use Rattle.aig_commands.specs.Refute.{answer_text}
+use Rattle.aig_commands.specs.Refute.{answer_text, proof_reads_failed, step_reads_failed}
 use Rattle.aig_commands.specs.declared.certified.Purpose.TheVariants.{Formula}
+use Rattle.aig_commands.specs.declared.refute.Proofs.{Proofs}
 use Rattle.aig_commands.specs.state.Extended.{IsExtensionOf}
 
 -- it is the circuit of the file, or the one that the certificate makes of it
@@ -78,3 +81,15 @@ Answers line checked answer text = (answer ≡ checked) × (text ≡ answer_text
 -- a fault of the step's proof
 abbrev pub IsOfStepProof : RunFault → Type 0
 IsOfStepProof fault = (why : ProofFault) × (fault ≡ run_faults.StepProof why)
+
+-- what an answer says of the two proofs that were read for it: how many reads failed, that the bytes are a proof if it has no
+-- refutation, and that the step that is named is an addition
+pub record ReadsProofs {X Y : Type 0} (left : X → Option (List ℕ)) (failures : X → ℕ) (left_step : Y → Option (List ℕ))
+    (failures_step : Y → ℕ) (old new : Proofs X Y) (answer : Result (Unit {0}) RunFault) : Type 0 where
+  pub reads : failures new.proof ≡ failures old.proof + proof_reads_failed answer
+  pub reads_step : failures_step new.step ≡ failures_step old.step + step_reads_failed answer
+  pub whole : answer ≡ Err (run_faults.Proof faults.NoRefutation) → IfSome (left old.proof) IsProof
+  pub whole_step : answer ≡ Err (run_faults.StepProof faults.NoRefutation) → IfSome (left_step old.step) IsProof
+  pub named : (n : ℕ) → answer ≡ Err (run_faults.Proof (faults.Step n)) → n + 1 < 2 ^ 64 → IfSome (left old.proof) (HasAddition n)
+  pub named_step : (n : ℕ) → answer ≡ Err (run_faults.StepProof (faults.Step n)) → n + 1 < 2 ^ 64
+      → IfSome (left_step old.step) (HasAddition n)

@@ -1,5 +1,8 @@
 -- Bytes that a buffer holds, and those that a reader has left.
-use Rattle.std.specs.Prelude.{ℕ, ◌-◌, List, [], Option, Some, None, take, drop}
+use Rattle.std.specs.Prelude.{◌≡◌, ◌<◌, ℕ, ◌-◌, Bool, false, List, [], Option, Some, None, take, drop}
+use Rattle.std.specs.Prelude.{IfErr, IfOk, IsTrue, Result}
+use Rattle.aig_format.specs.declared.reader.token_fault.TokenFault.{TokenFault}
+use Rattle.aig_format.specs.declared.reader.token_fault.TokenFault.TheVariants.{Io}
 
 -- how many bytes are read at once
 abbrev pub room : ℕ
@@ -17,3 +20,10 @@ AreKnownBytes (Some bytes) = Unit {0}
 abbrev pub known : Option (List ℕ) → List ℕ
 known None = []
 known (Some bytes) = bytes
+
+-- whether a byte is held: if not, there is none, and that is remembered; or a read failed
+pub record IsReady (start end : ℕ) (ended : Bool) (left : Option (List ℕ)) (ready : Result Bool TokenFault) : Type 0 where
+  pub some : IfOk ready (λ is. IsTrue is → start < end)
+  pub none : IfOk ready (λ is. is ≡ false → (start ≡ end) × (known left ≡ []))
+  pub remembered : IfOk ready (λ is. is ≡ false → IsTrue ended)
+  pub io : IfErr ready (λ fault. fault ≡ Io)

@@ -1,9 +1,10 @@
 -- What an answer of the reader's parts says about reading.
-use Rattle.std.specs.Prelude.{◌≡◌, ℕ, List, Result, Ok, Err}
+use Rattle.std.specs.Prelude.{◌≡◌, ◌≤◌, ℕ, List, Result, Ok, Err}
 use Rattle.aig_parts.specs.declared.fault.Fault.{Fault}
 use Rattle.aig_parts.specs.declared.fault.Fault.TheVariants as faults
 use Rattle.aig_format.specs.declared.reader.token_fault.TokenFault.{TokenFault}
 use Rattle.aig_format.specs.declared.reader.token_fault.TokenFault.TheVariants as tokens
+use Rattle.aig_format.specs.FileReading.{Raises}
 use Rattle.aig_format.specs.state.Reading.{Refusal, text, limit, Read}
 use Rattle.aig_format.specs.state.ReadingFile.{FileRefusal, token, counts}
 
@@ -43,3 +44,12 @@ FileFails fault read = ⊥
 abbrev pub AnswersRead : {X Y : Type 0} → (X → Y) → Result X Fault → Result Y FileRefusal → Type 0
 AnswersRead view (Ok x) read = read ≡ Ok (view x)
 AnswersRead view (Err e) read = FileFails e read
+
+-- after a call that asks a source for a byte: it reports its bytes as before and is of the same reader, a failed read is
+-- counted, and there is no more to take than there was
+pub record KeepsReader {S X : Type 0} (reports : S → Type 0) (reader_of failures_of more : S → ℕ) (old new : S)
+    (result : Result X Fault) : Type 0 where
+  pub reported : reports old → reports new
+  pub reader : reader_of new ≡ reader_of old
+  pub failures : Raises result (failures_of old) (failures_of new)
+  pub never_more : more new ≤ more old

@@ -1,5 +1,5 @@
 -- What calls that read do to their source.
-use Rattle.std.specs.Prelude.{◌≡◌, ◌≤◌, ◌+◌, ◌++◌, ℕ, List, Result, length, drop}
+use Rattle.std.specs.Prelude.{◌≡◌, ◌<◌, ◌≤◌, ◌+◌, ◌^◌, ◌++◌, ℕ, List, Result, length, drop}
 use Rattle.aig_parts.specs.declared.fault.Fault.{Fault}
 use Rattle.aig_format.specs.declared.reader.header.Counts.{Counts}
 use Rattle.aig_format.specs.declared.reader.source.Source.{Ghosts}
@@ -53,3 +53,8 @@ pub record AddsSymbols (c : Counts) (count size : ℕ) (buffered : List ℕ) (ol
   pub symbols : AreSymbols c old → AreSymbols c new
   pub lines : (rest : ℕ) (more : List ℕ)
       → symbols_at c (count + rest) old (buffered ++ more) ≡ symbols_at c rest new (drop size buffered ++ more)
+
+-- a bound of numbers: no digit is over it, and ten times it and one more digit are below 2^28
+pub record IsBound (bound : ℕ) : Type 0 where
+  pub digit : 9 ≤ bound
+  pub small : bound < 2 ^ 24

@@ -1,8 +1,7 @@
 //! Where bytes come from.
 ghost use Rattle.std.specs.Prelude.{◌≡◌, ℕ, ◌+◌, ◌<◌, ◌≤◌, List, ◌++◌, length, drop, IfOk, IfSome, IfNone};
 ghost use Rattle.aig_format.specs.state.Reading.{peek_at, next_at};
-ghost use Rattle.aig_format.specs.FileReading.{Raises};
-ghost use Rattle.aig_format.specs.state.ReaderAnswers.{Gives, of_token};
+ghost use Rattle.aig_format.specs.state.ReaderAnswers.{Gives, KeepsReader, of_token};
 
 use crate::reader::token_fault::TokenFault;
 
@@ -55,10 +54,7 @@ pub(crate) trait Source {
         ensures ended { ended self.old → self.new ≡ self.old }
         ensures remembered { IfOk result (λ front. IfNone front (ended self.new)) }
         ensures bytes { reports self.old → Gives (λ x. x) (of_token result) (left self.new) (peek_at (left self.old)) }
-        ensures reported { reports self.old → reports self.new }
-        ensures reader { reader self.new ≡ reader self.old }
-        ensures failures { Raises (of_token result) (failures self.old) (failures self.new) }
-        ensures never_more { more self.new ≤ more self.old }
+        ensures keeps { KeepsReader reports reader failures more self.old self.new (of_token result) }
         ensures buffered { IfOk result (λ front. IfSome front (λ _. 0 < length (buffered self.new))) };
 
     /// The next byte, which is taken.
@@ -66,9 +62,6 @@ pub(crate) trait Source {
         ensures ended { ended self.old → self.new ≡ self.old }
         ensures remembered { IfOk result (λ taken. IfNone taken (ended self.new)) }
         ensures bytes { reports self.old → Gives (λ x. x) (of_token result) (left self.new) (next_at (left self.old)) }
-        ensures reported { reports self.old → reports self.new }
-        ensures reader { reader self.new ≡ reader self.old }
-        ensures failures { Raises (of_token result) (failures self.old) (failures self.new) }
-        ensures never_more { more self.new ≤ more self.old }
+        ensures keeps { KeepsReader reports reader failures more self.old self.new (of_token result) }
         ensures lowers { IfOk result (λ taken. IfSome taken (λ _. more self.new < more self.old)) };
 }

@@ -1,7 +1,7 @@
 //! The bytes of a reader.
-ghost use Rattle.std.specs.Prelude.{◌≡◌, ◌+◌, ◌*◌, ◌-◌, ◌<◌, ◌≤◌, ◌++◌, [], take, drop, true, false, IfOk, IfErr};
+ghost use Rattle.std.specs.Prelude.{◌≡◌, ◌+◌, ◌*◌, ◌-◌, ◌<◌, ◌≤◌, ◌++◌, [], take, drop};
 ghost use Rattle.std.specs.Prelude.{IsTrue};
-ghost use Rattle.aig_format.specs.state.Held.{held, AreKnownBytes, known, room};
+ghost use Rattle.aig_format.specs.state.Held.{held, AreKnownBytes, IsReady, known, room};
 ghost use Rattle.aig_format.specs.FileReading.{Raises};
 ghost use Rattle.aig_format.specs.state.ReaderAnswers.{of_token};
 
@@ -54,11 +54,7 @@ impl<'r, R: Read> Stream<'r, R> {
         ensures same { AreKnownBytes (R.left self.old.reader.now) →
             held self.new.start self.new.end self.new.buffer ++ known (R.left self.new.reader.now)
             ≡ held self.old.start self.old.end self.old.buffer ++ known (R.left self.old.reader.now) }
-        ensures some { IfOk result (λ ready. IsTrue ready → self.new.start < self.new.end) }
-        ensures none { IfOk result (λ ready. ready ≡ false →
-            (self.new.start ≡ self.new.end) × (known (R.left self.new.reader.now) ≡ [])) }
-        ensures remembered { IfOk result (λ ready. ready ≡ false → IsTrue self.new.ended) }
-        ensures io { IfErr result (λ fault. fault ≡ TokenFault.Io) }
+        ensures ready { IsReady self.new.start self.new.end self.new.ended (R.left self.new.reader.now) result }
         ensures reported { AreKnownBytes (R.left self.old.reader.now) → AreKnownBytes (R.left self.new.reader.now) }
         ensures failures { Raises (of_token result) (R.failures self.old.reader.now) (R.failures self.new.reader.now) }
         ensures never_more { room * R.reads_left self.new.reader.now + (self.new.end - self.new.start)
@@ -84,11 +80,7 @@ impl<'r, R: Read> Stream<'r, R> {
         ensures same { AreKnownBytes (R.left self.old.reader.now) →
             held self.new.start self.new.end self.new.buffer ++ known (R.left self.new.reader.now)
             ≡ known (R.left self.old.reader.now) }
-        ensures some { IfOk result (λ ready. IsTrue ready → self.new.start < self.new.end) }
-        ensures none { IfOk result (λ ready. ready ≡ false →
-            (self.new.start ≡ self.new.end) × (known (R.left self.new.reader.now) ≡ [])) }
-        ensures remembered { IfOk result (λ ready. ready ≡ false → IsTrue self.new.ended) }
-        ensures io { IfErr result (λ fault. fault ≡ TokenFault.Io) }
+        ensures ready { IsReady self.new.start self.new.end self.new.ended (R.left self.new.reader.now) result }
         ensures reported { AreKnownBytes (R.left self.old.reader.now) → AreKnownBytes (R.left self.new.reader.now) }
         ensures failures { Raises (of_token result) (R.failures self.old.reader.now) (R.failures self.new.reader.now) }
         ensures never_more { room * R.reads_left self.new.reader.now + (self.new.end - self.new.start)

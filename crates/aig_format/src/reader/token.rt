@@ -3,7 +3,7 @@ ghost use Rattle.std.specs.Prelude.{◌≡◌, ℕ, ◌+◌, ◌<◌, ◌≤◌,
 ghost use Rattle.aig_format.specs.state.Reading.{digit_at, is_next_at, byte_at, digits_at};
 ghost use Rattle.aig_format.specs.state.Reading.{number_at, field_at, more_at};
 ghost use Rattle.aig_format.specs.state.Reading.{optional_at};
-ghost use Rattle.aig_format.specs.state.Reads.{ReadsToken};
+ghost use Rattle.aig_format.specs.state.Reads.{IsBound, ReadsToken};
 
 use crate::reader::source::Source;
 use crate::reader::token_fault::TokenFault;
@@ -86,8 +86,7 @@ fn digits<S: Source>(s: &mut S, bound: u32, first: u32) -> Result<u32, TokenFaul
 #[inline]
 #[tactic(auto, unfolding(crate::specs::state::Reading::number_at, crate::specs::state::Reading::number_then))]
 pub(crate) fn number<S: Source>(s: &mut S, bound: u32) -> Result<u32, TokenFault>
-    requires some { 9 ≤ bound }
-    requires small { bound < 2 ^ 24 }
+    requires bound { IsBound bound }
     ensures reads { ReadsToken S.Source s.old s.new result (number_at bound) }
     ensures within { IfOk result (λ n. n ≤ bound) }
 {
@@ -106,8 +105,7 @@ pub(crate) fn number<S: Source>(s: &mut S, bound: u32) -> Result<u32, TokenFault
 #[inline]
 #[tactic(auto, unfolding(crate::specs::state::Reading::field_at))]
 pub(crate) fn field<S: Source>(s: &mut S, bound: u32, end: u8) -> Result<u32, TokenFault>
-    requires some { 9 ≤ bound }
-    requires small { bound < 2 ^ 24 }
+    requires bound { IsBound bound }
     ensures reads { ReadsToken S.Source s.old s.new result (field_at bound end) }
     ensures within { IfOk result (λ n. n ≤ bound) }
 {
@@ -134,8 +132,7 @@ pub(crate) fn more<S: Source>(s: &mut S) -> Result<bool, TokenFault>
 #[inline]
 #[tactic(auto, unfolding(crate::specs::state::Reading::optional_at))]
 pub(crate) fn optional<S: Source>(s: &mut S, bound: u32) -> Result<u32, TokenFault>
-    requires some { 9 ≤ bound }
-    requires small { bound < 2 ^ 24 }
+    requires bound { IsBound bound }
     ensures reads { ReadsToken S.Source s.old s.new result (optional_at bound) }
     ensures within { IfOk result (λ n. n ≤ bound) }
 {

@@ -47,8 +47,7 @@ fn push_gate(block: &mut Block, gate: Gate) -> bool
 /// Puts in the deltas of the first of these gates, as many as there is room for after what waits, and answers how many.
 /// That is at least one where none waits.
 fn push_gates(block: &mut Block, gates: &[Gate]) -> usize
-    requires ready { All (λ g. (g.rhs0 < g.lhs) × (g.rhs1 ≤ g.rhs0)) gates.now }
-    requires small { All (λ g. g.lhs < 2 ^ 28) gates.now }
+    requires { All (λ g. (g.rhs0 < g.lhs) × (g.rhs1 ≤ g.rhs0) × (g.lhs < 2 ^ 28)) gates.now }
     ensures pushed { block.new ≡ block.old ++ flat_map gate_deltas (take result gates.now) }
     ensures bound { result ≤ length gates.now }
     ensures some { block.old ≡ [] → 0 < length gates.now → 0 < result }
@@ -62,8 +61,7 @@ fn push_gates(block: &mut Block, gates: &[Gate]) -> usize
 }
 
 fn put_gates<W: Write>(out: &mut W, block: &mut Block, gates: &[Gate]) -> Result<(), Io>
-    requires ready { All (λ g. (g.rhs0 < g.lhs) × (g.rhs1 ≤ g.rhs0)) gates.now }
-    requires small { All (λ g. g.lhs < 2 ^ 28) gates.now }
+    requires { All (λ g. (g.rhs0 < g.lhs) × (g.rhs1 ≤ g.rhs0) × (g.lhs < 2 ^ 28)) gates.now }
     ensures { Gathers W.written W.failures out.old out.new block.old block.new (flat_map gate_deltas gates.now) result }
 {
     let mut at = push_gates(block, gates);

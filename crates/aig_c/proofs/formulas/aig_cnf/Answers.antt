@@ -1,22 +1,14 @@
-use Rattle.std.specs.Prelude.{Ok, length, take}
-use Rattle.aig_commands.specs.Questions.{asked_of}
-use Rattle.aig_c.proofs.Flags.{formula, formula_exceeds, formula_refused}
+use Rattle.aig_command.specs.Command.{OfFile}
+use Rattle.aig_commands.specs.Cnf.{WritesFormula}
+use Rattle.aig_commands.specs.Questions.{WritesQuestion, asked_of}
+use Rattle.aig_c.specs.Answers.{Returns, query_of}
+use Rattle.aig_c.proofs.Flags.{by_flag}
 use Rattle.aig_c.proofs.formulas.aig_cnf.Goals as goal
 
-pub returns-clause-done : goal.returns-clause-done
-returns-clause-done c = λ zero_is.
-    let asked = c.question-question in
-    formula c.args.circuit.now c.args.step c.args.frames c.args.property (asked_of asked.result) asked.ensures.steps
-    asked.ensures.within (Ok tt) (take c.write_formula.new.written c.write_formula.new.room) (c.write_formula.ensures.done zero_is)
-
-pub returns-clause-refused : goal.returns-clause-refused
-returns-clause-refused c = λ one_is.
-    let asked = c.question-question in
-    formula_refused c.args.circuit.now c.args.step c.args.frames c.args.property (asked_of asked.result)
-    asked.ensures.steps asked.ensures.within (c.write_formula.ensures.refused one_is)
-
-pub returns-clause-no_room : goal.returns-clause-no_room
-returns-clause-no_room c = λ two_is.
-    let asked = c.question-question in
-    formula_exceeds c.args.circuit.now c.args.step c.args.frames c.args.property (asked_of asked.result)
-    asked.ensures.steps asked.ensures.within (length c.args.room.now) (c.write_formula.ensures.no_room two_is)
+pub returns : goal.returns
+returns c = record {
+  returns = by_flag (λ asked. Returns (WritesQuestion asked c.args.circuit.now) c.write_formula.result c.args.room.now c.write_formula.new.room c.args.written.now c.write_formula.new.written)
+      (λ step. Returns (OfFile c.args.circuit.now (WritesFormula (query_of step c.args.frames c.args.property))) c.write_formula.result c.args.room.now c.write_formula.new.room c.args.written.now c.write_formula.new.written)
+      c.args.frames c.args.property (λ m. m) (λ m. m) c.args.step (asked_of c.question-question.result) c.question-question.ensures.steps
+      c.question-question.ensures.within c.write_formula.ensures.returns;
+}

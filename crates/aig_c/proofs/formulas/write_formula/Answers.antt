@@ -1,29 +1,18 @@
-use Rattle.std.proofs.Common.{refl, ap, ◌∙◌}
-use Rattle.std.specs.Prelude.{Some, length, take}
+use Rattle.std.proofs.Common.{refl, ap}
+use Rattle.std.specs.Prelude.{Some}
 use Rattle.aig_commands.specs.Questions.{WritesQuestion, asked_of}
-use Rattle.aig_c.proofs.Endings.{done, exceeds, exceeds_part, refused}
+use Rattle.aig_c.proofs.Endings.{after_err, after_ok}
 use Rattle.aig_c.proofs.Silent.{writes}
 use Rattle.aig_c.proofs.formulas.write_formula.Goals as goal
 
-pub returns-in-Ok-cnf-clause-done : goal.returns-in-Ok-cnf-clause-done
-returns-in-Ok-cnf-clause-done c = λ zero_is.
-    done (WritesQuestion (asked_of c.args.asked.question) c.args.asked.circuit.now)
-    c.cnf.new.out.bytes (take c.answer.new.written c.answer.new.room)
-    (ap Some c.in-Ok.ensures) refl (c.answer.ensures.done zero_is ∙ c.bytes.ensures)
-    c.in-Ok-cnf.ensures.ends
+pub returns-in-Ok-cnf : goal.returns-in-Ok-cnf
+returns-in-Ok-cnf c = record {
+  returns = after_ok (WritesQuestion (asked_of c.args.asked.question) c.args.asked.circuit.now) c.cnf.new.out.bytes _ (ap Some c.in-Ok.ensures) refl
+      c.bytes.ensures c.in-Ok-cnf.ensures.ends c.answer.ensures;
+}
 
-pub returns-clause-refused : goal.returns-clause-refused
-returns-clause-refused c = λ one_is.
-    refused (WritesQuestion (asked_of c.args.asked.question) c.args.asked.circuit.now)
-    c.in-Err.fault (c.refuse.ensures.refused one_is) c.in-Err.ensures.ends
-
-pub returns-in-Ok-cnf-clause-no_room : goal.returns-in-Ok-cnf-clause-no_room
-returns-in-Ok-cnf-clause-no_room c = λ two_is.
-    exceeds (WritesQuestion (asked_of c.args.asked.question) c.args.asked.circuit.now) c.cnf.new.out.bytes _ (length c.args.room.now)
-    (ap Some c.in-Ok.ensures) refl c.bytes.ensures (c.answer.ensures.no_room two_is) c.in-Ok-cnf.ensures.ends
-
-pub returns-clause-no_room : goal.returns-clause-no_room
-returns-clause-no_room c = λ two_is.
-    exceeds_part (WritesQuestion (asked_of c.args.asked.question) c.args.asked.circuit.now) (writes (asked_of c.args.asked.question) c.args.asked.circuit.now) c.in-Err.fault
-    c.cnf.new.out.bytes _ (length c.args.room.now) (ap Some c.in-Ok.ensures) refl c.bytes-in-Err.ensures (c.refuse.ensures.no_room two_is)
-    c.in-Err.ensures.ends
+pub returns : goal.returns
+returns c = record {
+  returns = after_err (WritesQuestion (asked_of c.args.asked.question) c.args.asked.circuit.now) (writes (asked_of c.args.asked.question) c.args.asked.circuit.now)
+      c.in-Err.fault c.cnf.new.out.bytes _ (ap Some c.in-Ok.ensures) refl c.bytes-in-Err.ensures c.in-Err.ensures.ends c.refuse.ensures;
+}

@@ -1,29 +1,16 @@
-use Rattle.std.proofs.Common.{refl, ap, ◌∙◌}
-use Rattle.std.specs.Prelude.{Some, length, take}
+use Rattle.std.proofs.Common.{refl, ap}
+use Rattle.std.specs.Prelude.{Some}
 use Rattle.aig_commands.specs.Questions.{RefutesQuestion, asked_of}
-use Rattle.aig_c.proofs.Endings.{done, exceeds, exceeds_part, refused}
+use Rattle.aig_c.proofs.Endings.{after_err, after_ok}
 use Rattle.aig_c.proofs.Silent.{refutes}
 use Rattle.aig_c.proofs.refutations.refute_by.Goals as goal
 
-pub returns-in-Ok-refute-clause-done : goal.returns-in-Ok-refute-clause-done
-returns-in-Ok-refute-clause-done c = λ zero_is.
-    done (RefutesQuestion (asked_of c.args.asked.question) c.args.asked.circuit.now)
-    c.refute.new.out.bytes (take c.answer.new.written c.answer.new.room)
-    (ap Some c.in-Ok.ensures) refl (c.answer.ensures.done zero_is ∙ c.bytes.ensures)
-    c.in-Ok-refute.ensures.ends
+pub returns-in-Ok-refute-clause-returns : goal.returns-in-Ok-refute-clause-returns
+returns-in-Ok-refute-clause-returns c =
+    after_ok (RefutesQuestion (asked_of c.args.asked.question) c.args.asked.circuit.now) c.refute.new.out.bytes _ (ap Some c.in-Ok.ensures) refl
+    c.bytes.ensures c.in-Ok-refute.ensures.ends c.answer.ensures
 
-pub returns-clause-refused : goal.returns-clause-refused
-returns-clause-refused c = λ one_is.
-    refused (RefutesQuestion (asked_of c.args.asked.question) c.args.asked.circuit.now)
-    c.in-Err.fault (c.refuse.ensures.refused one_is) c.in-Err.ensures.ends
-
-pub returns-in-Ok-refute-clause-no_room : goal.returns-in-Ok-refute-clause-no_room
-returns-in-Ok-refute-clause-no_room c = λ two_is.
-    exceeds (RefutesQuestion (asked_of c.args.asked.question) c.args.asked.circuit.now) c.refute.new.out.bytes _ (length c.args.room.now)
-    (ap Some c.in-Ok.ensures) refl c.bytes.ensures (c.answer.ensures.no_room two_is) c.in-Ok-refute.ensures.ends
-
-pub returns-clause-no_room : goal.returns-clause-no_room
-returns-clause-no_room c = λ two_is.
-    exceeds_part (RefutesQuestion (asked_of c.args.asked.question) c.args.asked.circuit.now) (refutes (asked_of c.args.asked.question) c.args.asked.circuit.now) c.in-Err.fault
-    c.refute.new.out.bytes _ (length c.args.room.now) (ap Some c.in-Ok.ensures) refl c.bytes-in-Err.ensures (c.refuse.ensures.no_room two_is)
-    c.in-Err.ensures.ends
+pub returns-clause-returns : goal.returns-clause-returns
+returns-clause-returns c =
+    after_err (RefutesQuestion (asked_of c.args.asked.question) c.args.asked.circuit.now) (refutes (asked_of c.args.asked.question) c.args.asked.circuit.now)
+    c.in-Err.fault c.refute.new.out.bytes _ (ap Some c.in-Ok.ensures) refl c.bytes-in-Err.ensures c.in-Err.ensures.ends c.refuse.ensures

@@ -1,30 +1,19 @@
-use Rattle.std.proofs.Common.{refl, ap, ◌∙◌}
-use Rattle.std.specs.Prelude.{Some, length, take}
+use Rattle.std.proofs.Common.{refl, ap}
+use Rattle.std.specs.Prelude.{Some}
 use Rattle.aig_command.specs.Command.{OfFile}
 use Rattle.aig_commands.specs.Wave.{DumpsRun}
-use Rattle.aig_c.proofs.Endings.{done, exceeds, exceeds_part, refused}
+use Rattle.aig_c.proofs.Endings.{after_err, after_ok}
 use Rattle.aig_c.proofs.Silent.{dumps, of_file}
 use Rattle.aig_c.proofs.runs.aig_wave_witness.Goals as goal
 
-pub returns-in-Ok-wave_witness-clause-done : goal.returns-in-Ok-wave_witness-clause-done
-returns-in-Ok-wave_witness-clause-done c = λ zero_is.
-    done (OfFile c.args.circuit.now (DumpsRun c.args.witness.now))
-    c.wave_witness.new.out.bytes (take c.answer.new.written c.answer.new.room)
-    (ap Some c.in-Ok.ensures) refl (c.answer.ensures.done zero_is ∙ c.bytes.ensures)
-    c.in-Ok-wave_witness.ensures.ends
+pub returns-in-Ok-wave_witness : goal.returns-in-Ok-wave_witness
+returns-in-Ok-wave_witness c = record {
+  returns = after_ok (OfFile c.args.circuit.now (DumpsRun c.args.witness.now)) c.wave_witness.new.out.bytes _ (ap Some c.in-Ok.ensures) refl
+      c.bytes.ensures c.in-Ok-wave_witness.ensures.ends c.answer.ensures;
+}
 
-pub returns-clause-refused : goal.returns-clause-refused
-returns-clause-refused c = λ one_is.
-    refused (OfFile c.args.circuit.now (DumpsRun c.args.witness.now))
-    c.in-Err.fault (c.refuse.ensures.refused one_is) c.in-Err.ensures.ends
-
-pub returns-in-Ok-wave_witness-clause-no_room : goal.returns-in-Ok-wave_witness-clause-no_room
-returns-in-Ok-wave_witness-clause-no_room c = λ two_is.
-    exceeds (OfFile c.args.circuit.now (DumpsRun c.args.witness.now)) c.wave_witness.new.out.bytes _ (length c.args.room.now)
-    (ap Some c.in-Ok.ensures) refl c.bytes.ensures (c.answer.ensures.no_room two_is) c.in-Ok-wave_witness.ensures.ends
-
-pub returns-clause-no_room : goal.returns-clause-no_room
-returns-clause-no_room c = λ two_is.
-    exceeds_part (OfFile c.args.circuit.now (DumpsRun c.args.witness.now)) (of_file (DumpsRun c.args.witness.now) (dumps c.args.witness.now) c.args.circuit.now) c.in-Err.fault
-    c.wave_witness.new.out.bytes _ (length c.args.room.now) (ap Some c.in-Ok.ensures) refl c.bytes-in-Err.ensures (c.refuse.ensures.no_room two_is)
-    c.in-Err.ensures.ends
+pub returns : goal.returns
+returns c = record {
+  returns = after_err (OfFile c.args.circuit.now (DumpsRun c.args.witness.now)) (of_file (DumpsRun c.args.witness.now) (dumps c.args.witness.now) c.args.circuit.now)
+      c.in-Err.fault c.wave_witness.new.out.bytes _ (ap Some c.in-Ok.ensures) refl c.bytes-in-Err.ensures c.in-Err.ensures.ends c.refuse.ensures;
+}

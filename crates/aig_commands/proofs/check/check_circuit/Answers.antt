@@ -1,12 +1,13 @@
-use Rattle.std.proofs.Common.{[], Ok, refl}
+use Rattle.std.proofs.Common.{[], Err, Ok, refl}
 use Rattle.aig_command.specs.declared.run_fault.RunFault.TheVariants as run_faults
 use Rattle.aig_command.proofs.Files.{answered}
 use Rattle.aig_bytes.specs.Flow.{flow}
 use Rattle.aig_commands.specs.Check.{Checks, verdict_text}
+use Rattle.aig_sim.specs.declared.witness.verdict.Verdict.{Verdict}
 use Rattle.aig_commands.proofs.Printed.{none_printed, verdict_printed}
 use Rattle.aig_commands.proofs.Replays.{shows_so}
 use Rattle.aig_commands.proofs.check.check_circuit.Goals as goal
-use Rattle.aig_command.proofs.Written.{got_all, got_none, got_part}
+use Rattle.aig_command.proofs.Written.{got_all, got_none, got_part, one_at_most, output_refused}
 use Rattle.aig_command.specs.Command.{CommandEnds}
 
 pub returns-in-Ok-clause-ends : goal.returns-in-Ok-clause-ends
@@ -31,18 +32,23 @@ returns-in_err-verdict-clause-ends g c =
     (CommandEnds (flow g.W.Write.written g.W.Write.failures c.args.out.now c.args.out.now) run_faults.Output (Checks c.args.witness.now c.args.circuit.now))
     c.from_residual.ensures.1 (CommandEnds.writes_all [] (c.in_err-verdict.ensures.fault, refl) (got_none g.W.Write.written g.W.Write.failures c.args.out.now))
 
-pub returns-in-Err-clause-output : goal.returns-in-Err-clause-output
-returns-in-Err-clause-output g c = λ failed.
+pub returns-in-Err-clause-once : goal.returns-in-Err-clause-once
+returns-in-Err-clause-once g c =
     let v = c.in_ok-verdict.verdict in
-    let (w, spelled, admitted, shown) = c.in_ok-verdict.ensures.verdict in (
-      v,
-      verdict_text v,
-      (
-        shows_so c.args.circuit.now c.args.witness.now v w spelled admitted shown
-            (λ e. c.in_ok-verdict.ensures.confirmed e w spelled),
-        refl,
-      ),
-    )
+    let (w, spelled, admitted, shown) = c.in_ok-verdict.ensures.verdict in
+    record {
+      count = one_at_most g.W.Write.written g.W.Write.failures c.args.out.now c.write_verdict.new.out (verdict_text v) _ c.in-Err.ensures;
+      refused = output_refused {T = Verdict} _ (Err run_faults.Output) refl;
+      output = λ failed. (
+        v,
+        verdict_text v,
+        (
+          shows_so c.args.circuit.now c.args.witness.now v w spelled admitted shown
+              (λ e. c.in_ok-verdict.ensures.confirmed e w spelled),
+          refl,
+        ),
+      );
+    }
 
 pub returns-in-Ok-clause-printed : goal.returns-in-Ok-clause-printed
 returns-in-Ok-clause-printed g c = λ printed.

@@ -1,5 +1,5 @@
-use Rattle.std.proofs.Common.{◌≡◌, Err, inr, ap, subst}
-use Rattle.std.proofs.lemmas.Result.{on_ok_weaker}
+use Rattle.std.proofs.Common.{◌≡◌, Err, inr, ap, subst, arith}
+use Rattle.std.proofs.lemmas.Result.{err_from_is_err_and, on_ok_weaker}
 use Rattle.aig_parts.specs.declared.raw.Raw.{Raw}
 use Rattle.aig_cnf.specs.Query.{step, within}
 use Rattle.aig_cnf.specs.Formula.{Cnf}
@@ -10,7 +10,6 @@ use Rattle.aig_sat.specs.checker.Consequence.{IsUnsatisfiable}
 use Rattle.aig_sat.specs.declared.proof.fault.ProofFault.TheVariants as faults
 use Rattle.aig_refute.proofs.ReadFormulas.{read_by_induction, read_formula}
 use Rattle.aig_commands.specs.Refute.{ChecksStep}
-use Rattle.aig_commands.proofs.NamedRuns.{reports_same}
 use Rattle.aig_commands.proofs.Refutations.{checks_step}
 use Rattle.aig_commands.proofs.refute.check_step.Goals as goal
 
@@ -42,10 +41,16 @@ returns-in_err-later-clause-checks g c =
       subst (λ (r : Raw). RefusesReadFormula r (step k p) fault) c.in_ok-base.ensures.circuit c.in_err-later.ensures.refused,
     ))
 
-pub returns-in_err-check-clause-named : goal.returns-in_err-check-clause-named
-returns-in_err-check-clause-named g c = λ n is below.
+pub returns-in_err-check-clause-reads : goal.returns-in_err-check-clause-reads
+returns-in_err-check-clause-reads g c =
     let fault = c.in_err-check.field-0.0 in
-    let same : run_faults.Proof fault ≡ run_faults.Proof (faults.Step n) =
-    reports_same c.from_residual-in_err-check.result (run_faults.Proof fault) (run_faults.Proof (faults.Step n))
-    c.from_residual-in_err-check.ensures.1 is in
-    c.in_err-check.ensures.step n (ap Err (let e : fault ≡ faults.Step n = cc in e)) below
+    let check = c.in_err-check.ensures in
+    let answer = err_from_is_err_and c.from_residual-in_err-check.result c.from_residual-in_err-check.ensures.1 in
+    rw (answer.1, answer.2) (record {
+      reads = check.count;
+      reads_step = omega arith;
+      whole = λ is. check.whole (ap Err (let e : fault ≡ faults.NoRefutation = cc in e));
+      whole_step = λ is. let no : ⊥ = cc in absurd no;
+      named = λ n is. check.step n (ap Err (let e : fault ≡ faults.Step n = cc in e));
+      named_step = λ n is below. let no : ⊥ = cc in absurd no;
+    })

@@ -29,40 +29,40 @@ returns-clause-ends g c =
 
 pub returns-clause-reads : goal.returns-clause-reads
 returns-clause-reads g c = λ other.
-    c.read_and_check-checked.ensures.reads ∙ ap (λ r. g.R.Read.failures c.args.proofs.now.proof + proof_reads_failed r)
+    c.read_and_check-checked.ensures.reads.reads ∙ ap (λ r. g.R.Read.failures c.args.proofs.now.proof + proof_reads_failed r)
     (sym (answer_is (flow g.W.Write.written g.W.Write.failures c.args.out.now c.write_checked.new.out) (line_of c.query_of-query.result)
     c.read_and_check-checked.result c.write_checked.result c.write_checked.ensures.ends other))
 
 pub returns-clause-reads_step : goal.returns-clause-reads_step
 returns-clause-reads_step g c = λ other.
-    c.read_and_check-checked.ensures.reads_step ∙ ap (λ r. g.S.Read.failures c.args.proofs.now.step + step_reads_failed r)
+    c.read_and_check-checked.ensures.reads.reads_step ∙ ap (λ r. g.S.Read.failures c.args.proofs.now.step + step_reads_failed r)
     (sym (answer_is (flow g.W.Write.written g.W.Write.failures c.args.out.now c.write_checked.new.out) (line_of c.query_of-query.result)
     c.read_and_check-checked.result c.write_checked.result c.write_checked.ensures.ends other))
 
 pub returns-clause-whole : goal.returns-clause-whole
 returns-clause-whole g c = λ is.
-    c.read_and_check-checked.ensures.whole
+    c.read_and_check-checked.ensures.reads.whole
     (fault_is (flow g.W.Write.written g.W.Write.failures c.args.out.now c.write_checked.new.out) (line_of c.query_of-query.result)
     c.read_and_check-checked.result c.write_checked.result (run_faults.Proof faults.NoRefutation) c.write_checked.ensures.ends
     (λ e. let never : ⊥ = cc in never) is)
 
 pub returns-clause-whole_step : goal.returns-clause-whole_step
 returns-clause-whole_step g c = λ is.
-    c.read_and_check-checked.ensures.whole_step
+    c.read_and_check-checked.ensures.reads.whole_step
     (fault_is (flow g.W.Write.written g.W.Write.failures c.args.out.now c.write_checked.new.out) (line_of c.query_of-query.result)
     c.read_and_check-checked.result c.write_checked.result (run_faults.StepProof faults.NoRefutation) c.write_checked.ensures.ends
     (λ e. let never : ⊥ = cc in never) is)
 
 pub returns-clause-named : goal.returns-clause-named
 returns-clause-named g c = λ n is.
-    c.read_and_check-checked.ensures.named n
+    c.read_and_check-checked.ensures.reads.named n
     (fault_is (flow g.W.Write.written g.W.Write.failures c.args.out.now c.write_checked.new.out) (line_of c.query_of-query.result)
     c.read_and_check-checked.result c.write_checked.result (run_faults.Proof (faults.Step n)) c.write_checked.ensures.ends
     (λ e. let never : ⊥ = cc in never) is)
 
 pub returns-clause-named_step : goal.returns-clause-named_step
 returns-clause-named_step g c = λ n is.
-    c.read_and_check-checked.ensures.named_step n
+    c.read_and_check-checked.ensures.reads.named_step n
     (fault_is (flow g.W.Write.written g.W.Write.failures c.args.out.now c.write_checked.new.out) (line_of c.query_of-query.result)
     c.read_and_check-checked.result c.write_checked.result (run_faults.StepProof (faults.Step n)) c.write_checked.ensures.ends
     (λ e. let never : ⊥ = cc in never) is)

@@ -23,4 +23,4 @@ returns-in-Ok-clause-output g c = λ is.
     let h = c.in-Ok.ensures in
     reader_goes_well (Converts c.args.to) c.in-Ok.circuit
     (flow g.R.Read.left g.R.Read.failures c.args.reader.now c.read_from.new.reader) (λ fault bytes h. h) h.answers h.circuit h.io
-    (c.write_converted.ensures.output is)
+    (c.write_converted.ensures.once.output is)

@@ -23,4 +23,4 @@ returns-in_err-circuit-clause-ends g c =
 pub returns-clause-output : goal.returns-clause-output
 returns-clause-output g c = λ is.
     file_goes_well (Unrolls c.args.frames c.args.to) c.in_ok-circuit.circuit c.args.circuit.now c.in_ok-circuit.ensures.circuit
-    (c.unroll_circuit.ensures.output is)
+    (c.unroll_circuit.ensures.once.output is)

@@ -13,20 +13,14 @@ returns-clause-ends g c =
     (short_spelling c.args.to c.in_ok-unrolled.unrolled) c.write_short.result c.write_short.ensures.written c.write_short.ensures.output
     (c.in_ok-unrolled.unrolled, c.in_ok-unrolled.ensures.answers, refl)
 
-pub returns-clause-count : goal.returns-clause-count
-returns-clause-count g c =
-    one_at_most g.W.Write.written g.W.Write.failures c.args.out.now c.write_short.new.out (short_spelling c.args.to c.in_ok-unrolled.unrolled)
-    c.write_short.result c.write_short.ensures.written
-
-pub returns-clause-refused : goal.returns-clause-refused
-returns-clause-refused g c = output_refused _ c.write_short.result c.write_short.ensures.output
-
-pub returns-clause-output : goal.returns-clause-output
-returns-clause-output g c = λ is. (
-  tt,
-  short_spelling c.args.to c.in_ok-unrolled.unrolled,
-  (c.in_ok-unrolled.unrolled, c.in_ok-unrolled.ensures.answers, refl),
-)
+pub returns-clause-once : goal.returns-clause-once
+returns-clause-once g c =
+    let text = short_spelling c.args.to c.in_ok-unrolled.unrolled in
+    record {
+      count = one_at_most g.W.Write.written g.W.Write.failures c.args.out.now c.write_short.new.out text c.write_short.result c.write_short.ensures.written;
+      refused = output_refused _ c.write_short.result c.write_short.ensures.output;
+      output = λ is. (tt, text, (c.in_ok-unrolled.unrolled, c.in_ok-unrolled.ensures.answers, refl));
+    }
 
 pub returns-in_err-levels-clause-ends : goal.returns-in_err-levels-clause-ends
 returns-in_err-levels-clause-ends g c =

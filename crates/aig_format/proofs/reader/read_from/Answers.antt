@@ -1,12 +1,15 @@
-use Rattle.std.proofs.Common.{◌∙◌, ap, subst, List, ℕ}
-use Rattle.aig_format.specs.FileReading.{IsReading}
-use Rattle.aig_format.proofs.Holding.{first_left, reported_by}
+use Rattle.std.proofs.Common.{◌≡◌, Err, ap, ◌∙◌}
+use Rattle.std.proofs.lemmas.Result.{err_from_is_err_and}
+use Rattle.aig_parts.specs.declared.fault.Fault.TheVariants as faults
 use Rattle.aig_format.proofs.reader.read_from.Goals as goal
 
 pub returns-clause-answers : goal.returns-clause-answers
-returns-clause-answers g c = λ bytes is other.
-    let s = c.new-source.result in
-    let left = ap g.R.Read.left c.new-source.ensures.reader ∙ is in
-    subst (λ (all : List ℕ). IsReading all c.circuit.result)
-    (first_left (g.R.Read.left s.reader.now) bytes s.buffer s.start s.end c.new-source.ensures.empty left)
-    (c.circuit.ensures.answers (reported_by (g.R.Read.left s.reader.now) bytes left) other)
+returns-clause-answers g c = λ bytes is other. c.in_ok-circuit.ensures.answers bytes is (λ failed. cc)
+
+pub returns-in_err-circuit-clause-answers : goal.returns-in_err-circuit-clause-answers
+returns-in_err-circuit-clause-answers g c = λ bytes is other.
+    let fault = c.in_err-circuit.field-0.0 in
+    let p = err_from_is_err_and c.from_residual.result c.from_residual.ensures.1 in
+    rw (p.1, p.2)
+    (c.in_err-circuit.ensures.answers bytes is (λ failed.
+    let io : fault ≡ faults.Io = cc in other (p.1 ∙ ap Err (p.2 ∙ io))))

@@ -14,18 +14,8 @@ add_row-requires-clause-limit g c =
     rw (c.cells.ensures.count, c.frames-frames.ensures.frames) at c.if-cells-gt-CELLS.false in
     room_added driven _ _ k.working.work.laid_out limit
 
-pub fill-requires-clause-frame : goal.fill-requires-clause-frame
-fill-requires-clause-frame g c =
-    let k = held c.engine.invariant c.engine.view_is c.self.invariant in
-    let driven = c.engine.inside.driven in
-    let w = k.working.work in
-    let more = frames_more driven c.push.new.self c.args.row.now (g.G.Grid.cells c.engine.inside.grid)
-    (g.G.Grid.cells c.engine.inside.grid) (g.G.Grid.cells c.engine.inside.grid) w.driven_is.circuit.sound
-    k.working.bench.current c.in-Ok.ensures.ok in
-    omega (arith, more, c.frames-frames.ensures.frames)
-
-pub fill-requires-clause-before : goal.fill-requires-clause-before
-fill-requires-clause-before g c =
+pub fill-requires-clause-next : goal.fill-requires-clause-next
+fill-requires-clause-next g c =
     let k = held c.engine.invariant c.engine.view_is c.self.invariant in
     let driven = c.engine.inside.driven in
     let w = k.working.work in
@@ -33,9 +23,15 @@ fill-requires-clause-before g c =
     rw (c.cells.ensures.count, c.frames-frames.ensures.frames) at c.if-cells-gt-CELLS.false in
     let few : length driven.stimulus.rows < frame_limit = omega (arith, c.frames-frames.ensures.frames) in
     let wide = c.if-row-width.false ∙ c.width.ensures.width in
-    rw c.frames-frames.ensures.frames
-    (before_first _ _ _ (current_added driven c.push.new.self c.args.row.now w.driven_is c.in-Ok.ensures.ok wide few limit _ _ _
-    k.working.bench.current w.laid_out.rows_are.frames_are c.in_ok-add_row.ensures.ok))
+    let more = frames_more driven c.push.new.self c.args.row.now (g.G.Grid.cells c.engine.inside.grid)
+    (g.G.Grid.cells c.engine.inside.grid) (g.G.Grid.cells c.engine.inside.grid) w.driven_is.circuit.sound
+    k.working.bench.current c.in-Ok.ensures.ok in
+    record {
+      frame = omega (arith, more, c.frames-frames.ensures.frames);
+      before = rw c.frames-frames.ensures.frames
+          (before_first _ _ _ (current_added driven c.push.new.self c.args.row.now w.driven_is c.in-Ok.ensures.ok wide few limit _ _ _
+          k.working.bench.current w.laid_out.rows_are.frames_are c.in_ok-add_row.ensures.ok));
+    }
 
 pub invariant_of-engine-2 : goal.invariant_of-engine-2
 invariant_of-engine-2 g c =

@@ -17,7 +17,7 @@ invariant_of-self g c =
     let d = c.fill_latches.new.self in
     let same = ap (λ (s : EngineState). s.pair) c.self.view_is ∙ pair_kept b d c.fill_latches.ensures.fills.same
     ∙ pair_kept a b c.fill_inputs.ensures.fills.same in
-    let lt = subst (λ (p : CircuitAndRows). t < length p.rows) (sym same) c.requires.frame in
+    let lt = subst (λ (p : CircuitAndRows). t < length p.rows) (sym same) c.requires.next.frame in
     record {
       work = record {
         driven_is = w.driven_is;
@@ -45,7 +45,7 @@ returns-clause-current g c =
     let x = c.fill_inputs.ensures in
     let y = c.fill_latches.ensures in
     let same = ap (λ (s : EngineState). s.pair) c.self.view_is ∙ pair_kept b d y.fills.same ∙ pair_kept a b x.fills.same in
-    let lt = subst (λ (p : CircuitAndRows). t < length p.rows) (sym same) c.requires.frame in
+    let lt = subst (λ (p : CircuitAndRows). t < length p.rows) (sym same) c.requires.next.frame in
     subst (λ (p : CircuitAndRows). IsCurrentRow p t (row_at (g.G.Grid.cells c.sweep.new.grid) t)) same
     (current_swept c.self.inside.driven _ (g.G.Grid.gate_flags c.sweep.new.grid) _ _ t gates w.driven_is w.laid_out lt full e
     (subst (λ (s : EngineState). HoldsInputsInPair s.pair t (row_at s.cells t)) (sym c.self.view_is)

@@ -1,8 +1,8 @@
-use Rattle.std.proofs.Common.{◌≡◌, ◌+◌, refl, arith, length, ap, sym, subst}
+use Rattle.std.proofs.Common.{◌≡◌, ◌+◌, ◌<◌, refl, arith, length, ap, sym, subst}
 use Rattle.aig_values.specs.InputRows.{row_at}
 use Rattle.aig_bench.specs.declared.engine.sweep_order.Way.{Way}
 use Rattle.aig_bench.specs.BenchState.{CircuitAndRows}
-use Rattle.aig_bench.specs.state.Current.{IsCurrentBefore, IsCurrentRow}
+use Rattle.aig_bench.specs.state.Current.{IsCurrentRow, IsNext}
 use Rattle.aig_bench.specs.state.Engine.{EngineState}
 use Rattle.aig_bench.specs.state.SweepOrder.{IsKnownOrder}
 use Rattle.aig_bench.proofs.edits.Edited.{before_first, current_more, fewer_current, none_current}
@@ -23,12 +23,14 @@ pub fill-requires-clause-known : goal.fill-requires-clause-known
 fill-requires-clause-known g c =
     subst (λ (w : Way). IsKnownOrder w) (sym (ap (λ (s : EngineState). s.way) c.loop-frame.invariant.fills)) c.requires.known
 
-pub fill-requires-clause-before : goal.fill-requires-clause-before
-fill-requires-clause-before g c =
+pub fill-requires-clause-next : goal.fill-requires-clause-next
+fill-requires-clause-next g c =
     let i = c.loop-frame.invariant in
-    subst (λ (p : CircuitAndRows). IsCurrentBefore p c.loop-frame.frame c.loop-frame.self.cells)
-    (sym (pair_kept c.args.self.now c.loop-frame.self i.fills))
-    (before_first c.args.self.now.pair c.loop-frame.frame _ i.current)
+    let a = c.args.self.now in
+    let size : length c.self.inside.driven.stimulus.rows ≡ length a.pair.rows = ap (λ (x : EngineState). length x.pair.rows) c.self.view_is in
+    let lt : c.loop-frame.frame < length a.pair.rows = omega (arith, c.frames-frame-end.ensures.frames) in
+    subst (λ (p : CircuitAndRows). IsNext p c.loop-frame.frame c.loop-frame.self.cells) (sym (pair_kept a c.loop-frame.self i.fills))
+    (record { frame = lt; before = before_first a.pair c.loop-frame.frame _ i.current })
 
 pub loop-frame-preserved : goal.loop-frame-preserved
 loop-frame-preserved g c =

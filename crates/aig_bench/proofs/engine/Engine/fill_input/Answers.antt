@@ -10,36 +10,22 @@ use Rattle.aig_bench.specs.state.Filled.{FillsSource}
 use Rattle.aig_bench.proofs.cells.Values.{input_value}
 use Rattle.aig_bench.proofs.engine.Engine.fill_input.Goals as goal
 
-pub fill_source-requires-clause-positive : goal.fill_source-requires-clause-positive
-fill_source-requires-clause-positive g c =
+pub fill_source-requires : goal.fill_source-requires
+fill_source-requires g c =
     let p = c.self.inside.driven in
     let l = c.index-inputs-position.result in
     let place : c.args.position < length p.circuit.inputs = rw (← c.self.view_is) at c.requires.position in
     let at : slice_get p.circuit.inputs c.args.position ≡ Some l =
     item_at _ _ c.args.position l c.inputs.ensures (rw c.inputs.ensures place) c.index-inputs-position.is in
-    let definition = input_definition p.circuit c.self.invariant.work.driven_is.circuit.sound c.args.position l at in
-    rw c.var.ensures (omega arith)
-
-pub fill_source-requires-clause-source : goal.fill_source-requires-clause-source
-fill_source-requires-clause-source g c =
-    let p = c.self.inside.driven in
-    let l = c.index-inputs-position.result in
-    let place : c.args.position < length p.circuit.inputs = rw (← c.self.view_is) at c.requires.position in
-    let at : slice_get p.circuit.inputs c.args.position ≡ Some l =
-    item_at _ _ c.args.position l c.inputs.ensures (rw c.inputs.ensures place) c.index-inputs-position.is in
-    rw (c.var.ensures, ← c.self.view_is) (by.IsSource.input c.args.position l at)
-
-pub fill_source-requires-clause-value : goal.fill_source-requires-clause-value
-fill_source-requires-clause-value g c =
-    let p = c.self.inside.driven in
-    let l = c.index-inputs-position.result in
-    let place : c.args.position < length p.circuit.inputs = rw (← c.self.view_is) at c.requires.position in
-    let at : slice_get p.circuit.inputs c.args.position ≡ Some l =
-    item_at _ _ c.args.position l c.inputs.ensures (rw c.inputs.ensures place) c.index-inputs-position.is in
+    let sound = c.self.invariant.work.driven_is.circuit.sound in
+    let definition = input_definition p.circuit sound c.args.position l at in
     let inside : c.args.frame < length p.stimulus.rows = rw (← c.self.view_is) at c.requires.frame in
-    rw (c.var.ensures, ← c.self.view_is)
-    (input_value (pair_of p) c.args.frame c.args.position l c.get-value.result c.self.invariant.work.driven_is.circuit.sound inside at
-    c.get-value.ensures)
+    rw (c.var.ensures, ← c.self.view_is) (record {
+      frame = inside;
+      positive = omega arith;
+      source = by.IsSource.input c.args.position l at;
+      value = input_value (pair_of p) c.args.frame c.args.position l c.get-value.result sound inside at c.get-value.ensures;
+    })
 
 pub returns : goal.returns
 returns g c l is =

@@ -21,7 +21,7 @@ returns-then-frame-eq0-clause-value g c =
 pub returns-else-frame-eq0-clause-value : goal.returns-else-frame-eq0-clause-value
 returns-else-frame-eq0-clause-value g c =
     let (i, at) = rw (← c.self.view_is) at c.requires.latch in
-    let before = rw (← c.self.view_is) at c.requires.before in
+    let before = rw (← c.self.view_is) at c.requires.next.before in
     let p = pair_of c.self.inside.driven in
     let sound = c.self.invariant.work.driven_is.circuit.sound in
     let e : c.args.frame ≡ suc (c.args.frame - 1) = omega (arith, c.if-frame-eq0.false) in

@@ -18,14 +18,17 @@ pub force-requires : goal.force-requires
 force-requires g c v k =
     subst (λ (p : CircuitAndRows). IsGate p.circuit v) (sym c.loop-frame.invariant.renews.pair) (c.requires.cells.gates v k)
 
-pub pass-more-requires-clause-before : goal.pass-more-requires-clause-before
-pass-more-requires-clause-before g c =
+pub pass-more-requires : goal.pass-more-requires
+pass-more-requires g c =
     let a = c.args.self.now in
     let sound = subst (λ (x : EngineState). IsSound x.pair.circuit) c.self.view_is c.self.invariant.work.driven_is.circuit.sound in
     let size : length c.self.inside.driven.stimulus.rows ≡ length a.pair.rows = ap (λ (x : EngineState). length x.pair.rows) c.self.view_is in
     let lt : c.loop-frame.frame < length a.pair.rows = omega (arith, c.frames-frame-end.ensures.frames) in
-    before_pass c.args.forced.now c.args.first c.loop-frame.frame a c.loop-frame.self c.force.new.self _ sound c.requires (omega arith) lt
-    c.loop-frame.invariant.renews c.force.ensures.same c.force.ensures.queued
+    record {
+      frame = rw (c.force.ensures.same, c.loop-frame.invariant.renews.pair) lt;
+      before = before_pass c.args.forced.now c.args.first c.loop-frame.frame a c.loop-frame.self c.force.new.self _ sound c.requires
+          (omega arith) lt c.loop-frame.invariant.renews c.force.ensures.same c.force.ensures.queued;
+    }
 
 pub loop-frame-preserved : goal.loop-frame-preserved
 loop-frame-preserved g c =

@@ -9,39 +9,25 @@ use Rattle.aig_bench.proofs.renewals.Renewing.{before_bit, stale_from_bit, renew
 use Rattle.aig_bench.proofs.cells.Values.{input_value}
 use Rattle.aig_bench.proofs.engine.Engine.renew_input.Goals as goal
 
-pub put-requires-clause-positive : goal.put-requires-clause-positive
-put-requires-clause-positive g c =
+pub put-requires : goal.put-requires
+put-requires g c =
     let p = c.self.inside.driven in
     let l = c.index-inputs-position.result in
     let place : c.args.position < length p.circuit.inputs = rw (← c.self.view_is) at c.requires.position in
     let at : slice_get p.circuit.inputs c.args.position ≡ Some l =
     item_at _ _ c.args.position l c.inputs.ensures (rw c.inputs.ensures place) c.index-inputs-position.is in
-    let definition = input_definition p.circuit c.self.invariant.work.driven_is.circuit.sound c.args.position l at in
-    rw c.var.ensures (omega arith)
-
-pub put-requires-clause-source : goal.put-requires-clause-source
-put-requires-clause-source g c =
-    let p = c.self.inside.driven in
-    let l = c.index-inputs-position.result in
-    let place : c.args.position < length p.circuit.inputs = rw (← c.self.view_is) at c.requires.position in
-    let at : slice_get p.circuit.inputs c.args.position ≡ Some l =
-    item_at _ _ c.args.position l c.inputs.ensures (rw c.inputs.ensures place) c.index-inputs-position.is in
-    rw (c.var.ensures, ← c.self.view_is) (by.IsSource.input c.args.position l at)
-
-pub put-requires-clause-value : goal.put-requires-clause-value
-put-requires-clause-value g c =
-    let p = c.self.inside.driven in
-    let l = c.index-inputs-position.result in
-    let place : c.args.position < length p.circuit.inputs = rw (← c.self.view_is) at c.requires.position in
-    let at : slice_get p.circuit.inputs c.args.position ≡ Some l =
-    item_at _ _ c.args.position l c.inputs.ensures (rw c.inputs.ensures place) c.index-inputs-position.is in
+    let sound = c.self.invariant.work.driven_is.circuit.sound in
+    let definition = input_definition p.circuit sound c.args.position l at in
     let inside : c.args.frame < length p.stimulus.rows = rw (← c.self.view_is) at c.requires.frame in
-    rw (c.var.ensures, ← c.self.view_is)
-    (input_value (pair_of p) c.args.frame c.args.position l c.get-value.result c.self.invariant.work.driven_is.circuit.sound inside at
-    c.get-value.ensures)
+    rw (c.var.ensures, ← c.self.view_is) (record {
+      frame = inside;
+      positive = omega arith;
+      source = by.IsSource.input c.args.position l at;
+      value = input_value (pair_of p) c.args.frame c.args.position l c.get-value.result sound inside at c.get-value.ensures;
+    })
 
-pub pass-first-requires-clause-before : goal.pass-first-requires-clause-before
-pass-first-requires-clause-before g c =
+pub pass-first-requires : goal.pass-first-requires
+pass-first-requires g c =
     let s = c.args.self.now in
     let p = c.self.inside.driven in
     let l = c.index-inputs-position.result in
@@ -50,7 +36,11 @@ pass-first-requires-clause-before g c =
     subst (λ (x : EngineState). slice_get x.pair.circuit.inputs c.args.position ≡ Some l) c.self.view_is
     (item_at _ _ c.args.position l c.inputs.ensures (rw c.inputs.ensures place) c.index-inputs-position.is) in
     let sound = subst (λ (x : EngineState). IsSound x.pair.circuit) c.self.view_is c.self.invariant.work.driven_is.circuit.sound in
-    before_bit s c.put.new.self sound c.args.frame c.args.position l c.requires.stale c.requires.frame at (rw c.var.ensures at c.put.ensures)
+    record {
+      frame = rw c.put.ensures.row.pair c.requires.frame;
+      before = before_bit s c.put.new.self sound c.args.frame c.args.position l c.requires.stale c.requires.frame at
+          (rw c.var.ensures at c.put.ensures);
+    }
 
 pub renew_from-rest-requires : goal.renew_from-rest-requires
 renew_from-rest-requires g c =

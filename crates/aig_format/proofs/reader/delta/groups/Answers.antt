@@ -16,7 +16,7 @@ loop-k-init g c = record {
 pub returns-in-None : goal.returns-in-None
 returns-in-None g c =
     let e = c.in_ok-next.ensures in
-    let kept = keeps_step c.loop-k.invariant.keeps e.reported e.reader e.failures e.never_more in
+    let kept = keeps_step c.loop-k.invariant.keeps e.keeps.reported e.keeps.reader e.keeps.failures e.keeps.never_more in
     record {
       reads = keeps_reads kept (λ n. refl) (λ reported.
           number_cut (4 - c.loop-k.k) c.loop-k.k c.loop-k.value c.loop-k.weight (g.S.Source.left c.loop-k.s)
@@ -27,7 +27,7 @@ returns-in-None g c =
 pub returns-then-is_spare : goal.returns-then-is_spare
 returns-then-is_spare g c =
     let e = c.in_ok-next.ensures in
-    let kept = keeps_step c.loop-k.invariant.keeps e.reported e.reader e.failures e.never_more in
+    let kept = keeps_step c.loop-k.invariant.keeps e.keeps.reported e.keeps.reader e.keeps.failures e.keeps.never_more in
     record {
       reads = keeps_reads kept (λ n. refl) (λ reported.
           number_last (4 - c.loop-k.k) c.loop-k.k c.loop-k.value c.loop-k.weight c.in-Some.byte (g.S.Source.left c.loop-k.s)
@@ -50,7 +50,7 @@ overflow_add-result g c =
 pub returns-then-byte-lt128 : goal.returns-then-byte-lt128
 returns-then-byte-lt128 g c =
     let e = c.in_ok-next.ensures in
-    let kept = keeps_step c.loop-k.invariant.keeps e.reported e.reader e.failures e.never_more in
+    let kept = keeps_step c.loop-k.invariant.keeps e.keeps.reported e.keeps.reader e.keeps.failures e.keeps.never_more in
     record {
       reads = keeps_reads kept (λ n. refl) (λ reported.
           number_last (4 - c.loop-k.k) c.loop-k.k c.loop-k.value c.loop-k.weight c.in-Some.byte (g.S.Source.left c.loop-k.s)
@@ -86,7 +86,7 @@ loop-k-preserved g c =
           (rw c.in-Some.is at (c.in_ok-next.ensures.bytes (i.keeps.reported reported))) c.if-byte-lt128.false (search rules) (i.bytes reported));
       worth = ap (λ (t : ℕ). t * 128) i.worth ∙ worth_more c.loop-k.k;
       below = omega (arith, i.below, mul-le c.loop-k.weight (c.in-Some.byte - 128) c.loop-k.weight 127 (omega arith) (search rules));
-      keeps = let e = c.in_ok-next.ensures in keeps_step i.keeps e.reported e.reader e.failures e.never_more;
+      keeps = let e = c.in_ok-next.ensures in keeps_step i.keeps e.keeps.reported e.keeps.reader e.keeps.failures e.keeps.never_more;
     }
 
 pub returns : goal.returns

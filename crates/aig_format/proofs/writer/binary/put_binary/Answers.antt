@@ -31,5 +31,6 @@ pub returns : goal.returns
 unfolding binary
 returns g c = gathers_then (gathers_then (gathers_then (gathers_then (gathers_same c.in_ok-put_header.ensures (ap (λ counts. header_line Binary 0 (in_line counts)) c.counts_of.ensures.counts)) (gathers_same c.in_ok-put_latches.ensures (ap (flat_map (implicit_latch_line false)) c.latches.ensures ∙ sym (plain_lines implicit_latch_line c.args.circuit.now.latches)))) c.in_ok-put_properties.ensures) (gathers_same c.in_ok-put_gates.ensures (ap (flat_map gate_deltas) c.gates.ensures))) c.put_names.ensures
 
-pub put_gates-requires-clause-small : goal.put_gates-requires-clause-small
-put_gates-requires-clause-small g c = rw c.gates.ensures (small_gates c.args.circuit.now c.counts_of.ensures.circuit)
+pub put_gates-requires : goal.put_gates-requires
+put_gates-requires g c = rw c.gates.ensures (λ k d lt.
+    let ready = c.requires.gates k d lt in (ready.0, ready.1, small_gates c.args.circuit.now c.counts_of.ensures.circuit k d lt))
