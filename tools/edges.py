@@ -8,8 +8,7 @@ docs/floors.svg, with crates.txt.
   libraries either, and no file of its src/ names such a module of std.
 - ARCHITECTURE.md has a table with a row for each floor and, below it, one for each crate. Its last column has the
   libraries of the repository on which the crate stands, without those on which these stand.
-- A name of a type has one meaning in a crate and the crates that it stands on. `tools/two_meanings.txt` has the names
-  of which that is not true yet; it may only shrink.
+- A name of a type has one meaning in a crate and the crates that it stands on.
 - The picture has the floors, the crates, these edges, and the longest chain by its lines of src and proofs, in
   thousands (tools/draw_floors.py).
 
@@ -28,7 +27,6 @@ from sources.specs import ROOT
 LIST = ROOT / "crates.txt"
 PAGE = ROOT / "docs" / "ARCHITECTURE.md"
 PICTURE = ROOT / "docs" / "floors.svg"
-TWO_MEANINGS = ROOT / "tools" / "two_meanings.txt"
 # A type that an implementation names for its trait is none of the crate's: its line is indented.
 _TYPE = re.compile(r"(?m)^(?:pub(?:\([^)]*\))?\s+)?(?:struct|enum|trait|type|union)\s+([A-Z]\w*)")
 TABLE = "| crate | holds | stands on |"
@@ -127,13 +125,9 @@ def with_two_meanings(libraries):
 
 
 def wrong_meanings(libraries):
-    """Yields what tools/two_meanings.txt says wrong."""
-    known = set(TWO_MEANINGS.read_text(encoding="utf-8").split())
-    found = with_two_meanings(libraries)
-    for word in sorted(found - known):
+    """Yields the names of types with two meanings."""
+    for word in sorted(with_two_meanings(libraries)):
         yield f"{word} names two types, in one crate or in one that stands on the other: give one of them another name"
-    for word in sorted(known - found):
-        yield f"tools/two_meanings.txt: {word} has one meaning now: take it out"
 
 
 def table(all_floors, libraries, held):

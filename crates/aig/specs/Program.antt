@@ -10,7 +10,7 @@ use Rattle.aig_cli.specs.Table.{HoldsWords}
 use Rattle.aig_files.specs.ExitStatus.{status_of_exit}
 use Rattle.aig_files.specs.Source.{source_remaining}
 use Rattle.aig_files.specs.declared.exit.Exit.{Exit}
-use Rattle.aig_files.specs.declared.source.Source.{Source}
+use Rattle.aig_files.specs.declared.source.FileSource.{FileSource}
 use Rattle.aig_program.specs.Arguments.{IsUnparsed}
 use Rattle.aig_program.specs.Choice.{Chooses}
 use Rattle.aig_program.specs.Commands.{EndsAsMeant, MeansGood}
@@ -31,7 +31,7 @@ EndsAsOpened out left (Err exit) result = result ≡ Err exit
 -- a run ends as its arguments mean, where the type of a file says which bytes it has left, for some writer
 abbrev pub RunsAsMeant : {F : Type 0} → (F → Option (List ℕ)) → ArgMatches → Result (Unit {0}) Exit → Type 0
 RunsAsMeant {F} left matches result =
-    (opened : Result (Chosen (Source F)) Exit) × IfOk opened (Chooses matches)
+    (opened : Result (Chosen (FileSource F)) Exit) × IfOk opened (Chooses matches)
     × ((out : Flow Seen) × EndsAsOpened out (source_remaining left) opened result)
 
 -- A run of the program ends as the words of its arguments mean, or they were not parsed.

@@ -5,7 +5,7 @@ ghost use Rattle.aig.specs.Sessions.{EndsSession, HoldsSession};
 
 use aig_base::{Std, Write};
 use aig_command::RunFault;
-use aig_files::{Exit, Kept, Part, Terminals, Unwritten, read_whole};
+use aig_files::{Exit, KeptFileNames, Part, Terminals, Unwritten, read_whole};
 use aig_program::commands::shell::Shell;
 use aig_program::ended::ended;
 use aig_program::{Failure, keep_texts, read_given_file, text_of_given};
@@ -81,7 +81,7 @@ where
             Some(second) => (Some(name_of(second.name, 1)?), second.text),
             None => (None, b""),
         };
-        let names = Kept {
+        let names = KeptFileNames {
             circuit: Some(circuit),
             stimulus,
         };

@@ -4,7 +4,7 @@ ghost use Rattle.aig_files.specs.Source.{source_name};
 
 use crate::exit::Exit;
 use crate::part::Part;
-use crate::source::{Opened, Source};
+use crate::source::{FileSource, Opened};
 use crate::standard_output::StandardOutput;
 use crate::terminal::Terminals;
 use aig_base::{Buffered, Std};
@@ -18,7 +18,7 @@ pub fn open<'m, R: Files>(rt: &R, name: &'m str, part: Part) -> Result<Opened<'m
     ensures name { IfOk result (λ file. source_name file ≡ name.now) }
 {
     match fs::open(rt, name) {
-        Ok(file) => Ok(Source::new(name, file)),
+        Ok(file) => Ok(FileSource::new(name, file)),
         Err(_) => Err(Exit::Unread(part)),
     }
 }

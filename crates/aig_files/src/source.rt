@@ -12,14 +12,14 @@ use std::io::{self, Cursor, ErrorKind, Read};
 
 /// A file that an argument names, as a command reads it. `open` alone makes one of an open file, and nothing changes its
 /// name, so that file has this name.
-pub struct Source<'a, F: Drop> {
+pub struct FileSource<'a, F: Drop> {
     // Empty where no argument names a file.
     name: &'a str,
     content: Content<F>,
 }
 
 /// A file of the system that a run has opened by its name.
-pub type Opened<'a, R> = Source<'a, <R as Files>::File>;
+pub type Opened<'a, R> = FileSource<'a, <R as Files>::File>;
 
 /// An open file, or the bytes of one that was read before.
 enum Content<F: Drop> {
@@ -35,9 +35,9 @@ pub struct Whole<'a> {
 }
 
 // By hand: a value then ends in one call, which is one step of a proof (docs/PROOFS.md, Habits).
-impl<F: Drop> Drop for Source<'_, F> {
+impl<F: Drop> Drop for FileSource<'_, F> {
     fn drop(self) {
-        let Source {
+        let FileSource {
             name: _,
             content: _,
         } = self;
@@ -52,27 +52,27 @@ impl<F: Drop> Drop for Content<F> {
     }
 }
 
-impl<'a, F: Drop> Source<'a, F> {
+impl<'a, F: Drop> FileSource<'a, F> {
     /// Of an open file, by the name that it was opened by.
-    pub(crate) fn new(name: &'a str, file: F) -> Source<'a, F>
+    pub(crate) fn new(name: &'a str, file: F) -> FileSource<'a, F>
         ensures name { source_name result ≡ name.now }
     {
-        Source {
+        FileSource {
             name,
             content: Content::File(file),
         }
     }
 
     /// What stands for a file that no argument names: there is nothing to read.
-    pub fn none(alloc: Global) -> Source<'a, F> {
-        Source {
+    pub fn none(alloc: Global) -> FileSource<'a, F> {
+        FileSource {
             name: "",
             content: Content::Bytes(Cursor::new(Vec::new(alloc))),
         }
     }
 }
 
-impl<'a, F: Read + Drop> Source<'a, F> {
+impl<'a, F: Read + Drop> FileSource<'a, F> {
     /// Reads all bytes that are left. A read that fails is never taken for the end of the file.
     pub fn read_whole(self, alloc: Global, part: Part) -> Result<Whole<'a>, Exit>
         ensures name { IfOk result (λ file. whole_name file ≡ source_name self.entry) }
@@ -87,7 +87,7 @@ impl<'a, F: Read + Drop> Source<'a, F> {
 }
 
 /// Returns what the system says of a file, if it is open.
-pub fn metadata_of<F: OpenFile + Drop>(source: &Source<'_, F>) -> io::Result<Metadata> {
+pub fn metadata_of<F: OpenFile + Drop>(source: &FileSource<'_, F>) -> io::Result<Metadata> {
     match &source.content {
         Content::File(file) => file.metadata(),
         Content::Bytes(_) => Err(io::Error::from(ErrorKind::Unsupported)),
@@ -103,18 +103,18 @@ impl<'a> Whole<'a> {
     }
 
     /// As a command reads it.
-    pub fn into_source<F: Drop>(self) -> Source<'a, F>
+    pub fn into_source<F: Drop>(self) -> FileSource<'a, F>
         ensures name { source_name result ≡ whole_name self.entry }
         ensures left { source_remaining (λ file. None) result ≡ Some (whole_bytes self.entry) }
     {
-        Source {
+        FileSource {
             name: self.name,
             content: Content::Bytes(Cursor::new(self.bytes)),
         }
     }
 }
 
-impl<F: Read + Drop> Read for Source<'_, F> {
+impl<F: Read + Drop> Read for FileSource<'_, F> {
     ghost remaining = { source_remaining F.remaining };
 
     fn read(&mut self, buffer: &mut [u8]) -> io::Result<usize> {

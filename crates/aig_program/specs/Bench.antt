@@ -5,14 +5,14 @@ use Rattle.clap.specs.declared.parser.matches.ArgMatches.{ArgMatches}
 use Rattle.aig_bytes.specs.Flow.{Flow}
 use Rattle.aig_script.specs.Bench.{LeavesBench}
 use Rattle.aig_files.specs.declared.exit.Exit.{Exit}
-use Rattle.aig_files.specs.declared.source.Source.{Source}
+use Rattle.aig_files.specs.declared.source.FileSource.{FileSource}
 use Rattle.aig_program.specs.ChosenFiles.{HoldsKept, IsCircuitOf, IsNamedBy}
 use Rattle.aig_program.specs.Ends.{EndsKeeping, OfText, Seen}
 use Rattle.aig_command.specs.declared.run_fault.RunFault.TheVariants as run_faults
 use Rattle.aig_command.specs.declared.script_fault.ScriptFault.TheVariants as scripts
 use Rattle.aig_program.specs.declared.commands.bench.BenchReplies.{BenchReplies}
 
-abbrev pub OpensBench : {F : Type 0} → ArgMatches → BenchReplies (Source F) → Type 0
+abbrev pub OpensBench : {F : Type 0} → ArgMatches → BenchReplies (FileSource F) → Type 0
 OpensBench matches it =
     IsCircuitOf matches it.circuit × IsNamedBy matches (codes "STIM") it.stimulus
     × IsNamedBy matches (codes "SCRIPT") it.script × HoldsKept matches it.kept

@@ -7,7 +7,7 @@ use Rattle.aig_command.specs.Command.{OfFile}
 use Rattle.aig_commands.specs.Check.{AreConfirmed}
 use Rattle.aig_commands.specs.CheckAlive.{AreAlive, ChecksRun}
 use Rattle.aig_files.specs.declared.exit.Exit.{Exit}
-use Rattle.aig_files.specs.declared.source.Source.{Source}
+use Rattle.aig_files.specs.declared.source.FileSource.{FileSource}
 use Rattle.aig_cli.specs.Held.{HoldsFlag, HoldsNumber}
 use Rattle.aig_program.specs.Chosen.{HoldsReached, HoldsShown}
 use Rattle.aig_program.specs.ChosenFiles.{IsCircuitOf, IsNamedBy}
@@ -16,7 +16,7 @@ use Rattle.aig_command.specs.declared.run_fault.RunFault.TheVariants as run_faul
 use Rattle.aig_program.specs.declared.commands.check.Check.{Check}
 use Rattle.aig_program.specs.declared.commands.check.CheckAlive.{CheckAlive}
 
-abbrev pub OpensCheck : {F : Type 0} → ArgMatches → Check (Source F) → Type 0
+abbrev pub OpensCheck : {F : Type 0} → ArgMatches → Check (FileSource F) → Type 0
 OpensCheck matches it =
     HoldsFlag matches (codes "alive") false × HoldsShown matches it.shown
     × HoldsReached matches it.circuit it.property × IsCircuitOf matches it.circuit
@@ -32,7 +32,7 @@ abbrev pub GoodCheck : {F : Type 0} → (F → Option (List ℕ)) → Check F �
 GoodCheck left it = IfSome (left it.circuit) (λ file. IfSome (left it.witness) (AreConfirmed it.property file))
 
 -- with `--alive`
-abbrev pub OpensCheckAlive : {F : Type 0} → ArgMatches → CheckAlive (Source F) → Type 0
+abbrev pub OpensCheckAlive : {F : Type 0} → ArgMatches → CheckAlive (FileSource F) → Type 0
 OpensCheckAlive matches it =
     HoldsFlag matches (codes "alive") true × HoldsNumber matches (codes "K") it.frames
     × IsCircuitOf matches it.circuit × IsNamedBy matches (codes "WITNESS") it.witness

@@ -3,7 +3,7 @@
 use Rattle.std.specs.Prelude.{ℕ, List, codes}
 use Rattle.clap.specs.declared.parser.matches.ArgMatches.{ArgMatches}
 use Rattle.aig_cli.specs.Held.{HoldsSubcommand}
-use Rattle.aig_files.specs.declared.source.Source.{Source}
+use Rattle.aig_files.specs.declared.source.FileSource.{FileSource}
 use Rattle.aig_program.specs.Commands.{Opens}
 use Rattle.aig_program.specs.Shell.{OpensShell}
 use Rattle.aig_program.specs.declared.chosen.Chosen.{Chosen}
@@ -11,7 +11,7 @@ use Rattle.aig_program.specs.declared.chosen.Chosen.TheVariants as chosen
 
 -- the arguments choose a command: it is that of their subcommand, with its options and the files that they name; or a
 -- session, with its files
-abbrev pub Chooses : {F : Type 0} → ArgMatches → Chosen (Source F) → Type 0
+abbrev pub Chooses : {F : Type 0} → ArgMatches → Chosen (FileSource F) → Type 0
 Chooses matches (chosen.Command command) =
     (name : List ℕ) × (own : ArgMatches) × HoldsSubcommand matches name own × Opens name own command
 Chooses matches (chosen.Session session) =

@@ -14,7 +14,7 @@ use Rattle.aig_signals.specs.declared.form.Form.TheVariants.{Json, Text}
 use Rattle.aig_signals.specs.Property.{IsNumbered}
 use Rattle.aig_command.specs.Position.{IsPositionIn}
 use Rattle.aig_files.specs.Source.{source_remaining}
-use Rattle.aig_files.specs.declared.source.Source.{Source}
+use Rattle.aig_files.specs.declared.source.FileSource.{FileSource}
 use Rattle.aig_cli.specs.Held.{HoldsFlag, HoldsNumber}
 use Rattle.aig_commands.specs.declared.check.Shown.{Shown}
 use Rattle.aig_commands.specs.declared.check.Shown.TheVariants.{Properties, Trace}
@@ -38,14 +38,14 @@ HoldsSection matches name Bad = first_value (found_of matches) name ≢ Some (co
 
 -- a text names the property of a section at this position: by its number, or else by its name in the circuit that is
 -- read, whose bytes are all there
-abbrev pub NamesIn : {F : Type 0} → PropertySection → List ℕ → Source F → ℕ → Type 0
+abbrev pub NamesIn : {F : Type 0} → PropertySection → List ℕ → FileSource F → ℕ → Type 0
 NamesIn section text circuit property =
     IsNumbered section text property
     ⊎ ((file : List ℕ) × (source_remaining (λ file. None) circuit ≡ Some file)
     × IsPositionIn file section text property)
 
 -- the bad state property
-abbrev pub NamesProperty : {F : Type 0} → List ℕ → Source F → ℕ → Type 0
+abbrev pub NamesProperty : {F : Type 0} → List ℕ → FileSource F → ℕ → Type 0
 NamesProperty text circuit property = NamesIn Bad text circuit property
 
 -- the properties to keep, in the order of their texts
@@ -58,11 +58,11 @@ AreEach Names texts positions =
     (length positions ≡ length texts)
     × ((i p : ℕ) (text : List ℕ) → slice_get texts i ≡ Some text → slice_get positions i ≡ Some p → Names text p)
 
-abbrev pub AreNamedIn : {F : Type 0} → PropertySection → List (List ℕ) → Source F → List ℕ → Type 0
+abbrev pub AreNamedIn : {F : Type 0} → PropertySection → List (List ℕ) → FileSource F → List ℕ → Type 0
 AreNamedIn section texts circuit positions = AreEach (λ text p. NamesIn section text circuit p) texts positions
 
 -- which properties of a circuit are kept, and where
-abbrev pub HoldsSelection : {F : Type 0} → ArgMatches → Source F → Selected → Type 0
+abbrev pub HoldsSelection : {F : Type 0} → ArgMatches → FileSource F → Selected → Type 0
 HoldsSelection matches circuit selection =
     HoldsSection matches (codes "from") selection.from × HoldsSection matches (codes "as") selection.into
     × AreNamedIn selection.from (property_texts matches) circuit selection.positions.items
@@ -72,17 +72,17 @@ abbrev pub property_text : ArgMatches → List ℕ
 property_text matches = unwrap_or (first_value (found_of matches) (codes "P")) (codes "0")
 
 -- the property of a circuit
-abbrev pub HoldsProperty : {F : Type 0} → ArgMatches → Source F → ℕ → Type 0
+abbrev pub HoldsProperty : {F : Type 0} → ArgMatches → FileSource F → ℕ → Type 0
 HoldsProperty matches circuit property = NamesProperty (property_text matches) circuit property
 
 -- the property, if one is named
-abbrev pub HoldsReached : {F : Type 0} → ArgMatches → Source F → Option ℕ → Type 0
+abbrev pub HoldsReached : {F : Type 0} → ArgMatches → FileSource F → Option ℕ → Type 0
 HoldsReached matches circuit None = first_value (found_of matches) (codes "P") ≡ None
 HoldsReached matches circuit (Some property) =
     (text : List ℕ) × (first_value (found_of matches) (codes "P") ≡ Some text) × NamesProperty text circuit property
 
 -- the number of frames, and the property
-abbrev pub HoldsClaim : {F : Type 0} → ArgMatches → Source F → ℕ → ℕ → Type 0
+abbrev pub HoldsClaim : {F : Type 0} → ArgMatches → FileSource F → ℕ → ℕ → Type 0
 HoldsClaim matches circuit frames property =
     HoldsNumber matches (codes "K") (Some frames) × HoldsProperty matches circuit property
 
@@ -96,7 +96,7 @@ is_certified (questions.Certified certificate p) = true
 is_certified _ = false
 
 -- what is asked of the circuit, where `step` says whether it is the step of an induction
-abbrev pub HoldsAsked : {F : Type 0} → ArgMatches → Bool → Source F → Question (Source F) → Type 0
+abbrev pub HoldsAsked : {F : Type 0} → ArgMatches → Bool → FileSource F → Question (FileSource F) → Type 0
 HoldsAsked matches step circuit (questions.Within k p) =
     (step ≡ false) × HoldsFlag matches (codes "alive") false × HoldsClaim matches circuit k p
 HoldsAsked matches step circuit (questions.Step k p) =
@@ -110,7 +110,7 @@ abbrev pub HoldsCertificate : {F : Type 0} → ArgMatches → Question F → Typ
 HoldsCertificate matches question = is_certified question ≡ is_given matches (codes "certificate")
 
 -- both, by the flag of the step
-abbrev pub HoldsQuestion : {F : Type 0} → ArgMatches → Source F → Question (Source F) → Type 0
+abbrev pub HoldsQuestion : {F : Type 0} → ArgMatches → FileSource F → Question (FileSource F) → Type 0
 HoldsQuestion matches circuit question =
     (step : Bool) × HoldsFlag matches (codes "step") step × HoldsAsked matches step circuit question
     × HoldsCertificate matches question

@@ -5,7 +5,7 @@ use Rattle.clap.specs.declared.parser.matches.ArgMatches.{ArgMatches}
 use Rattle.aig_bytes.specs.Flow.{Flow}
 use Rattle.aig_commands.specs.Questions.{WritesQuestion}
 use Rattle.aig_files.specs.declared.exit.Exit.{Exit}
-use Rattle.aig_files.specs.declared.source.Source.{Source}
+use Rattle.aig_files.specs.declared.source.FileSource.{FileSource}
 use Rattle.aig_program.specs.Chosen.{HoldsQuestion}
 use Rattle.aig_program.specs.ChosenFiles.{HoldsClaimed, IsCircuitOf}
 use Rattle.aig_program.specs.Ends.{Ends, Seen, end_of}
@@ -13,7 +13,7 @@ use Rattle.aig_program.specs.Questions.{asked_by, claims_left}
 use Rattle.aig_command.specs.declared.run_fault.RunFault.TheVariants as run_faults
 use Rattle.aig_program.specs.declared.commands.cnf.Cnf.{Cnf}
 
-abbrev pub OpensCnf : {F : Type 0} → ArgMatches → Cnf (Source F) → Type 0
+abbrev pub OpensCnf : {F : Type 0} → ArgMatches → Cnf (FileSource F) → Type 0
 OpensCnf matches it =
     HoldsQuestion matches it.circuit it.question × IsCircuitOf matches it.circuit × HoldsClaimed matches it.question
 

@@ -4,7 +4,7 @@ use Rattle.std.specs.Prelude.{◌≡◌, ℕ, List, Option, Result, codes, ⊤}
 use Rattle.clap.specs.declared.parser.matches.ArgMatches.{ArgMatches}
 use Rattle.aig_bytes.specs.Flow.{Flow}
 use Rattle.aig_files.specs.declared.exit.Exit.{Exit}
-use Rattle.aig_files.specs.declared.source.Source.{Source}
+use Rattle.aig_files.specs.declared.source.FileSource.{FileSource}
 use Rattle.aig_program.specs.Ends.{Seen}
 use Rattle.aig_program.specs.Bench.{EndsBench, OpensBench}
 use Rattle.aig_program.specs.Check.{EndsCheck, EndsCheckAlive, GoodCheck, GoodCheckAlive, OpensCheck, OpensCheckAlive}
@@ -25,7 +25,7 @@ use Rattle.aig_program.specs.declared.commands.Command.{Command}
 use Rattle.aig_program.specs.declared.commands.Command.TheVariants as commands
 
 -- A command has this name, the form, numbers and texts that its options choose, and the files that its arguments name.
-abbrev pub Opens : {F : Type 0} → List ℕ → ArgMatches → Command (Source F) → Type 0
+abbrev pub Opens : {F : Type 0} → List ℕ → ArgMatches → Command (FileSource F) → Type 0
 Opens name matches (commands.Toaig it) = (name ≡ codes "toaig") × OpensToaig matches it
 Opens name matches (commands.Info it) = (name ≡ codes "info") × OpensInfo matches it
 Opens name matches (commands.InfoNames it) = (name ≡ codes "info") × OpensInfoNames matches it

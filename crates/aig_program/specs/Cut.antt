@@ -7,13 +7,13 @@ use Rattle.aig_command.specs.Command.{OfFile}
 use Rattle.aig_command.specs.declared.run_fault.RunFault.TheVariants as run_faults
 use Rattle.aig_commands.specs.Cut.{WritesCut}
 use Rattle.aig_files.specs.declared.exit.Exit.{Exit}
-use Rattle.aig_files.specs.declared.source.Source.{Source}
+use Rattle.aig_files.specs.declared.source.FileSource.{FileSource}
 use Rattle.aig_program.specs.Chosen.{HoldsFormat}
 use Rattle.aig_program.specs.ChosenFiles.{IsCircuitOf, IsNamedBy}
 use Rattle.aig_program.specs.Ends.{Ends, Seen, end_of}
 use Rattle.aig_program.specs.declared.commands.cut.CutCircuit.{CutCircuit}
 
-abbrev pub OpensCut : {F : Type 0} → ArgMatches → CutCircuit (Source F) → Type 0
+abbrev pub OpensCut : {F : Type 0} → ArgMatches → CutCircuit (FileSource F) → Type 0
 OpensCut matches it =
     HoldsFormat matches it.to × IsCircuitOf matches it.circuit × IsNamedBy matches (codes "cuts") it.cuts
 

@@ -7,7 +7,7 @@ use Rattle.aig_command.specs.Command.{OfFile}
 use Rattle.aig_commands.specs.Info.{ListsFacts}
 use Rattle.aig_commands.specs.Names.{ListsNamesAs}
 use Rattle.aig_files.specs.declared.exit.Exit.{Exit}
-use Rattle.aig_files.specs.declared.source.Source.{Source}
+use Rattle.aig_files.specs.declared.source.FileSource.{FileSource}
 use Rattle.aig_cli.specs.Held.{HoldsFlag}
 use Rattle.aig_program.specs.Chosen.{HoldsForm}
 use Rattle.aig_program.specs.ChosenFiles.{IsCircuitOf}
@@ -16,7 +16,7 @@ use Rattle.aig_command.specs.declared.run_fault.RunFault.TheVariants as run_faul
 use Rattle.aig_program.specs.declared.commands.info.Info.{Info}
 use Rattle.aig_program.specs.declared.commands.info.InfoNames.{InfoNames}
 
-abbrev pub OpensInfo : {F : Type 0} → ArgMatches → Info (Source F) → Type 0
+abbrev pub OpensInfo : {F : Type 0} → ArgMatches → Info (FileSource F) → Type 0
 OpensInfo matches it = HoldsFlag matches (codes "names") false × IsCircuitOf matches it.circuit
 
 abbrev pub EndsInfo : {F : Type 0} → Flow Seen → (F → Option (List ℕ)) → Info F → Result (Unit {0}) Exit → Type 0
@@ -24,7 +24,7 @@ EndsInfo out left it result =
     IfSome (left it.circuit) (λ file. Ends out run_faults.Output end_of (OfFile file (ListsFacts (Some file))) result)
 
 -- with `--names`
-abbrev pub OpensInfoNames : {F : Type 0} → ArgMatches → InfoNames (Source F) → Type 0
+abbrev pub OpensInfoNames : {F : Type 0} → ArgMatches → InfoNames (FileSource F) → Type 0
 OpensInfoNames matches it =
     HoldsFlag matches (codes "names") true × HoldsForm matches it.form × IsCircuitOf matches it.circuit
 

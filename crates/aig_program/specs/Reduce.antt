@@ -6,13 +6,13 @@ use Rattle.aig_bytes.specs.Flow.{Flow}
 use Rattle.aig_command.specs.Command.{OfFile}
 use Rattle.aig_commands.specs.Reduce.{Reduces}
 use Rattle.aig_files.specs.declared.exit.Exit.{Exit}
-use Rattle.aig_files.specs.declared.source.Source.{Source}
+use Rattle.aig_files.specs.declared.source.FileSource.{FileSource}
 use Rattle.aig_program.specs.ChosenFiles.{IsCircuitOf, IsNamedBy}
 use Rattle.aig_program.specs.Ends.{Ends, Seen, end_of_verdict}
 use Rattle.aig_command.specs.declared.run_fault.RunFault.TheVariants as run_faults
 use Rattle.aig_program.specs.declared.commands.reduce.Reduce.{Reduce}
 
-abbrev pub OpensReduce : {F : Type 0} → ArgMatches → Reduce (Source F) → Type 0
+abbrev pub OpensReduce : {F : Type 0} → ArgMatches → Reduce (FileSource F) → Type 0
 OpensReduce matches it = IsCircuitOf matches it.circuit × IsNamedBy matches (codes "WITNESS") it.witness
 
 abbrev pub EndsReduce : {F : Type 0} → Flow Seen → (F → Option (List ℕ)) → Reduce F → Result (Unit {0}) Exit → Type 0

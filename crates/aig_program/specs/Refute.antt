@@ -5,7 +5,7 @@ use Rattle.clap.specs.declared.parser.matches.ArgMatches.{ArgMatches}
 use Rattle.aig_bytes.specs.Flow.{Flow}
 use Rattle.aig_commands.specs.Questions.{RefutesQuestion, Says}
 use Rattle.aig_files.specs.declared.exit.Exit.{Exit}
-use Rattle.aig_files.specs.declared.source.Source.{Source}
+use Rattle.aig_files.specs.declared.source.FileSource.{FileSource}
 use Rattle.aig_program.specs.Chosen.{HoldsAsked, HoldsCertificate, is_given}
 use Rattle.aig_program.specs.ChosenFiles.{HoldsClaimed, HoldsStep, IsCircuitOf, IsNamedBy}
 use Rattle.aig_program.specs.Ends.{Ends, Seen, end_of}
@@ -13,7 +13,7 @@ use Rattle.aig_program.specs.Questions.{asked_by, claims_left}
 use Rattle.aig_command.specs.declared.run_fault.RunFault.TheVariants as run_faults
 use Rattle.aig_program.specs.declared.commands.refute.Refute.{Refute}
 
-abbrev pub OpensRefute : {F : Type 0} → ArgMatches → Refute (Source F) → Type 0
+abbrev pub OpensRefute : {F : Type 0} → ArgMatches → Refute (FileSource F) → Type 0
 OpensRefute matches it =
     HoldsAsked matches (is_given matches (codes "step")) it.circuit it.question
     × HoldsCertificate matches it.question × IsCircuitOf matches it.circuit × HoldsClaimed matches it.question

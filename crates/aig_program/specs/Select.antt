@@ -6,7 +6,7 @@ use Rattle.aig_bytes.specs.Flow.{Flow}
 use Rattle.aig_command.specs.Command.{OfFile}
 use Rattle.aig_commands.specs.Select.{Selects}
 use Rattle.aig_files.specs.declared.exit.Exit.{Exit}
-use Rattle.aig_files.specs.declared.source.Source.{Source}
+use Rattle.aig_files.specs.declared.source.FileSource.{FileSource}
 use Rattle.aig_program.specs.Chosen.{HoldsFormat, HoldsSelection, is_given}
 use Rattle.aig_program.specs.ChosenFiles.{IsCircuitOf, IsNamedBy}
 use Rattle.aig_program.specs.Ends.{Ends, EndsSelectingNamed, Seen, end_of}
@@ -14,7 +14,7 @@ use Rattle.aig_command.specs.declared.run_fault.RunFault.TheVariants as run_faul
 use Rattle.aig_program.specs.declared.commands.select.Select.{Select}
 use Rattle.aig_program.specs.declared.commands.select.SelectNamed.{SelectNamed}
 
-abbrev pub OpensSelect : {F : Type 0} → ArgMatches → Select (Source F) → Type 0
+abbrev pub OpensSelect : {F : Type 0} → ArgMatches → Select (FileSource F) → Type 0
 OpensSelect matches it =
     HoldsSelection matches it.circuit it.selection × HoldsFormat matches it.to
     × (is_given matches (codes "names") ≡ false) × IsCircuitOf matches it.circuit
@@ -25,7 +25,7 @@ EndsSelect out left it result =
     (OfFile file (Selects it.selection.from it.selection.into it.selection.positions.items it.to)) result)
 
 -- with `--names`
-abbrev pub OpensSelectNamed : {F : Type 0} → ArgMatches → SelectNamed (Source F) → Type 0
+abbrev pub OpensSelectNamed : {F : Type 0} → ArgMatches → SelectNamed (FileSource F) → Type 0
 OpensSelectNamed matches it =
     HoldsSelection matches it.circuit it.selection × HoldsFormat matches it.to
     × (is_given matches (codes "names") ≡ true) × IsCircuitOf matches it.circuit

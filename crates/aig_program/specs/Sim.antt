@@ -6,14 +6,14 @@ use Rattle.aig_bytes.specs.Flow.{Flow}
 use Rattle.aig_command.specs.Command.{OfFile}
 use Rattle.aig_commands.specs.Sim.{WritesSimulation}
 use Rattle.aig_files.specs.declared.exit.Exit.{Exit}
-use Rattle.aig_files.specs.declared.source.Source.{Source}
+use Rattle.aig_files.specs.declared.source.FileSource.{FileSource}
 use Rattle.aig_program.specs.ChosenFiles.{IsCircuitOf, IsNamedBy}
 use Rattle.aig_program.specs.Ends.{Ends, OfText, Seen, end_of}
 use Rattle.aig_sim.specs.declared.stimulus.fault.StimFault.TheVariants as stimuli
 use Rattle.aig_command.specs.declared.run_fault.RunFault.TheVariants as run_faults
 use Rattle.aig_program.specs.declared.commands.sim.Sim.{Sim}
 
-abbrev pub OpensSim : {F : Type 0} → ArgMatches → Sim (Source F) → Type 0
+abbrev pub OpensSim : {F : Type 0} → ArgMatches → Sim (FileSource F) → Type 0
 OpensSim matches it = IsCircuitOf matches it.circuit × IsNamedBy matches (codes "STIM") it.stimulus
 
 -- it ends so for what it has read of the stimulus

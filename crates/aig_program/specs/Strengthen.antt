@@ -6,7 +6,7 @@ use Rattle.aig_bytes.specs.Flow.{Flow}
 use Rattle.aig_commands.specs.Certified.{OfCertified}
 use Rattle.aig_commands.specs.Toaig.{Converts}
 use Rattle.aig_files.specs.declared.exit.Exit.{Exit}
-use Rattle.aig_files.specs.declared.source.Source.{Source}
+use Rattle.aig_files.specs.declared.source.FileSource.{FileSource}
 use Rattle.aig_program.specs.Chosen.{HoldsFormat, HoldsProperty}
 use Rattle.aig_program.specs.ChosenFiles.{IsCircuitOf, IsNamedBy}
 use Rattle.aig_program.specs.Ends.{Ends, Seen, end_of}
@@ -14,7 +14,7 @@ use Rattle.aig_command.specs.declared.run_fault.RunFault.TheVariants as run_faul
 use Rattle.aig_commands.specs.declared.certified.Purpose.TheVariants as purposes
 use Rattle.aig_program.specs.declared.commands.strengthen.Strengthen.{Strengthen}
 
-abbrev pub OpensStrengthen : {F : Type 0} → ArgMatches → Strengthen (Source F) → Type 0
+abbrev pub OpensStrengthen : {F : Type 0} → ArgMatches → Strengthen (FileSource F) → Type 0
 OpensStrengthen matches it =
     HoldsProperty matches it.circuit it.property × HoldsFormat matches it.to × IsCircuitOf matches it.circuit
     × IsNamedBy matches (codes "certificate") it.certificate

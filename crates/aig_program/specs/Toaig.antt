@@ -6,14 +6,14 @@ use Rattle.aig_bytes.specs.Flow.{Flow}
 use Rattle.aig_command.specs.Command.{OfFile}
 use Rattle.aig_commands.specs.Toaig.{Converts}
 use Rattle.aig_files.specs.declared.exit.Exit.{Exit}
-use Rattle.aig_files.specs.declared.source.Source.{Source}
+use Rattle.aig_files.specs.declared.source.FileSource.{FileSource}
 use Rattle.aig_program.specs.Chosen.{HoldsFormat}
 use Rattle.aig_program.specs.ChosenFiles.{IsCircuitOf}
 use Rattle.aig_program.specs.Ends.{Ends, Seen, end_of}
 use Rattle.aig_command.specs.declared.run_fault.RunFault.TheVariants as run_faults
 use Rattle.aig_program.specs.declared.commands.toaig.Toaig.{Toaig}
 
-abbrev pub OpensToaig : {F : Type 0} → ArgMatches → Toaig (Source F) → Type 0
+abbrev pub OpensToaig : {F : Type 0} → ArgMatches → Toaig (FileSource F) → Type 0
 OpensToaig matches it = HoldsFormat matches it.to × IsCircuitOf matches it.circuit
 
 abbrev pub EndsToaig : {F : Type 0} → Flow Seen → (F → Option (List ℕ)) → Toaig F → Result (Unit {0}) Exit → Type 0

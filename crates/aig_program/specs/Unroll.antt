@@ -7,7 +7,7 @@ use Rattle.aig_bytes.specs.Flow.{Flow}
 use Rattle.aig_command.specs.Command.{OfFile}
 use Rattle.aig_commands.specs.Unroll.{UnrollsKept}
 use Rattle.aig_files.specs.declared.exit.Exit.{Exit}
-use Rattle.aig_files.specs.declared.source.Source.{Source}
+use Rattle.aig_files.specs.declared.source.FileSource.{FileSource}
 use Rattle.aig_cli.specs.Held.{HoldsNumber}
 use Rattle.aig_program.specs.Chosen.{HoldsFormat, is_given}
 use Rattle.aig_program.specs.ChosenFiles.{IsCircuitOf}
@@ -16,7 +16,7 @@ use Rattle.aig_command.specs.declared.run_fault.RunFault.TheVariants as run_faul
 use Rattle.aig_program.specs.declared.commands.unroll.Unroll.{Unroll}
 use Rattle.aig_program.specs.declared.commands.unroll.UnrollAndMap.{UnrollAndMap}
 
-abbrev pub OpensUnroll : {F : Type 0} → ArgMatches → Unroll (Source F) → Type 0
+abbrev pub OpensUnroll : {F : Type 0} → ArgMatches → Unroll (FileSource F) → Type 0
 OpensUnroll matches it =
     HoldsNumber matches (codes "K") (Some it.frames) × HoldsFormat matches it.to
     × (is_given matches (codes "map") ≡ false) × IsCircuitOf matches it.circuit
@@ -27,7 +27,7 @@ EndsUnroll out left it result =
     Ends out run_faults.Output end_of (OfFile file (UnrollsKept it.frames it.to)) result)
 
 -- with `--map`
-abbrev pub OpensUnrollAndMap : {F : Type 0} → ArgMatches → UnrollAndMap (Source F) → Type 0
+abbrev pub OpensUnrollAndMap : {F : Type 0} → ArgMatches → UnrollAndMap (FileSource F) → Type 0
 OpensUnrollAndMap matches it =
     HoldsNumber matches (codes "K") (Some it.frames) × HoldsFormat matches it.to
     × (first_value (found_of matches) (codes "map") ≡ Some it.map.now) × IsCircuitOf matches it.circuit

@@ -6,7 +6,7 @@ use Rattle.aig_bytes.specs.Flow.{Flow}
 use Rattle.aig_command.specs.Command.{OfFile}
 use Rattle.aig_commands.specs.Wave.{DumpsRun, WritesWave}
 use Rattle.aig_files.specs.declared.exit.Exit.{Exit}
-use Rattle.aig_files.specs.declared.source.Source.{Source}
+use Rattle.aig_files.specs.declared.source.FileSource.{FileSource}
 use Rattle.aig_cli.specs.Held.{HoldsFlag}
 use Rattle.aig_program.specs.ChosenFiles.{IsCircuitOf, IsNamedBy}
 use Rattle.aig_program.specs.Ends.{Ends, OfText, Seen, end_of}
@@ -15,7 +15,7 @@ use Rattle.aig_command.specs.declared.run_fault.RunFault.TheVariants as run_faul
 use Rattle.aig_program.specs.declared.commands.wave.Wave.{Wave}
 use Rattle.aig_program.specs.declared.commands.wave.WaveWitness.{WaveWitness}
 
-abbrev pub OpensWave : {F : Type 0} → ArgMatches → Wave (Source F) → Type 0
+abbrev pub OpensWave : {F : Type 0} → ArgMatches → Wave (FileSource F) → Type 0
 OpensWave matches it =
     HoldsFlag matches (codes "witness") false × IsCircuitOf matches it.circuit
     × IsNamedBy matches (codes "STIM") it.stimulus
@@ -27,7 +27,7 @@ EndsWave out left it result =
     Ends out (run_faults.Stimulus stimuli.Io) end_of (OfText rows (λ text. OfFile file (WritesWave text))) result))
 
 -- with `--witness`
-abbrev pub OpensWaveWitness : {F : Type 0} → ArgMatches → WaveWitness (Source F) → Type 0
+abbrev pub OpensWaveWitness : {F : Type 0} → ArgMatches → WaveWitness (FileSource F) → Type 0
 OpensWaveWitness matches it =
     HoldsFlag matches (codes "witness") true × IsCircuitOf matches it.circuit
     × IsNamedBy matches (codes "STIM") it.witness

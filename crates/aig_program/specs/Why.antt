@@ -7,7 +7,7 @@ use Rattle.aig_bytes.specs.Flow.{Flow}
 use Rattle.aig_command.specs.Command.{OfFile}
 use Rattle.aig_why.specs.Why.{WritesWhy}
 use Rattle.aig_files.specs.declared.exit.Exit.{Exit}
-use Rattle.aig_files.specs.declared.source.Source.{Source}
+use Rattle.aig_files.specs.declared.source.FileSource.{FileSource}
 use Rattle.aig_program.specs.Chosen.{HoldsForm, HoldsSpan}
 use Rattle.aig_program.specs.ChosenFiles.{HoldsGiven, IsCircuitOf}
 use Rattle.aig_program.specs.Ends.{Ends, Seen, end_of}
@@ -15,7 +15,7 @@ use Rattle.aig_program.specs.GivenFiles.{IsWitness, given_left}
 use Rattle.aig_command.specs.declared.run_fault.RunFault.TheVariants as run_faults
 use Rattle.aig_program.specs.declared.commands.why.Why.{Why}
 
-abbrev pub OpensWhy : {F : Type 0} → ArgMatches → Why (Source F) → Type 0
+abbrev pub OpensWhy : {F : Type 0} → ArgMatches → Why (FileSource F) → Type 0
 OpensWhy matches it =
     (option_map (λ text. text.now) it.name ≡ first_value (found_of matches) (codes "of"))
     × HoldsSpan matches it.span × HoldsForm matches it.form × (it.name ≡ None → IsWitness it.given)

@@ -7,7 +7,7 @@ use Rattle.aig_command.specs.Command.{OfFile}
 use Rattle.aig_commands.specs.Questions.{NamesQuestion}
 use Rattle.aig_commands.specs.Witness.{WritesWitness}
 use Rattle.aig_files.specs.declared.exit.Exit.{Exit}
-use Rattle.aig_files.specs.declared.source.Source.{Source}
+use Rattle.aig_files.specs.declared.source.FileSource.{FileSource}
 use Rattle.aig_program.specs.Chosen.{HoldsQuestion, HoldsReached, is_given}
 use Rattle.aig_program.specs.ChosenFiles.{HoldsClaimed, IsCircuitOf, IsNamedBy}
 use Rattle.aig_program.specs.Ends.{Ends, Seen, end_of}
@@ -16,7 +16,7 @@ use Rattle.aig_command.specs.declared.run_fault.RunFault.TheVariants as run_faul
 use Rattle.aig_program.specs.declared.commands.witness.ModelWitness.{ModelWitness}
 use Rattle.aig_program.specs.declared.commands.witness.StimulusWitness.{StimulusWitness}
 
-abbrev pub OpensWitness : {F : Type 0} → ArgMatches → StimulusWitness (Source F) → Type 0
+abbrev pub OpensWitness : {F : Type 0} → ArgMatches → StimulusWitness (FileSource F) → Type 0
 OpensWitness matches it =
     (is_given matches (codes "model") ≡ false) × HoldsReached matches it.circuit it.property
     × IsCircuitOf matches it.circuit × IsNamedBy matches (codes "STIM") it.stimulus
@@ -27,7 +27,7 @@ EndsWitness out left it result =
     Ends out run_faults.Output end_of (OfFile file (WritesWitness it.property text)) result))
 
 -- with `--model`
-abbrev pub OpensModelWitness : {F : Type 0} → ArgMatches → ModelWitness (Source F) → Type 0
+abbrev pub OpensModelWitness : {F : Type 0} → ArgMatches → ModelWitness (FileSource F) → Type 0
 OpensModelWitness matches it =
     (is_given matches (codes "model") ≡ true) × HoldsQuestion matches it.circuit it.question
     × IsCircuitOf matches it.circuit × HoldsClaimed matches it.question × IsNamedBy matches (codes "model") it.model

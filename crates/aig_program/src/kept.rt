@@ -4,7 +4,7 @@ use aig_base::{Buffered, Circuit, Std};
 use aig_bench::Bench;
 use aig_command::{RunFault, flushed};
 use aig_commands::unroll::unroll_map;
-use aig_files::{Kept, OutputFile, Shown, Unwritten, open_direct};
+use aig_files::{KeptFileNames, OutputFile, Shown, Unwritten, open_direct};
 use aig_script::{keep_circuit, keep_stimulus};
 use aig_sim::PlaneGrid;
 use std::fs::{Files, Metadata, OpenFile};
@@ -39,7 +39,7 @@ impl<F: io::Write + OpenFile + AsFd + Drop> KeptFiles<F> {
     /// What the names lead to. It fails if one of these cannot be written.
     fn find<R: Files<File = F> + AllocGlobal>(
         rt: &R,
-        names: Kept<'_>,
+        names: KeptFileNames<'_>,
     ) -> Result<KeptFiles<F>, Failure> {
         let first = at(0, OutputFile::find(rt, names.circuit))?;
         let second = at(1, OutputFile::find(rt, names.stimulus))?;
@@ -49,7 +49,7 @@ impl<F: io::Write + OpenFile + AsFd + Drop> KeptFiles<F> {
     /// The same. Both new files are created, because one may be in the other's way, and removed.
     pub fn begin<R: Files<File = F> + AllocGlobal>(
         rt: &R,
-        names: Kept<'_>,
+        names: KeptFileNames<'_>,
     ) -> Result<KeptFiles<F>, Failure> {
         let mut files = KeptFiles::find(rt, names)?;
         let created = files.create(rt);
@@ -116,7 +116,7 @@ pub fn begin_map<R: Files + AllocGlobal>(
 where
     R::File: AsFd,
 {
-    let names = Kept {
+    let names = KeptFileNames {
         circuit: Some(name),
         stimulus: None,
     };
@@ -130,7 +130,7 @@ where
 /// Gives one or two files their texts at once.
 pub fn keep_texts<R: Files + AllocGlobal>(
     rt: &R,
-    names: Kept<'_>,
+    names: KeptFileNames<'_>,
     first: &[u8],
     second: &[u8],
 ) -> Result<(), Failure>

@@ -17,7 +17,7 @@ const TENTH: u32 = 429_496_729;
 
 /// What a line of a script asks for, where it appends no frame.
 #[derive(Clone, Copy, PartialEq, Eq, Debug)]
-pub enum Command {
+pub enum ScriptCommand {
     /// `w G R0 R1`: the gate of a literal gets these right sides.
     Rewire {
         gate: Lit,
@@ -155,14 +155,14 @@ fn parse_value(bytes: &[u8]) -> Option<Tern>
 }
 
 /// What follows `w `.
-fn parse_rewire(fields: &[u8]) -> Option<Command>
+fn parse_rewire(fields: &[u8]) -> Option<ScriptCommand>
     ensures some { IfSome result (λ c. IsCommand (meaning c) × (codes "w " ++ fields.now ≡ command_text (meaning c))) }
     ensures none { IfNone result ((g a b : ℕ) → IsNumber g → IsNumber a → IsNumber b →
         fields.now ≢ rewire_fields g a b) }
 {
     let (gate, rest) = parse_field(fields)?;
     let (right0, last) = parse_field(rest)?;
-    Some(Command::Rewire {
+    Some(ScriptCommand::Rewire {
         gate: Lit::new(gate),
         right0: Lit::new(right0),
         right1: Lit::new(parse_number(last)?),
@@ -170,25 +170,25 @@ fn parse_rewire(fields: &[u8]) -> Option<Command>
 }
 
 /// What follows `r `.
-fn parse_reset(fields: &[u8]) -> Option<Command>
+fn parse_reset(fields: &[u8]) -> Option<ScriptCommand>
     ensures some { IfSome result (λ c. IsCommand (meaning c) × (codes "r " ++ fields.now ≡ command_text (meaning c))) }
     ensures none { IfNone result ((l : ℕ) (w : Tern) → IsNumber l → fields.now ≢ reset_fields l w) }
 {
     let (latch, last) = parse_field(fields)?;
-    Some(Command::SetReset {
+    Some(ScriptCommand::SetReset {
         latch: Lit::new(latch),
         value: parse_value(last)?,
     })
 }
 
 /// What follows `s `.
-fn parse_bit(fields: &[u8]) -> Option<Command>
+fn parse_bit(fields: &[u8]) -> Option<ScriptCommand>
     ensures some { IfSome result (λ c. IsCommand (meaning c) × (codes "s " ++ fields.now ≡ command_text (meaning c))) }
     ensures none { IfNone result ((t p : ℕ) (w : Tern) → IsNumber t → IsNumber p → fields.now ≢ bit_fields t p w) }
 {
     let (frame, rest) = parse_field(fields)?;
     let (position, last) = parse_field(rest)?;
-    Some(Command::SetBit {
+    Some(ScriptCommand::SetBit {
         frame,
         position,
         value: parse_value(last)?,
@@ -196,43 +196,43 @@ fn parse_bit(fields: &[u8]) -> Option<Command>
 }
 
 /// What follows `g `.
-fn parse_append(fields: &[u8]) -> Option<Command>
+fn parse_append(fields: &[u8]) -> Option<ScriptCommand>
     ensures some { IfSome result (λ c. IsCommand (meaning c) × (codes "g " ++ fields.now ≡ command_text (meaning c))) }
     ensures none { IfNone result ((a b : ℕ) → IsNumber a → IsNumber b → fields.now ≢ two_fields a b) }
 {
     let (right0, last) = parse_field(fields)?;
-    Some(Command::AppendGate {
+    Some(ScriptCommand::AppendGate {
         right0: Lit::new(right0),
         right1: Lit::new(parse_number(last)?),
     })
 }
 
 /// What follows `o `.
-fn parse_output(fields: &[u8]) -> Option<Command>
+fn parse_output(fields: &[u8]) -> Option<ScriptCommand>
     ensures some { IfSome result (λ c. IsCommand (meaning c) × (codes "o " ++ fields.now ≡ command_text (meaning c))) }
     ensures none { IfNone result ((p l : ℕ) → IsNumber p → IsNumber l → fields.now ≢ two_fields p l) }
 {
     let (position, literal) = parse_field(fields)?;
-    Some(Command::SetOutput {
+    Some(ScriptCommand::SetOutput {
         position,
         literal: Lit::new(parse_number(literal)?),
     })
 }
 
 /// What follows `v `.
-fn parse_question(fields: &[u8]) -> Option<Command>
+fn parse_question(fields: &[u8]) -> Option<ScriptCommand>
     ensures some { IfSome result (λ c. IsCommand (meaning c) × (codes "v " ++ fields.now ≡ command_text (meaning c))) }
     ensures none { IfNone result ((t l : ℕ) → IsNumber t → IsNumber l → fields.now ≢ two_fields t l) }
 {
     let (frame, literal) = parse_field(fields)?;
-    Some(Command::Value {
+    Some(ScriptCommand::Value {
         frame,
         literal: Lit::new(parse_number(literal)?),
     })
 }
 
 /// The command that a line spells, without its LF. A line that appends a frame is none of these.
-pub fn parse_command(line: &[u8]) -> Option<Command>
+pub fn parse_command(line: &[u8]) -> Option<ScriptCommand>
     ensures some { IfSome result (λ c. IsCommand (meaning c) × (line.now ≡ command_text (meaning c))) }
     ensures none { IfNone result ((BeginsRow line.now → ⊥) → IsNoCommand line.now) }
 {
@@ -243,9 +243,9 @@ pub fn parse_command(line: &[u8]) -> Option<Command>
         [b'g', b' ', fields @ ..] => parse_append(fields),
         [b'o', b' ', fields @ ..] => parse_output(fields),
         [b'v', b' ', fields @ ..] => parse_question(fields),
-        [b'-'] => Some(Command::DropFrame),
-        [b't'] => Some(Command::Trace),
-        [b'u'] => Some(Command::Unroll),
+        [b'-'] => Some(ScriptCommand::DropFrame),
+        [b't'] => Some(ScriptCommand::Trace),
+        [b'u'] => Some(ScriptCommand::Unroll),
         _ => None,
     }
 }

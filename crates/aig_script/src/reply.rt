@@ -17,7 +17,7 @@ ghost use Rattle.aig_script.specs.Replies.{CommandReply, WholeReply};
 ghost use Rattle.aig_script.specs.state.Faults.{row_fault_reply};
 ghost use Rattle.aig_script.specs.ScriptLine.{BeginsRow, KeepsScriptLine};
 
-use crate::command::{Command, parse_command};
+use crate::command::{ScriptCommand, parse_command};
 use crate::script_line::ScriptLine;
 use aig_base::{Circuit, Io, Lit, Write, write_all, write_number};
 use aig_bench::{Bench, EditFault, EditReport};
@@ -136,35 +136,35 @@ fn write_frames<G: Grid, W: Write>(bench: &Bench<G>, out: &mut W) -> Result<(), 
 fn obey<G: Grid, W: Write>(
     alloc: Global,
     bench: &mut Bench<G>,
-    command: Command,
+    command: ScriptCommand,
     out: &mut W,
 ) -> Result<(), Io>
     ensures { (reply : List ℕ) × CommandReply bench.old.pair (meaning command) reply bench.new.pair
         × Writes W.written W.failures out.old out.new reply result }
 {
     match command {
-        Command::Rewire {
+        ScriptCommand::Rewire {
             gate,
             right0,
             right1,
         } => write_edit(bench.rewire(gate, right0, right1), out),
-        Command::SetReset { latch, value } => write_edit(bench.set_reset(latch, value), out),
-        Command::SetBit {
+        ScriptCommand::SetReset { latch, value } => write_edit(bench.set_reset(latch, value), out),
+        ScriptCommand::SetBit {
             frame,
             position,
             value,
         } => write_edit(bench.set_bit(frame, position, value), out),
-        Command::DropFrame => write_edit(bench.drop_frame(), out),
-        Command::AppendGate { right0, right1 } => write_edit(
+        ScriptCommand::DropFrame => write_edit(bench.drop_frame(), out),
+        ScriptCommand::AppendGate { right0, right1 } => write_edit(
             bench.append_gate(right0, right1),
             out,
         ),
-        Command::SetOutput { position, literal } => {
+        ScriptCommand::SetOutput { position, literal } => {
             write_edit(bench.set_output(position, literal), out)
         }
-        Command::Value { frame, literal } => write_value(bench, frame, literal, out),
-        Command::Trace => write_frames(bench, out),
-        Command::Unroll => write_unrolled(alloc, bench, out),
+        ScriptCommand::Value { frame, literal } => write_value(bench, frame, literal, out),
+        ScriptCommand::Trace => write_frames(bench, out),
+        ScriptCommand::Unroll => write_unrolled(alloc, bench, out),
     }
 }
 

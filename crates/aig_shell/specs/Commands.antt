@@ -1,13 +1,13 @@
 -- What a command asks for, and the words of its line (our own choice).
 use Rattle.std.specs.Prelude.{◌≡◌, ◌≢◌, ℕ, List, map, codes, option_map, Result, Ok, Err}
-use Rattle.aig_shell.specs.declared.request.command.Command.{Command}
-use Rattle.aig_shell.specs.declared.request.command.Command.TheVariants as commands
+use Rattle.aig_shell.specs.declared.request.command.ShellCommand.{ShellCommand}
+use Rattle.aig_shell.specs.declared.request.command.ShellCommand.TheVariants as commands
 use Rattle.aig_shell.specs.declared.request.command.Edit.{Edit}
 use Rattle.aig_shell.specs.declared.request.command.Edit.TheVariants as edits
 use Rattle.aig_shell.specs.declared.request.command.Export.{Export}
 use Rattle.aig_shell.specs.declared.request.command.Export.TheVariants as exports
-use Rattle.aig_shell.specs.declared.request.command.Query.{Query}
-use Rattle.aig_shell.specs.declared.request.command.Query.TheVariants as queries
+use Rattle.aig_shell.specs.declared.request.command.ShellQuery.{ShellQuery}
+use Rattle.aig_shell.specs.declared.request.command.ShellQuery.TheVariants as queries
 use Rattle.aig_shell.specs.declared.refusal.Refusal.{Refusal}
 use Rattle.aig_shell.specs.declared.refusal.Refusal.TheVariants as refusals
 use Rattle.aig_shell.specs.declared.request.topic.Topic.{Topic}
@@ -37,7 +37,7 @@ topic_word topics.Help = codes "help"
 topic_word topics.Quit = codes "quit"
 
 -- what a line asks of a session, does to it, and writes to files
-abbrev pub query_of : Query → Request
+abbrev pub query_of : ShellQuery → Request
 query_of (queries.Show names frames) = request.show (map (λ w. w.now) names.now) (option_map (λ w. w.now) frames)
 query_of (queries.Why name frame) = asks_why (option_map (λ w. w.now) name) (option_map (λ w. w.now) frame)
 query_of (queries.Gate name) = request.gate name.now
@@ -61,13 +61,13 @@ export_of (exports.Witness file name) = request.witness file.now (option_map (λ
 export_of (exports.Wave file) = request.wave file.now
 
 -- what a line asks for
-abbrev pub request_of : Command → Request
+abbrev pub request_of : ShellCommand → Request
 request_of (commands.Query query) = query_of query
 request_of (commands.Edit edit) = edit_of edit
 request_of (commands.Export export) = export_of export
 request_of commands.Quit = request.quit
 
 -- the words of a line are those of what the command asks for; or they ask for nothing
-abbrev pub EndsCommand : List (List ℕ) → Result Command Refusal → Type 0
+abbrev pub EndsCommand : List (List ℕ) → Result ShellCommand Refusal → Type 0
 EndsCommand words (Ok command) = IsRequest (request_of command) × (words ≡ request_words (request_of command))
 EndsCommand words (Err refusal) = IsNoRequest words × (refusal ≢ refusals.Memory)

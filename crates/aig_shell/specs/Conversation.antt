@@ -17,8 +17,8 @@ use Rattle.aig_command.specs.declared.given.Given.{Given}
 use Rattle.aig_command.specs.declared.run_fault.RunFault.{RunFault}
 use Rattle.aig_command.specs.declared.run_fault.RunFault.TheVariants as run_faults
 use Rattle.aig_shell.specs.declared.talk.conversation.Conversation.{Conversation}
-use Rattle.aig_shell.specs.declared.talk.conversation.Next.{Next}
-use Rattle.aig_shell.specs.declared.talk.conversation.Next.TheVariants as next
+use Rattle.aig_shell.specs.declared.talk.conversation.AfterLine.{AfterLine}
+use Rattle.aig_shell.specs.declared.talk.conversation.AfterLine.TheVariants as next
 use Rattle.aig_shell.specs.declared.session.Session.{Session}
 use Rattle.aig_shell.specs.declared.refusal.Refusal.{Refusal}
 use Rattle.aig_shell.specs.declared.refusal.Refusal.TheVariants as refusals
@@ -26,7 +26,7 @@ use Rattle.aig_shell.specs.Answers.{AnswersRequest, EndsAt, IsRefusal, LineAnswe
 use Rattle.aig_shell.specs.Ends.{ComesAfter, with_calls}
 use Rattle.aig_shell.specs.Files.{Call}
 use Rattle.aig_shell.specs.Request.{Request}
-use Rattle.aig_shell.specs.Session.{BeginsAt, IsIn, IsSession, first_state}
+use Rattle.aig_shell.specs.Session.{BeginsAt, IsIn, first_state}
 use Rattle.aig_shell.specs.State.{SessionState}
 
 -- no LF stands in the bytes
@@ -61,7 +61,6 @@ pub data Converses (person : Bool) (s : SessionState) : List ℕ → List ℕ �
 
 -- a conversation is in a state
 pub record IsAt (c : Conversation) (s : SessionState) : Type 0 where
-  pub session : IsSession c.session
   pub state : IsIn c.session s
   pub warned : s.has_warned ≡ c.has_warned
 
@@ -70,7 +69,7 @@ abbrev pub no_memory : List ℕ
 no_memory = codes "no: out of memory\n"
 
 -- whether a line ends the session
-abbrev pub ends_after : Next → Bool
+abbrev pub ends_after : AfterLine → Bool
 ends_after next.GoesOn = false
 ends_after next.Ends = true
 
@@ -84,7 +83,7 @@ AnswersLine old line text old_calls new_calls ends new =
 
 -- What `quit` makes of a conversation that is calm, after a `quit` or not: the session is as before; without memory
 -- nothing is said.
-abbrev pub EndsQuit : {E : Type 0} → Conversation → Bool → Result Next E → Conversation → Type 0
+abbrev pub EndsQuit : {E : Type 0} → Conversation → Bool → Result AfterLine E → Conversation → Type 0
 EndsQuit old warned (Ok next) new =
     (s : SessionState) → IsIn old.session s → s.has_warned ≡ warned
     → (after : SessionState) × EndsAt s (ends_after next) new.text.items after × IsAt new after
@@ -92,8 +91,8 @@ EndsQuit old warned (Err _) new = (s : SessionState) → IsIn old.session s → 
 
 -- What a request makes of a conversation that is calm, after a `quit` or not: it is answered; or it is refused, and
 -- calm: then any refusal answers it, or memory ran out.
-abbrev pub EndsRequest : Conversation → Bool → Request → Result Next Refusal → Option (List Call) → Option (List Call)
-    → Conversation → Type 0
+abbrev pub EndsRequest : Conversation → Bool → Request → Result AfterLine Refusal → Option (List Call)
+    → Option (List Call) → Conversation → Type 0
 EndsRequest old warned r (Ok next) old_calls new_calls new =
     (s : SessionState) → IsIn old.session s → s.has_warned ≡ warned
     → (calls : List Call) × (after : SessionState) × AnswersRequest s r new.text.items calls (ends_after next) after
@@ -106,7 +105,7 @@ EndsRequest old warned r (Err refusal) old_calls new_calls new =
 
 -- What the words of a line make of a conversation: they are answered; or they are refused: then any refusal answers
 -- them, or memory ran out, and nothing is done.
-abbrev pub EndsWords : Conversation → List (List ℕ) → Result Next Refusal → Option (List Call) → Option (List Call)
+abbrev pub EndsWords : Conversation → List (List ℕ) → Result AfterLine Refusal → Option (List Call) → Option (List Call)
     → Conversation → Type 0
 EndsWords old ws (Ok next) old_calls new_calls new =
     (s : SessionState) → IsAt old s
@@ -211,7 +210,7 @@ pub record OnlyFails {Y X Z : Type 0} (passes : Passes Y X Z) : Type 0 where
 -- a session that a run of a circuit begins
 abbrev pub BeginsSession : Raw → ReadRun → Session → Type 0
 BeginsSession raw run session =
-    IsSession session × BeginsAt raw run.start run.rows session.run.bench.pair
+    BeginsAt raw run.start run.rows session.run.bench.pair
     × IsIn session (first_state raw run.property session.run.bench.pair)
 
 -- the session of a circuit's file and the run that is given

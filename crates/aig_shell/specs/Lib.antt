@@ -7,6 +7,7 @@ pub mod Edits
 pub mod Ends
 pub mod Explained
 pub mod Files
+pub mod Latches
 pub mod Pieces
 pub mod Reasons
 pub mod Request

@@ -1,9 +1,7 @@
 -- What holds of a session between two lines.
-use Rattle.std.specs.Prelude.{◌≡◌, false, ℕ, ◌+◌, ◌*◌, List, All, length, Some, slice_get, ◌≢◌, ◌⊎◌, IsTrue, IfSome, ◌<◌}
-use Rattle.std.specs.Prelude.{Option}
-use Rattle.std.specs.List.{AllZip}
-use Rattle.aig_base.specs.Resets.{IsSameLatch, HasOtherResets}
-use Rattle.aig_signals.specs.Signals.{signals_of}
+use Rattle.std.specs.Prelude.{◌≡◌, false, ℕ, ◌+◌, ◌*◌, List, All, length, Some, slice_get, ◌≢◌, ◌⊎◌, IsTrue}
+use Rattle.std.specs.Prelude.{Bool, Option}
+use Rattle.aig_base.specs.Resets.{HasOtherResets}
 use Rattle.std.specs.Global.{Vec}
 use Rattle.aig_parts.specs.declared.ternary.Tern.{Tern}
 use Rattle.aig_parts.specs.declared.raw.Raw.{Raw}
@@ -11,7 +9,6 @@ use Rattle.aig_parts.specs.declared.symbols.Kind.{Kind}
 use Rattle.aig_parts.specs.declared.symbols.Kind.TheVariants.{Output}
 use Rattle.aig_base.specs.Circuit.{IsCircuit}
 use Rattle.aig_base.specs.Sections.{IsDefined}
-use Rattle.aig_base.specs.Sound.{IsReset}
 use Rattle.aig_base.specs.Value.{start_of}
 use Rattle.aig_bench.specs.BenchState.{CircuitAndRows, HasValue}
 use Rattle.aig_signals.specs.Names.{literals_of}
@@ -22,21 +19,14 @@ use Rattle.aig_shell.specs.declared.session.run_kept.KeptRun.{KeptRun}
 use Rattle.aig_shell.specs.declared.session.Session.{Session}
 use Rattle.aig_shell.specs.State.{SessionState}
 
--- the signals are those of the circuit, and the latches with the resets of the file, which are resets, are those of the
--- circuit; it has the property of the witness
-pub record IsSession (s : Session) : Type 0 where
-  pub signals : s.signals.items ≡ signals_of s.run.bench.pair.circuit
-  pub latches : AllZip IsSameLatch s.run.latches.items s.run.bench.pair.circuit.latches
-  pub resets : All IsReset s.run.latches.items
-  pub property : IfSome s.property (λ k. k < length s.run.bench.pair.circuit.bad)
-
--- all but the bench and the flag of the circuit is as before
-pub record KeepsRest (old new : Session) : Type 0 where
+-- after an edit all but the bench is as before, and this says whether the circuit is edited
+pub record KeepsRest (old : Session) (has_edited_circuit : Bool) (new : Session) : Type 0 where
   pub latches : new.run.latches ≡ old.run.latches
   pub signals : new.signals ≡ old.signals
   pub first : new.first ≡ old.first
   pub kept : new.kept ≡ old.kept
   pub property : new.property ≡ old.property
+  pub circuit : new.has_edited_circuit ≡ has_edited_circuit
 
 -- the value that is kept of a variable at a frame
 abbrev pub IsValueAt : FirstRun → ℕ → ℕ → Tern → Type 0

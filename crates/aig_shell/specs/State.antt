@@ -1,6 +1,6 @@
 -- The state of a session, and how edits lead from one to the next (our own choice).
 -- Example: `set 0-1 rst 0` leads by two edits.
-use Rattle.std.specs.Prelude.{◌≡◌, ℕ, List, [], ◌∷◌, map, replicate, Bool, Option}
+use Rattle.std.specs.Prelude.{◌≡◌, ◌<◌, ◌≤◌, ℕ, List, [], ◌∷◌, All, length, map, replicate, Bool, Option}
 use Rattle.std.specs.List.{flat_map, range_with_len, zip}
 use Rattle.aig_parts.specs.declared.latch.Latch.{Latch}
 use Rattle.aig_parts.specs.declared.raw.Raw.{Raw}
@@ -39,6 +39,13 @@ row_edits t positions values = map (λ pair. set_bit t pair.0 pair.1) (zip posit
 -- inputs get values at so many frames from a frame on
 abbrev pub set_edits : ℕ → ℕ → List ℕ → List Tern → List Edit
 set_edits first count positions values = flat_map (λ t. row_edits t positions values) (range_with_len first count)
+
+-- there is a value for each position of an input, and the run has the frames from the first up to the end
+pub record AreSettable (p : CircuitAndRows) (first end : ℕ) (positions : List ℕ) (values : List Tern) : Type 0 where
+  pub order : first ≤ end
+  pub within : end ≤ length p.rows
+  pub are_inputs : All (λ i. i < length p.circuit.inputs) positions
+  pub size : length values ≡ length positions
 
 -- latches get values at frame 0
 abbrev pub start_edits : List ℕ → List Tern → List Edit

@@ -4,9 +4,9 @@ use Rattle.std.specs.Prelude.{◌≡◌, ◌≢◌, ◌⊎◌, ◌<◌, ℕ, Boo
 use Rattle.std.specs.Prelude.{Result, Ok, Err, IfOk}
 use Rattle.aig_bytes.specs.Bytes.{after, IsBeginning, Writes}
 use Rattle.aig_shell.specs.declared.talk.conversation.Conversation.{Conversation}
-use Rattle.aig_shell.specs.declared.talk.conversation.Next.{Next}
-use Rattle.aig_shell.specs.declared.talk.conversation.Next.TheVariants as next
-use Rattle.aig_shell.specs.declared.talk.Line.{Line}
+use Rattle.aig_shell.specs.declared.talk.conversation.AfterLine.{AfterLine}
+use Rattle.aig_shell.specs.declared.talk.conversation.AfterLine.TheVariants as next
+use Rattle.aig_shell.specs.declared.talk.LineBuffer.{LineBuffer}
 use Rattle.aig_shell.specs.declared.talk.Talker.{Talker}
 use Rattle.aig_shell.specs.Conversation.{IsPiece, Answered, Converses, IsAt, AnswersLine, IsGreeting, Talk, ends_after}
 use Rattle.aig_shell.specs.Ends.{with_calls}
@@ -23,14 +23,14 @@ abbrev pub moment : {X Z : Type 0} → (X → Option (List ℕ)) → (X → ℕ)
 moment written failures calls out files = record { bytes = written out; failures = failures out; calls = calls files }
 
 -- the line has these bytes so far, all of them unless it is cut
-abbrev pub HoldsLine : List ℕ → Line → Type 0
+abbrev pub HoldsLine : List ℕ → LineBuffer → Type 0
 HoldsLine text line = ((line.is_cut ≡ false) × (line.bytes.items ≡ text)) ⊎ ((line.is_cut ≡ true) × (text ≢ []))
 
 -- the answer to a line is written, or a write fails
-pub record Replies {E : Type 0} (old : Conversation) (line : List ℕ) (before now : Moment) (result : Result Next E)
+pub record Replies {E : Type 0} (old : Conversation) (line : List ℕ) (before now : Moment) (result : Result AfterLine E)
     (new : Conversation) : Type 0 where
   pub text : List ℕ
-  pub next : Next
+  pub next : AfterLine
   pub same : IfOk result (λ n. n ≡ next)
   pub answers : AnswersLine old line text before.calls now.calls (ends_after next) new
   pub writes : Writes (λ (m : Moment). m.bytes) (λ (m : Moment). m.failures) before now text result
@@ -97,13 +97,14 @@ pub record Finished (start now : Moment) (person : Bool) (s : SessionState) (inp
   pub called : now.calls ≡ with_calls start.calls calls
 
 -- the last line is answered, if there is one: the input is finished, or ends the session, or a write fails
-abbrev pub Finishes : {E : Type 0} → Moment → Moment → Bool → SessionState → List ℕ → Result Next E → Talker → Type 0
+abbrev pub Finishes : {E : Type 0} → Moment → Moment → Bool → SessionState → List ℕ → Result AfterLine E → Talker
+    → Type 0
 Finishes start now person s input (Ok next.GoesOn) t = Finished start now person s input t
 Finishes start now person s input (Ok next.Ends) t = Done start now person s input true
 Finishes start now person s input (Err fault) t = Part start now person s input × (start.failures < now.failures)
 
 -- more is read: it goes on, a line ends the session, or a write fails
-abbrev pub Feeds : {E : Type 0} → Moment → Moment → Bool → SessionState → List ℕ → Result Next E → Talker → Type 0
+abbrev pub Feeds : {E : Type 0} → Moment → Moment → Bool → SessionState → List ℕ → Result AfterLine E → Talker → Type 0
 Feeds start now person s input (Ok next.GoesOn) t = Stands start now person s input t
 Feeds start now person s input (Ok next.Ends) t = Done start now person s input true
 Feeds start now person s input (Err fault) t = Part start now person s input × (start.failures < now.failures)

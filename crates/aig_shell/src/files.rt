@@ -9,13 +9,13 @@ ghost use Rattle.aig_sim.specs.WitnessText.{witness_text};
 ghost use Rattle.aig_shell.specs.Ends.{EndsFiles};
 ghost use Rattle.aig_shell.specs.Files.{IsAsked, after_keeping, no_start_text, reached_text};
 ghost use Rattle.aig_shell.specs.Request as request;
-ghost use Rattle.aig_shell.specs.Session.{IsSession, own_circuit};
+ghost use Rattle.aig_shell.specs.Session.{own_circuit};
 
 pub(crate) mod keeper;
 mod text;
 
 use crate::files::keeper::{FileText, Keep, Unkept};
-use crate::files::text::Text;
+use crate::files::text::TextBuffer;
 use crate::pieces::{Piece, push_pieces};
 use crate::refusal::Refusal;
 use crate::session::Session;
@@ -74,10 +74,9 @@ fn push_reached(text: &mut Vec<u8>, reached: Reached, file: &[u8]) -> Result<(),
 impl Session {
     /// The text of the circuit as it is now, with the resets of the file.
     fn saved_circuit(&self) -> Result<Vec<u8>, Memory>
-        requires session { IsSession self.now }
         ensures { IfOk result (λ text. text.items ≡ short_ascii (own_circuit self.now)) }
     {
-        let mut out = Text::new(self.alloc);
+        let mut out = TextBuffer::new(self.alloc);
         match write_ascii_with(self.circuit(), self.run.latches.as_slice(), &mut out) {
             Ok(()) => Ok(out.into_bytes()),
             Err(_) => Err(Memory),
@@ -89,7 +88,7 @@ impl Session {
         ensures { IfOk result (λ text. SpellsRows (length self.now.run.bench.pair.circuit.inputs) text.items
             self.now.run.bench.pair.rows) }
     {
-        let mut out = Text::new(self.alloc);
+        let mut out = TextBuffer::new(self.alloc);
         match write_stimulus(&mut out, self.bench().stimulus()) {
             Ok(()) => Ok(out.into_bytes()),
             Err(_) => Err(Memory),
@@ -102,9 +101,7 @@ impl Session {
         files: &mut K,
         name: &'a [u8],
     ) -> Result<(), Refusal<'a>>
-        requires session { IsSession self.old }
-        ensures session { IsSession self.new }
-        ensures files { EndsFiles self.old (request.save name.now None) result [] (K.calls files.old)
+        ensures { EndsFiles self.old (request.save name.now None) result [] (K.calls files.old)
             (K.calls files.new) self.new }
     {
         let circuit = self.saved_circuit()?;
@@ -128,10 +125,8 @@ impl Session {
         name: &'a [u8],
         stimulus: &'a [u8],
     ) -> Result<(), Refusal<'a>>
-        requires session { IsSession self.old }
         requires empty { text.old.items ≡ [] }
-        ensures session { IsSession self.new }
-        ensures files { EndsFiles self.old (request.save name.now (Some stimulus.now)) result text.new.items
+        ensures { EndsFiles self.old (request.save name.now (Some stimulus.now)) result text.new.items
             (K.calls files.old) (K.calls files.new) self.new }
     {
         let circuit = self.saved_circuit()?;
@@ -167,10 +162,8 @@ impl Session {
         circuit: &'a [u8],
         stimulus: Option<&'a [u8]>,
     ) -> Result<(), Refusal<'a>>
-        requires session { IsSession self.old }
         requires empty { text.old.items ≡ [] }
-        ensures session { IsSession self.new }
-        ensures files { EndsFiles self.old (request.save circuit.now (option_map (λ w. w.now) stimulus.entry)) result
+        ensures { EndsFiles self.old (request.save circuit.now (option_map (λ w. w.now) stimulus.entry)) result
             text.new.items (K.calls files.old) (K.calls files.new) self.new }
     {
         match stimulus {
@@ -186,7 +179,7 @@ impl Session {
             (start_of self.now.run.bench.pair.circuit) (take (reached.frame + 1) self.now.run.bench.pair.rows)) }
     {
         let start = first_states(self.alloc, self.circuit())?;
-        let mut out = Text::new(self.alloc);
+        let mut out = TextBuffer::new(self.alloc);
         let written = write_witness(
             &mut out,
             reached.property,
@@ -202,7 +195,6 @@ impl Session {
 
     /// The property that a word names; without a word, that of the witness that was opened.
     fn asked<'a>(&self, property: Option<&'a [u8]>) -> Result<Option<u32>, Refusal<'a>>
-        requires session { IsSession self.now }
         ensures asked { IfOk result
             (IsAsked self.now.run.bench.pair.circuit self.now.property (option_map (λ w. w.now) property.entry)) }
         ensures within { IfOk result (λ asked. IfSome asked (λ k. k < length self.now.run.bench.pair.circuit.bad)) }
@@ -224,10 +216,8 @@ impl Session {
         name: &'a [u8],
         property: Option<&'a [u8]>,
     ) -> Result<(), Refusal<'a>>
-        requires session { IsSession self.old }
         requires empty { text.old.items ≡ [] }
-        ensures session { IsSession self.new }
-        ensures files { EndsFiles self.old (request.witness name.now (option_map (λ w. w.now) property.entry)) result
+        ensures { EndsFiles self.old (request.witness name.now (option_map (λ w. w.now) property.entry)) result
             text.new.items (K.calls files.old) (K.calls files.new) self.new }
     {
         let asked = self.asked(property)?;
@@ -248,13 +238,12 @@ impl Session {
 
     /// The dump of the run.
     fn wave_text(&self) -> Result<Vec<u8>, Memory>
-        requires { IsSession self.now }
         ensures { IfOk result (λ text. IsDump (own_circuit self.now) (start_of self.now.run.bench.pair.circuit)
             self.now.run.bench.pair.rows text.items) }
     {
         let rows = self.saved_rows()?;
         let mut reader = MemReader::new(rows.as_slice());
-        let mut out = Text::new(self.alloc);
+        let mut out = TextBuffer::new(self.alloc);
         match dump(self.alloc, self.circuit(), &mut reader, &mut out) {
             Ok(_frames) => Ok(out.into_bytes()),
             Err(_) => Err(Memory),
@@ -263,7 +252,6 @@ impl Session {
 
     /// Writes the run as a dump.
     pub(crate) fn wave<'a, K: Keep>(&self, files: &mut K, name: &'a [u8]) -> Result<(), Refusal<'a>>
-        requires session { IsSession self.now }
         ensures files { EndsFiles self.now (request.wave name.now) result [] (K.calls files.old) (K.calls files.new)
             self.now }
     {

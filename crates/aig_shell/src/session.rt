@@ -5,14 +5,12 @@ ghost use Rattle.aig_parts.specs.Literal.{variable};
 ghost use Rattle.aig_base.specs.Sections.{IsDefined, IsLatchLiteral};
 ghost use Rattle.aig_bench.specs.BenchState.{HasValue};
 ghost use Rattle.aig_signals.specs.Lookup.{Means, Unknown, alone};
+ghost use Rattle.aig_signals.specs.Signals.{signals_of};
 ghost use Rattle.aig_shell.specs.Edits.{ArePositions, MeansInputs, MeansLatches};
+ghost use Rattle.aig_shell.specs.Latches.{AreAlike, AreAlike-prop};
 ghost use Rattle.aig_base.specs.Runs.{Allows};
-ghost use Rattle.aig_base.specs.Sound.{IsReset};
 ghost use Rattle.aig_base.specs.Value.{reset_value, start_of};
-ghost use Rattle.aig_shell.specs.Reasons.{IsFirstWrong};
-ghost use Rattle.aig_shell.specs.Standing.{StartsRight};
-ghost use Rattle.aig_shell.specs.Conversation.{RefusesRows};
-ghost use Rattle.aig_shell.specs.Session.{BeginsAt, IsIn, IsSession, KeepsRun, first_state, own_circuit};
+ghost use Rattle.std.proofs.Props.{props};
 
 pub(crate) mod at_once;
 pub(crate) mod edits;
@@ -28,7 +26,7 @@ use aig_bench::{Bench, BenchFault};
 use aig_command::{GivenRun, RunFault};
 use aig_signals::{Signal, SignalNames, decimal_of, signals_of};
 use aig_sim::{PlaneGrid, Stimulus};
-use aig_why::Run;
+use aig_why::ExplainedRun;
 use std::alloc::Global;
 
 /// How many words of a line are looked up at once; fewer are looked up one by one.
@@ -38,7 +36,7 @@ const MANY: usize = 8;
 pub(crate) struct Session {
     pub(crate) alloc: Global,
     /// The bench, whose circuit starts by its resets as the run does; and the latches with the resets of the file.
-    pub(crate) run: Run<PlaneGrid>,
+    pub(crate) run: ExplainedRun<PlaneGrid>,
     /// The property of the witness that was opened.
     pub(crate) property: Option<u32>,
     /// The signals of the circuit.
@@ -49,6 +47,12 @@ pub(crate) struct Session {
     pub(crate) kept: KeptRun,
     /// Whether a gate or an output was edited since the circuit was read or written.
     pub(crate) has_edited_circuit: bool,
+    // The signals are those of the circuit.
+    ghost has_signals: { signals.items ≡ signals_of run.bench.pair.circuit } by { Prim.hlevel props },
+    // The latches with the resets of the file are those of the circuit.
+    ghost has_latches: { AreAlike run.latches.items run.bench.pair.circuit.latches } by { AreAlike-prop _ _ },
+    // The circuit has the property.
+    ghost has_property: { IfSome property (λ k. k < length run.bench.pair.circuit.bad) } by { Prim.hlevel props },
 }
 
 // By hand: a value then ends in one call, which is one step of a proof (docs/PROOFS.md, Habits).
@@ -144,26 +148,28 @@ fn are_latches(circuit: &Circuit, literals: &[Lit]) -> bool
 
 /// Whether the reset of a latch does not allow the start that another reset says.
 fn starts_elsewhere(own: Latch, now: Latch) -> bool
-    requires literal { 1 < own.lit }
-    requires reset { IsReset own }
     ensures { IsTrue result ↔ (Allows own (reset_value now.reset) → ⊥) }
 {
+    if own.reset == own.lit {
+        return false;
+    }
     let reset = aig_sim::first_value(own);
     let start = aig_sim::first_value(now);
-    if reset == Tern::X {
-        false
-    } else {
-        start != reset
-    }
+    start != reset
 }
 
 impl Session {
+    // Not at the top: a type with ghost fields stands on all that its file names there, and these files name the type.
+    ghost use Rattle.aig_shell.specs.Conversation.{RefusesRows};
+    ghost use Rattle.aig_shell.specs.Reasons.{IsFirstWrong};
+    ghost use Rattle.aig_shell.specs.Session.{BeginsAt, IsIn, KeepsRun, first_state, own_circuit};
+    ghost use Rattle.aig_shell.specs.Standing.{StartsRight};
+
     /// Of a circuit and a run of it.
     pub(crate) fn new(alloc: Global, circuit: Circuit, given: GivenRun) -> Result<Session, RunFault>
         requires start { length given.start.items ≡ length circuit.latches }
         requires width { given.rows.width ≡ length circuit.inputs }
         requires property { IfSome given.property (λ k. k < length circuit.bad) }
-        ensures session { IfOk result IsSession }
         ensures begins { IfOk result (λ s. BeginsAt circuit given.start.items given.rows.rows s.run.bench.pair) }
         ensures state { IfOk result (λ s. IsIn s (first_state circuit given.property s.run.bench.pair)) }
         ensures refused { IfErr result (RefusesRows circuit given.rows.rows) }
@@ -176,7 +182,7 @@ impl Session {
             start,
             rows,
         } = given;
-        let run = Run::new(alloc, circuit, start.as_slice(), rows)?;
+        let run = ExplainedRun::new(alloc, circuit, start.as_slice(), rows)?;
         let first = FirstRun::of(alloc, &run.bench)?;
         let kept = KeptRun::of(alloc, &run.bench)?;
         Ok(Session {
@@ -236,7 +242,6 @@ impl Session {
 
     /// The names of the circuit, for these words: what many words mean is found in one walk over the names.
     pub(crate) fn names_for(&self, words: &[&[u8]]) -> Result<SignalNames<'_>, Memory>
-        requires session { IsSession self.now }
         ensures { IfOk result (λ names. names ≡ self.now.run.bench.pair.circuit) }
     {
         let signals = self.signals.as_slice();
@@ -254,8 +259,6 @@ impl Session {
     ) -> Result<List<Lit>, Refusal<'a>>
         requires circuit { names.now ≡ self.now.run.bench.pair.circuit }
         ensures ok { IfOk result (Means self.now.run.bench.pair.circuit word.now) }
-        ensures range { IfOk result (All (λ l. variable l ≤ self.now.run.bench.pair.circuit.max_var)) }
-        ensures defined { IfOk result (All (λ l. IsDefined self.now.run.bench.pair.circuit (variable l))) }
         ensures err { IfErr result (λ refusal. refusal ≢ Refusal.Memory →
             Unknown self.now.run.bench.pair.circuit word.now) }
     {
@@ -268,10 +271,7 @@ impl Session {
 
     /// The literals that a word means, from bit 0 up.
     pub(crate) fn literals<'a>(&self, word: &'a [u8]) -> Result<List<Lit>, Refusal<'a>>
-        requires session { IsSession self.now }
         ensures ok { IfOk result (Means self.now.run.bench.pair.circuit word.now) }
-        ensures range { IfOk result (All (λ l. variable l ≤ self.now.run.bench.pair.circuit.max_var)) }
-        ensures defined { IfOk result (All (λ l. IsDefined self.now.run.bench.pair.circuit (variable l))) }
         ensures err { IfErr result (λ refusal. refusal ≢ Refusal.Memory →
             Unknown self.now.run.bench.pair.circuit word.now) }
     {
@@ -281,7 +281,6 @@ impl Session {
 
     /// The literal that a word means.
     pub(crate) fn literal<'a>(&self, word: &'a [u8]) -> Result<Lit, Refusal<'a>>
-        requires session { IsSession self.now }
         ensures ok { IfOk result (λ literal. Means self.now.run.bench.pair.circuit word.now (alone literal)) }
         ensures err { IfErr result (λ refusal. refusal ≢ Refusal.Memory → (literal : ℕ) →
             Means self.now.run.bench.pair.circuit word.now (alone literal) → ⊥) }
@@ -300,7 +299,6 @@ impl Session {
 
     /// The positions of the inputs that a word means, from bit 0 up.
     pub(crate) fn inputs<'a>(&self, word: &'a [u8]) -> Result<Vec<u32>, Refusal<'a>>
-        requires session { IsSession self.now }
         ensures ok { IfOk result (λ positions. MeansInputs self.now.run.bench.pair.circuit word.now positions.items) }
         ensures err { IfErr result (λ refusal. refusal ≢ Refusal.Memory → (positions : List ℕ) →
             MeansInputs self.now.run.bench.pair.circuit word.now positions → ⊥) }
@@ -320,7 +318,6 @@ impl Session {
 
     /// The literals of the latches that a word means, from bit 0 up.
     pub(crate) fn latches<'a>(&self, word: &'a [u8]) -> Result<List<Lit>, Refusal<'a>>
-        requires session { IsSession self.now }
         ensures ok { IfOk result (MeansLatches self.now.run.bench.pair.circuit word.now) }
         ensures err { IfErr result (λ refusal. refusal ≢ Refusal.Memory → (latches : List ℕ) →
             MeansLatches self.now.run.bench.pair.circuit word.now latches → ⊥) }
@@ -339,7 +336,6 @@ impl Session {
 
     /// The number of the latch that does not start as its reset says, the least, with its value; none where all do.
     pub(crate) fn other_start(&self) -> Option<(u32, Tern)>
-        requires session { IsSession self.now }
         ensures some { IfSome result (λ found. IsFirstWrong (own_circuit self.now)
             (start_of self.now.run.bench.pair.circuit) found.0 found.1) }
         ensures none { IfNone result (StartsRight (own_circuit self.now) (start_of self.now.run.bench.pair.circuit)) }
@@ -359,7 +355,6 @@ impl Session {
 
     /// Whether all latches start as their resets say, those without one at x.
     pub(crate) fn starts_by_reset(&self) -> bool
-        requires session { IsSession self.now }
         ensures { IsTrue result ↔ (start_of self.now.run.bench.pair.circuit ≡ start_of (own_circuit self.now)) }
     {
         let circuit = self.circuit();

@@ -4,7 +4,6 @@ ghost use Rattle.aig_bytes.specs.Bytes.{Writes};
 ghost use Rattle.aig_bytes.specs.Flow.{flow};
 ghost use Rattle.aig_shell.specs.Answers.{IsUnsaved};
 ghost use Rattle.aig_shell.specs.Conversation.{BreaksDown, Ended, IsAt, IsGreeting, prompt};
-ghost use Rattle.aig_shell.specs.Session.{IsSession};
 ghost use Rattle.aig_shell.specs.State.{SessionState};
 ghost use Rattle.aig_shell.specs.Talking.{EndsInput, Feeds, Finishes, HoldsLine, Moment, Replies, Stands, moment};
 ghost use Rattle.aig_shell.specs.Talking.{newline};
@@ -14,7 +13,7 @@ pub(crate) mod conversation;
 use crate::files::keeper::Keep;
 use crate::pieces::{Piece, push_pieces};
 use crate::session::Session;
-use crate::talk::conversation::{Conversation, Next};
+use crate::talk::conversation::{AfterLine, Conversation};
 use aig_base::{Circuit, Io, Memory, Read, Write, line_length, write_all};
 use std::alloc::Global;
 
@@ -26,19 +25,19 @@ const PROMPT: &[u8] = b"aig> ";
 
 /// The line that is being read.
 #[derive(Drop)]
-pub(crate) struct Line {
+pub(crate) struct LineBuffer {
     /// Its first bytes.
     pub(crate) bytes: Vec<u8>,
     /// Whether no memory was found for more of it.
     pub(crate) is_cut: bool,
 }
 
-impl Line {
+impl LineBuffer {
     /// Before the first byte.
-    fn new(alloc: Global) -> Line
+    fn new(alloc: Global) -> LineBuffer
         ensures { HoldsLine [] result }
     {
-        Line {
+        LineBuffer {
             bytes: Vec::new(alloc),
             is_cut: false,
         }
@@ -71,11 +70,9 @@ impl Conversation {
         files: &mut K,
         line: &[u8],
         out: &mut W,
-    ) -> Result<Next, Io>
-        requires session { IsSession self.old.session }
-        ensures reply { Replies self.old line.now (moment W.written W.failures K.calls out.old files.old)
+    ) -> Result<AfterLine, Io>
+        ensures { Replies self.old line.now (moment W.written W.failures K.calls out.old files.old)
             (moment W.written W.failures K.calls out.new files.new) result self.new }
-        ensures session { IsSession self.new.session }
     {
         match self.make_answer(files, line) {
             Ok(next) => {
@@ -84,7 +81,7 @@ impl Conversation {
             }
             Err(Memory) => {
                 write_all(out, NO_MEMORY)?;
-                Ok(Next::GoesOn)
+                Ok(AfterLine::GoesOn)
             }
         }
     }
@@ -125,7 +122,7 @@ fn push_greeting(text: &mut Vec<u8>, session: &Session) -> Result<(), Memory> {
 #[derive(Drop)]
 pub(crate) struct Talker {
     pub(crate) conversation: Conversation,
-    pub(crate) line: Line,
+    pub(crate) line: LineBuffer,
     /// Whether a person sees the prompt.
     pub(crate) has_prompt: bool,
 }
@@ -137,7 +134,7 @@ impl Talker {
         ensures line { HoldsLine [] result.line }
         ensures prompt { result.has_prompt ≡ has_prompt }
     {
-        let line = Line::new(conversation.session.alloc);
+        let line = LineBuffer::new(conversation.session.alloc);
         Talker {
             conversation,
             line,
@@ -178,9 +175,7 @@ impl Talker {
         files: &mut K,
         piece: &[u8],
         out: &mut W,
-    ) -> Result<Next, Io>
-        requires session { IsSession self.old.conversation.session }
-        ensures session { IsSession self.new.conversation.session }
+    ) -> Result<AfterLine, Io>
         ensures reply { (held : List ℕ) → HoldsLine held self.old.line
             → Replies self.old.conversation (held ++ piece.now)
             (moment W.written W.failures K.calls out.old files.old)
@@ -193,11 +188,11 @@ impl Talker {
             return self.conversation.answer(files, piece, out);
         }
         self.line.extend(piece);
-        let next = Line::new(self.conversation.session.alloc);
-        let Line { bytes, is_cut } = std::mem::replace(&mut self.line, next);
+        let next = LineBuffer::new(self.conversation.session.alloc);
+        let LineBuffer { bytes, is_cut } = std::mem::replace(&mut self.line, next);
         if is_cut {
             write_all(out, NO_MEMORY)?;
-            return Ok(Next::GoesOn);
+            return Ok(AfterLine::GoesOn);
         }
         self.conversation.answer(files, bytes.as_slice(), out)
     }
@@ -208,10 +203,8 @@ impl Talker {
         files: &mut K,
         bytes: &[u8],
         out: &mut W,
-    ) -> Result<Next, Io>
-        requires session { IsSession self.old.conversation.session }
-        ensures session { IsSession self.new.conversation.session }
-        ensures feeds { (start : Moment) (person : Bool) (s : SessionState) (input : List ℕ)
+    ) -> Result<AfterLine, Io>
+        ensures { (start : Moment) (person : Bool) (s : SessionState) (input : List ℕ)
             → Stands start (moment W.written W.failures K.calls out.old files.old) person s input self.old
             → Feeds start (moment W.written W.failures K.calls out.new files.new) person s (input ++ bytes.now) result
             self.new }
@@ -221,11 +214,11 @@ impl Talker {
             let size = line_length(rest);
             if size == rest.len() {
                 self.line.extend(rest);
-                return Ok(Next::GoesOn);
+                return Ok(AfterLine::GoesOn);
             }
             match self.end_line(files, &rest[..size], out)? {
-                Next::Ends => return Ok(Next::Ends),
-                Next::GoesOn => self.write_prompt(out)?,
+                AfterLine::Ends => return Ok(AfterLine::Ends),
+                AfterLine::GoesOn => self.write_prompt(out)?,
             }
             rest = &rest[size + 1..];
         }
@@ -242,28 +235,30 @@ impl Talker {
     }
 
     /// Answers a last line without an LF, if there is one.
-    fn end_last_line<K: Keep, W: Write>(&mut self, files: &mut K, out: &mut W) -> Result<Next, Io>
-        requires session { IsSession self.old.conversation.session }
+    fn end_last_line<K: Keep, W: Write>(
+        &mut self,
+        files: &mut K,
+        out: &mut W,
+    ) -> Result<AfterLine, Io>
         ensures { (start : Moment) (person : Bool) (s : SessionState) (input : List ℕ)
             → Stands start (moment W.written W.failures K.calls out.old files.old) person s input self.old
             → Finishes start (moment W.written W.failures K.calls out.new files.new) person s input result self.new }
     {
         if self.line.is_empty() {
-            return Ok(Next::GoesOn);
+            return Ok(AfterLine::GoesOn);
         }
         self.end_line(files, b"", out)
     }
 
     /// Answers a last line without an LF, and says what is unsaved.
     fn end<K: Keep, W: Write>(&mut self, files: &mut K, out: &mut W) -> Result<(), Io>
-        requires session { IsSession self.old.conversation.session }
         ensures { (start : Moment) (person : Bool) (s : SessionState) (input : List ℕ)
             → Stands start (moment W.written W.failures K.calls out.old files.old) person s input self.old
             → EndsInput start (moment W.written W.failures K.calls out.new files.new) person s input result }
     {
         match self.end_last_line(files, out)? {
-            Next::Ends => Ok(()),
-            Next::GoesOn => {
+            AfterLine::Ends => Ok(()),
+            AfterLine::GoesOn => {
                 self.write_newline(out)?;
                 self.conversation.write_unsaved(out)
             }
@@ -277,7 +272,6 @@ impl Talker {
         reader: &mut R,
         out: &mut W,
     ) -> Result<(), Io>
-        requires session { IsSession self.old.conversation.session }
         ensures ended { OnOk result ((s : SessionState) → IsAt self.old.conversation s → HoldsLine [] self.old.line
             → Ended (record {
               reader = flow R.left R.failures reader.old reader.new;
@@ -304,8 +298,8 @@ impl Talker {
                 return self.end(files, out);
             }
             match self.feed(files, &buffer[..size], out)? {
-                Next::Ends => return Ok(()),
-                Next::GoesOn => {}
+                AfterLine::Ends => return Ok(()),
+                AfterLine::GoesOn => {}
             }
         }
     }

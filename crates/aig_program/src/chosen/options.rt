@@ -7,7 +7,7 @@ ghost use Rattle.aig_program.specs.ChosenFiles.{HoldsKept};
 use aig_base::PropertySection;
 use aig_cli::{has_flag, number_of, text_of};
 use aig_commands::check::Shown;
-use aig_files::{Exit, Kept};
+use aig_files::{Exit, KeptFileNames};
 use aig_format::Format;
 use aig_signals::Form;
 use aig_why::Span;
@@ -87,10 +87,10 @@ pub fn shown_of(matches: &ArgMatches<'_>) -> Option<Shown>
 }
 
 /// Returns the files of `--circuit-out` and `--stimulus-out`.
-pub fn kept_of<'a>(matches: &ArgMatches<'a>) -> Kept<'a>
+pub fn kept_of<'a>(matches: &ArgMatches<'a>) -> KeptFileNames<'a>
     ensures held { HoldsKept matches.now result }
 {
-    Kept {
+    KeptFileNames {
         circuit: text_of(matches, "circuit-out"),
         stimulus: text_of(matches, "stimulus-out"),
     }

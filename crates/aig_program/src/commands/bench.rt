@@ -12,7 +12,7 @@ use crate::ended::written;
 use crate::kept::{FileText, KeptFiles};
 use aig_base::Write;
 use aig_command::{RunFault, ScriptFault, flushed};
-use aig_files::{Exit, Kept, Known, Opened, Part, read_whole};
+use aig_files::{Exit, KeptFileNames, KnownReader, Opened, Part, read_whole};
 use aig_script::bench;
 use clap::ArgMatches;
 use std::fs::Files;
@@ -25,7 +25,7 @@ pub struct BenchReplies<'a, F> {
     pub circuit: F,
     pub stimulus: F,
     pub script: F,
-    pub kept: Kept<'a>,
+    pub kept: KeptFileNames<'a>,
 }
 
 /// Opens the files that `bench` reads.
@@ -88,7 +88,7 @@ where
         EndsKeeping (seen W.written W.failures out.old out.new) (RunFault.Script ScriptFault.Io)
         (OfText lines (LeavesBench texts.entry.circuit.now texts.entry.stimulus.now)) result) }
 {
-    let mut script = Known::new(script);
+    let mut script = KnownReader::new(script);
     let done = bench::bench(rt.alloc(), texts.circuit, texts.stimulus, &mut script, out);
     match flushed(done, out, RunFault::Script(ScriptFault::Io)) {
         Ok(bench) => written(files.write(

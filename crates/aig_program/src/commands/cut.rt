@@ -11,7 +11,7 @@ use crate::ended::streamed;
 use aig_base::Write;
 use aig_command::RunFault;
 use aig_commands::cut;
-use aig_files::{Exit, Known, Opened, Part, read_whole};
+use aig_files::{Exit, KnownReader, Opened, Part, read_whole};
 use aig_format::Format;
 use clap::ArgMatches;
 use std::alloc::Global;
@@ -48,7 +48,7 @@ pub fn run<F: Read + Drop, W: Write>(
     ensures ends { EndsCut (seen W.written W.failures out.old out.new) F.remaining it result }
 {
     let cuts = read_whole(alloc, it.cuts, Part::Cuts)?;
-    let mut circuit = Known::new(it.circuit);
+    let mut circuit = KnownReader::new(it.circuit);
     let text = cuts.as_slice();
     let done = cut::cut(alloc, &mut circuit, text, it.to, out);
     streamed(done, out, RunFault::Output)

@@ -12,7 +12,7 @@ use aig_base::Write;
 use aig_cli::has_flag;
 use aig_command::RunFault;
 use aig_commands::info;
-use aig_files::{Exit, Known, Opened};
+use aig_files::{Exit, KnownReader, Opened};
 use aig_signals::Form;
 use clap::ArgMatches;
 use std::alloc::Global;
@@ -52,7 +52,7 @@ pub fn open<'m, R: Files>(
 pub fn run<F: Read + Drop, W: Write>(alloc: Global, it: Info<F>, out: &mut W) -> Result<(), Exit>
     ensures ends { EndsInfo (seen W.written W.failures out.old out.new) F.remaining it result }
 {
-    let mut circuit = Known::new(it.circuit);
+    let mut circuit = KnownReader::new(it.circuit);
     let done = info::info(alloc, &mut circuit, out);
     streamed(done, out, RunFault::Output)
 }
@@ -65,7 +65,7 @@ pub fn run_names<F: Read + Drop, W: Write>(
 ) -> Result<(), Exit>
     ensures ends { EndsInfoNames (seen W.written W.failures out.old out.new) F.remaining it result }
 {
-    let mut circuit = Known::new(it.circuit);
+    let mut circuit = KnownReader::new(it.circuit);
     let done = info::info_names_as(alloc, &mut circuit, it.form, out);
     streamed(done, out, RunFault::Output)
 }

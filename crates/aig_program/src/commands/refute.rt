@@ -16,7 +16,7 @@ use aig_command::RunFault;
 use aig_commands::question::Question;
 use aig_commands::refute;
 use aig_commands::refute::Proofs;
-use aig_files::{Exit, Opened, Part, Source, read_whole};
+use aig_files::{Exit, FileSource, Opened, Part, read_whole};
 use clap::ArgMatches;
 use std::alloc::Global;
 use std::fs::Files;
@@ -86,7 +86,7 @@ fn open_step<'m, R: Files + AllocGlobal>(
 {
     match text_of(matches, "step") {
         Some(step) => aig_files::open(rt, step, Part::StepProof),
-        None => Ok(Source::none(rt.alloc())),
+        None => Ok(FileSource::none(rt.alloc())),
     }
 }
 

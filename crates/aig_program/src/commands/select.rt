@@ -13,7 +13,7 @@ use aig_cli::text_of;
 use aig_command::RunFault;
 use aig_commands::select;
 use aig_commands::select::NamedSelection;
-use aig_files::{Exit, Known, Opened, Part, read_whole};
+use aig_files::{Exit, KnownReader, Opened, Part, read_whole};
 use aig_format::Format;
 use clap::ArgMatches;
 use std::alloc::Global;
@@ -93,7 +93,7 @@ pub fn open<'m, R: Files + AllocGlobal>(
 pub fn run<F: Read + Drop, W: Write>(alloc: Global, it: Select<F>, out: &mut W) -> Result<(), Exit>
     ensures ends { EndsSelect (seen W.written W.failures out.old out.new) F.remaining it result }
 {
-    let mut circuit = Known::new(it.circuit);
+    let mut circuit = KnownReader::new(it.circuit);
     let asked = select::Selection {
         from: it.selection.from,
         into: it.selection.into,
@@ -112,7 +112,7 @@ pub fn run_named<F: Read + Drop, W: Write>(
     ensures ends { EndsSelectNamed (seen W.written W.failures out.old out.new) F.remaining it result }
 {
     let names = read_whole(alloc, it.names, Part::Names)?;
-    let mut circuit = Known::new(it.circuit);
+    let mut circuit = KnownReader::new(it.circuit);
     let positions = it.selection.positions.as_slice();
     let text = names.as_slice();
     let selection = NamedSelection {

@@ -10,7 +10,7 @@ use crate::ended::streamed;
 use aig_base::Write;
 use aig_command::RunFault;
 use aig_commands::sim;
-use aig_files::{Exit, Known, Opened, Part};
+use aig_files::{Exit, KnownReader, Opened, Part};
 use aig_sim::StimFault;
 use clap::ArgMatches;
 use std::alloc::Global;
@@ -40,8 +40,8 @@ pub fn open<'m, R: Files>(
 pub fn run<F: Read + Drop, W: Write>(alloc: Global, it: Sim<F>, out: &mut W) -> Result<(), Exit>
     ensures ends { EndsSim (seen W.written W.failures out.old out.new) F.remaining it result }
 {
-    let mut circuit = Known::new(it.circuit);
-    let mut stimulus = Known::new(it.stimulus);
+    let mut circuit = KnownReader::new(it.circuit);
+    let mut stimulus = KnownReader::new(it.stimulus);
     let done = sim::sim(alloc, &mut circuit, &mut stimulus, out);
     streamed(done, out, RunFault::Stimulus(StimFault::Io))
 }

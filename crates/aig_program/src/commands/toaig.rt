@@ -11,7 +11,7 @@ use crate::ended::streamed;
 use aig_base::Write;
 use aig_command::RunFault;
 use aig_commands::convert_from;
-use aig_files::{Exit, Known, Opened};
+use aig_files::{Exit, KnownReader, Opened};
 use aig_format::Format;
 use clap::ArgMatches;
 use std::alloc::Global;
@@ -41,7 +41,7 @@ pub fn open<'m, R: Files>(
 pub fn run<F: Read + Drop, W: Write>(alloc: Global, it: Toaig<F>, out: &mut W) -> Result<(), Exit>
     ensures ends { EndsToaig (seen W.written W.failures out.old out.new) F.remaining it result }
 {
-    let mut circuit = Known::new(it.circuit);
+    let mut circuit = KnownReader::new(it.circuit);
     let done = convert_from(alloc, &mut circuit, it.to, out);
     streamed(done, out, RunFault::Output)
 }

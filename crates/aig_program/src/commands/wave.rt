@@ -11,7 +11,7 @@ use aig_base::Write;
 use aig_cli::has_flag;
 use aig_command::RunFault;
 use aig_commands::wave;
-use aig_files::{Exit, Known, Opened, Part, read_whole};
+use aig_files::{Exit, KnownReader, Opened, Part, read_whole};
 use aig_sim::StimFault;
 use clap::ArgMatches;
 use std::alloc::Global;
@@ -53,8 +53,8 @@ pub fn open<'m, R: Files>(
 pub fn run<F: Read + Drop, W: Write>(alloc: Global, it: Wave<F>, out: &mut W) -> Result<(), Exit>
     ensures ends { EndsWave (seen W.written W.failures out.old out.new) F.remaining it result }
 {
-    let mut circuit = Known::new(it.circuit);
-    let mut stimulus = Known::new(it.stimulus);
+    let mut circuit = KnownReader::new(it.circuit);
+    let mut stimulus = KnownReader::new(it.stimulus);
     let done = wave::wave(alloc, &mut circuit, &mut stimulus, out);
     streamed(done, out, RunFault::Stimulus(StimFault::Io))
 }

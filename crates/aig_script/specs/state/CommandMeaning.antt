@@ -1,11 +1,11 @@
 -- What the program's commands mean.
 use Rattle.aig_bench.specs.Edit as edits
-use Rattle.aig_script.specs.declared.command.Command as code
-use Rattle.aig_script.specs.declared.command.Command.TheVariants.{Rewire, SetReset, SetBit, DropFrame, AppendGate}
-use Rattle.aig_script.specs.declared.command.Command.TheVariants.{SetOutput, Value, Trace, Unroll}
+use Rattle.aig_script.specs.declared.command.ScriptCommand as code
+use Rattle.aig_script.specs.declared.command.ScriptCommand.TheVariants.{Rewire, SetReset, SetBit, DropFrame, AppendGate}
+use Rattle.aig_script.specs.declared.command.ScriptCommand.TheVariants.{SetOutput, Value, Trace, Unroll}
 use Rattle.aig_script.specs.Command.{Command, edit, value, trace, unroll}
 
-abbrev pub meaning : code.Command → Command
+abbrev pub meaning : code.ScriptCommand → Command
 meaning (Rewire g a b) = edit (edits.rewire g a b)
 meaning (SetReset l w) = edit (edits.set_reset l w)
 meaning (SetBit t p w) = edit (edits.set_bit t p w)

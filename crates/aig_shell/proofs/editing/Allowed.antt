@@ -23,6 +23,18 @@ bit_allowed p t i w a b fault.NoFrame h = omega (arith, a, h)
 bit_allowed p t i w a b fault.NoInput h = omega (arith, b, h)
 bit_allowed p t i w a b _ h = h
 
+pub row_allowed : (p : CircuitAndRows) (row : List Tern) → length row ≡ length p.circuit.inputs → length p.rows < frame_limit
+    → (p.circuit.max_var + 1) * (length p.rows + 1) ≤ cell_limit → NoneApplies (Forbids p (add_frame row))
+row_allowed p row width frames cells fault.Length h = h width
+row_allowed p row width frames cells fault.Limit h = h (cells, frames)
+row_allowed p row width frames cells _ h = h
+
+-- one that is possible fails for memory alone
+pub lacks_memory : (p : CircuitAndRows) (e : Edit) (f : EditFault) → NoneApplies (Forbids p e)
+    → IsLeastFault (Forbids p e) f ⊎ LacksMemory p e f → f ≡ fault.Memory
+lacks_memory p e f none (inl h) = absurd (none f h.0)
+lacks_memory p e f none (inr h) = h.0
+
 -- an edit that fails for anything else is not possible
 pub refused : (p new q : CircuitAndRows) (e : Edit) (f : EditFault) → (IsLeastFault (Forbids p e) f ⊎ LacksMemory p e f) × (new ≡ p)
     → f ≢ fault.Memory → Leads p (e ∷ []) q → ⊥

@@ -1,39 +1,45 @@
 -- A session before and after a line.
-use Rattle.std.proofs.Common.{◌≡◌, ◌≢◌, ℕ, ◌+◌, ◌-◌, ◌^◌, ◌<◌, List, [], ◌∷◌, All, length, Option, Some, IfSome, slice_get, refl, sym}
-use Rattle.std.proofs.Common.{ap, subst, ◌∙◌, arith}
-use Rattle.std.specs.List.{AllZip}
+use Rattle.std.proofs.Common.{◌≡◌, ℕ, ◌-◌, ◌^◌, ◌<◌, List, All, length, Some, IfSome, slice_get, sym}
+use Rattle.std.proofs.Common.{ap, subst, ◌∙◌, arith, Result, Ok, Err, OnOk, OnErr}
 use Rattle.std.proofs.lemmas.List.Elements.{AllZip-get_or}
 use Rattle.std.proofs.lemmas.Option.{slice_get_within}
 use Rattle.std.proofs.lemmas.Slice.Zip.{AllZip-long}
-use Rattle.aig_parts.specs.declared.latch.Latch.{Latch}
 use Rattle.aig_parts.specs.declared.raw.Raw.{Raw}
 use Rattle.aig_parts.specs.declared.ternary.Tern.{Tern}
 use Rattle.aig_base.specs.Sections.{IsDefined}
-use Rattle.aig_base.specs.Sound.{IsReset}
 use Rattle.aig_bench.specs.BenchState.{CircuitAndRows}
 use Rattle.aig_bench.specs.Edit.{Edit}
-use Rattle.aig_base.specs.Resets.{IsSameLatch}
 use Rattle.aig_signals.specs.Signals.{signals_of}
 use Rattle.aig_shell.specs.declared.session.Session.{Session}
 use Rattle.aig_shell.specs.Edits.{ArePositions, MeansInputs, MeansLatches, AreFrames, IsValue, Does, IsImpossible}
+use Rattle.aig_shell.specs.Latches.{AreAlike}
 use Rattle.aig_shell.specs.Request.{set, start}
-use Rattle.aig_shell.specs.Session.{IsSession, KeepsRest}
 use Rattle.aig_shell.specs.State.{Leads}
 use Rattle.aig_shell.proofs.editing.Kept.{leads_bad, leads_signals, leads_latches}
 use Rattle.aig_shell.proofs.words.Meanings.{means_one, inputs_size}
 
--- edits keep what holds of a session
-pub session_kept : (old new : Session) (edits : List Edit) → IsSession old → KeepsRest old new
-    → Leads old.run.bench.pair edits new.run.bench.pair → IsSession new
-session_kept old new edits s k h = record {
-  signals = ap (λ v. v.items) k.signals ∙ s.signals ∙ sym (leads_signals edits old.run.bench.pair new.run.bench.pair h);
-  latches = subst (λ (ls : List Latch). AllZip IsSameLatch ls new.run.bench.pair.circuit.latches) (sym (ap (λ v. v.items) k.latches))
-      (leads_latches old.run.latches.items edits old.run.bench.pair new.run.bench.pair s.latches h);
-  resets = subst (All IsReset) (sym (ap (λ v. v.items) k.latches)) s.resets;
-  property = subst (λ (o : Option ℕ). IfSome o (λ k. k < length new.run.bench.pair.circuit.bad)) (sym k.property)
-      (subst (λ (ls : List ℕ). IfSome old.property (λ k. k < length ls))
-      (sym (leads_bad edits old.run.bench.pair new.run.bench.pair h)) s.property);
+-- what a session knows of its bench is true of this pair
+pub record Fits (s : Session) (p : CircuitAndRows) : Type 0 where
+  pub signals : s.signals.items ≡ signals_of p.circuit
+  pub latches : AreAlike s.run.latches.items p.circuit.latches
+  pub property : IfSome s.property (λ k. k < length p.circuit.bad)
+
+-- edits keep it
+pub still_fits : (s : Session) (edits : List Edit) (p : CircuitAndRows) → Leads s.run.bench.pair edits p → Fits s p
+still_fits s edits p h = record {
+  signals = s.has_signals ∙ sym (leads_signals edits s.run.bench.pair p h);
+  latches = leads_latches s.run.latches.items edits s.run.bench.pair p s.has_latches h;
+  property = subst (λ (ls : List ℕ). IfSome s.property (λ k. k < length ls)) (sym (leads_bad edits s.run.bench.pair p h)) s.has_property;
 }
+
+pub fits_same : (s : Session) (p : CircuitAndRows) → p ≡ s.run.bench.pair → Fits s p
+fits_same s p e =
+    subst (Fits s) (sym e) (record { signals = s.has_signals; latches = s.has_latches; property = s.has_property })
+
+pub fits_either : {A E : Type 0} (s : Session) (edits : List Edit) (result : Result A E) (p : CircuitAndRows)
+    → OnOk result (Leads s.run.bench.pair edits p) → OnErr result (p ≡ s.run.bench.pair) → Fits s p
+fits_either s edits (Ok x) p done kept = still_fits s edits p done
+fits_either s edits (Err e) p done kept = fits_same s p kept
 
 -- the positions are those of inputs
 pub positions_within : (raw : Raw) (literals positions : List ℕ) → ArePositions raw literals positions

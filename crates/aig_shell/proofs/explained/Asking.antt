@@ -27,7 +27,7 @@ use Rattle.aig_shell.specs.Answers.{Answers, HasNoAnswer, calm}
 use Rattle.aig_shell.specs.Ends.{EndsQuery}
 use Rattle.aig_shell.specs.Explained.{Explains, IsFrameOrLast}
 use Rattle.aig_shell.specs.Request.{Request, why, why_first}
-use Rattle.aig_shell.specs.Session.{IsIn, IsSession, own_circuit}
+use Rattle.aig_shell.specs.Session.{IsIn, own_circuit}
 use Rattle.aig_shell.specs.State.{SessionState, circuit_of}
 use Rattle.aig_shell.proofs.editing.Impossible.{small_variables}
 use Rattle.aig_shell.proofs.words.Meanings.{means_none}
@@ -51,14 +51,14 @@ own_latches raw latches e =
     (length-map latches (λ (x : Latch). x.lit) ∙ e ∙ sym (length-map raw.latches (λ (x : Latch). x.lit)))
 
 -- the names of the bench's circuit are those of the circuit with the resets of the file
-pub names_own : (session : Session) → IsSession session → (n : Naming)
+pub names_own : (session : Session) (n : Naming)
     → n.inputs.signals ≡ section_signals session.run.bench.pair.circuit Input
     → n.latches.signals ≡ section_signals session.run.bench.pair.circuit kinds.Latch
     → IsNamingOf (own_circuit session) session.run.bench.pair n
-names_own session h n inputs latches = record {
-  resets = own_differs session h;
+names_own session n inputs latches = record {
+  resets = own_differs session;
   inputs = inputs ∙ sym (own_inputs session.run.bench.pair.circuit session.run.latches.items);
-  latches = latches ∙ sym (own_latches session.run.bench.pair.circuit session.run.latches.items (own_size session h));
+  latches = latches ∙ sym (own_latches session.run.bench.pair.circuit session.run.latches.items (own_size session));
 }
 
 pub names_nothing : (raw : Raw) (n : Naming) → n.inputs.values ≡ replicate (length raw.inputs) None

@@ -20,19 +20,19 @@ use Rattle.aig_shell.specs.State.{SessionState}
 use Rattle.aig_shell.specs.declared.request.command.Edit.{Edit}
 use Rattle.aig_shell.specs.declared.request.command.Export.{Export}
 use Rattle.aig_shell.specs.declared.request.command.Export.TheVariants as exports
-use Rattle.aig_shell.specs.declared.request.command.Query.{Query}
+use Rattle.aig_shell.specs.declared.request.command.ShellQuery.{ShellQuery}
 use Rattle.aig_shell.specs.declared.refusal.Refusal.{Refusal}
 use Rattle.aig_shell.specs.declared.refusal.Refusal.TheVariants as refusals
 use Rattle.aig_shell.specs.declared.session.run_kept.FirstRun.{FirstRun}
 use Rattle.aig_shell.specs.declared.session.Session.{Session}
 use Rattle.aig_shell.proofs.editing.Entries.{leads_entries}
 
--- the state of a session that keeps all but the pair and the flag of the circuit
-in_next : (old new : Session) (s after : SessionState) → IsIn old s → KeepsRest old new
+-- the state of a session after an edit
+in_next : (old new : Session) (s after : SessionState) (flag : Bool) → IsIn old s → KeepsRest old flag new
     → HasSameEntries s.first.circuit new.run.bench.pair.circuit → after.pair ≡ new.run.bench.pair
-    → after.latches ≡ s.latches → after.property ≡ s.property → after.first ≡ s.first → after.kept ≡ s.kept → after.has_edited_circuit ≡ new.has_edited_circuit
+    → after.latches ≡ s.latches → after.property ≡ s.property → after.first ≡ s.first → after.kept ≡ s.kept → after.has_edited_circuit ≡ flag
     → IsIn new after
-in_next old new s after h k entries pair latches property first kept circuit = record {
+in_next old new s after flag h k entries pair latches property first kept circuit = record {
   pair = pair;
   latches = latches ∙ h.latches ∙ sym (ap (λ v. v.items) k.latches);
   property = property ∙ h.property ∙ sym k.property;
@@ -41,15 +41,15 @@ in_next old new s after h k entries pair latches property first kept circuit = r
   entries = subst (λ (p : CircuitAndRows). HasSameEntries p.circuit new.run.bench.pair.circuit) (sym first) entries;
   start = ap (λ r. r.start) kept ∙ h.start ∙ sym (ap (λ r. r.start.items) k.kept);
   rows = ap (λ r. r.rows) kept ∙ h.rows ∙ sym (ap (λ r. r.rows.rows) k.kept);
-  circuit = circuit;
+  circuit = circuit ∙ sym k.circuit;
 }
 
 -- a session that stays is in the state before
-in_same : (old new : Session) (s : SessionState) → IsIn old s → KeepsRest old new → new.run.bench.pair ≡ old.run.bench.pair
-    → new.has_edited_circuit ≡ old.has_edited_circuit → IsIn new s
-in_same old new s h k pair circuit =
-    in_next old new s s h k (subst (λ (p : CircuitAndRows). HasSameEntries s.first.circuit p.circuit) (sym pair) h.entries)
-    (h.pair ∙ sym pair) refl refl refl refl (h.circuit ∙ sym circuit)
+in_same : (old new : Session) (s : SessionState) → IsIn old s → KeepsRest old old.has_edited_circuit new
+    → new.run.bench.pair ≡ old.run.bench.pair → IsIn new s
+in_same old new s h k pair =
+    in_next old new s s old.has_edited_circuit h k (subst (λ (p : CircuitAndRows). HasSameEntries s.first.circuit p.circuit) (sym pair) h.entries)
+    (h.pair ∙ sym pair) refl refl refl refl h.circuit
 
 -- edits leave the entries
 does_entries : (old new : Session) (r : Request) (s : SessionState) → IsIn old s → Does old.run.bench.pair r new.run.bench.pair
@@ -62,64 +62,64 @@ refused : (old new : Session) (r : Request) (s : SessionState) → IsIn old s �
 refused old new r s h none = subst (λ (p : CircuitAndRows). IsImpossible p r) (sym h.pair) none
 
 -- an edit of the run
-pub run_changed : {A : Type 0} (old new : Session) (r : Request) (result : Result A Refusal) (text : List ℕ) → KeepsRest old new
-    → new.has_edited_circuit ≡ old.has_edited_circuit → EndsEdit old.run.bench.pair r result new.run.bench.pair
+pub run_changed : {A : Type 0} (old new : Session) (r : Request) (result : Result A Refusal) (text : List ℕ)
+    → KeepsRest old old.has_edited_circuit new → EndsEdit old.run.bench.pair r result new.run.bench.pair
     → ((s after : SessionState) → EditsRun s r after → Answers s r text [] after)
     → ((s : SessionState) → IsImpossible s.pair r → HasNoAnswer s r) → EndsChange old r result text new
-run_changed old new r (Ok x) text k same does holds denied = λ s h.
+run_changed old new r (Ok x) text k does holds denied = λ s h.
     let q = new.run.bench.pair in
     let after : SessionState = record s { pair = q; has_warned = false } in (
       after,
       holds s after (q, subst (λ (p : CircuitAndRows). Does p r q) (sym h.pair) does, refl),
-      in_next old new s after h k (does_entries old new r s h does) refl refl refl refl refl (h.circuit ∙ sym same),
+      in_next old new s after old.has_edited_circuit h k (does_entries old new r s h does) refl refl refl refl refl h.circuit,
     )
-run_changed old new r (Err refusal) text k same (none, kept) holds denied =
-    ((λ s h. in_same old new s h k kept same), λ other s h. denied s (refused old new r s h (none other)))
+run_changed old new r (Err refusal) text k (none, kept) holds denied =
+    ((λ s h. in_same old new s h k kept), λ other s h. denied s (refused old new r s h (none other)))
 
 -- an edit of the circuit
-pub circuit_changed : {A : Type 0} (old new : Session) (r : Request) (result : Result A Refusal) (text : List ℕ) → KeepsRest old new
-    → new.has_edited_circuit ≡ has_edited old.has_edited_circuit result
+pub circuit_changed : {A : Type 0} (old new : Session) (r : Request) (result : Result A Refusal) (text : List ℕ)
+    → KeepsRest old (has_edited old.has_edited_circuit result) new
     → EndsEdit old.run.bench.pair r result new.run.bench.pair
     → OnOk result ((s after : SessionState) → s.pair ≡ old.run.bench.pair → EditsCircuit s r after → Answers s r text [] after)
     → ((s : SessionState) → IsImpossible s.pair r → HasNoAnswer s r) → EndsChange old r result text new
-circuit_changed old new r (Ok x) text k edited does holds denied = λ s h.
+circuit_changed old new r (Ok x) text k does holds denied = λ s h.
     let q = new.run.bench.pair in
     let after : SessionState = record s { pair = q; has_edited_circuit = true; has_warned = false } in (
       after,
       holds s after h.pair (q, subst (λ (p : CircuitAndRows). Does p r q) (sym h.pair) does, refl),
-      in_next old new s after h k (does_entries old new r s h does) refl refl refl refl refl (sym edited),
+      in_next old new s after true h k (does_entries old new r s h does) refl refl refl refl refl refl,
     )
-circuit_changed old new r (Err refusal) text k same (none, kept) holds denied =
-    ((λ s h. in_same old new s h k kept same), λ other s h. denied s (refused old new r s h (none other)))
+circuit_changed old new r (Err refusal) text k (none, kept) holds denied =
+    ((λ s h. in_same old new s h k kept), λ other s h. denied s (refused old new r s h (none other)))
 
 -- each edit
 pub set_ends : (old new : Session) (frames name value : List ℕ) (result : Result (Unit {0}) Refusal) (text : List ℕ) → text ≡ []
-    → KeepsRest old new → new.has_edited_circuit ≡ old.has_edited_circuit
+    → KeepsRest old old.has_edited_circuit new
     → EndsEdit old.run.bench.pair (set frames name value) result new.run.bench.pair
     → EndsChange old (set frames name value) result text new
-set_ends old new frames name value result text empty k same does =
-    run_changed old new (set frames name value) result text k same does (λ s after h. (h, empty, refl))
+set_ends old new frames name value result text empty k does =
+    run_changed old new (set frames name value) result text k does (λ s after h. (h, empty, refl))
     (λ s none t ts after h. none h.0.0 h.0.1)
 
 pub start_ends : (old new : Session) (name value : List ℕ) (result : Result (Unit {0}) Refusal) (text : List ℕ) → text ≡ []
-    → KeepsRest old new → new.has_edited_circuit ≡ old.has_edited_circuit
+    → KeepsRest old old.has_edited_circuit new
     → EndsEdit old.run.bench.pair (start name value) result new.run.bench.pair
     → EndsChange old (start name value) result text new
-start_ends old new name value result text empty k same does =
-    run_changed old new (start name value) result text k same does (λ s after h. (h, empty, refl))
+start_ends old new name value result text empty k does =
+    run_changed old new (start name value) result text k does (λ s after h. (h, empty, refl))
     (λ s none t ts after h. none h.0.0 h.0.1)
 
 pub add_ends : (old new : Session) (count : Option (List ℕ)) (result : Result (Unit {0}) Refusal) (text : List ℕ) → text ≡ []
-    → KeepsRest old new → new.has_edited_circuit ≡ old.has_edited_circuit
+    → KeepsRest old old.has_edited_circuit new
     → EndsEdit old.run.bench.pair (add count) result new.run.bench.pair → EndsChange old (add count) result text new
-add_ends old new count result text empty k same does =
-    run_changed old new (add count) result text k same does (λ s after h. (h, empty, refl)) (λ s none t ts after h. none h.0.0 h.0.1)
+add_ends old new count result text empty k does =
+    run_changed old new (add count) result text k does (λ s after h. (h, empty, refl)) (λ s none t ts after h. none h.0.0 h.0.1)
 
 pub drop_ends : (old new : Session) (count : Option (List ℕ)) (result : Result (Unit {0}) Refusal) (text : List ℕ) → text ≡ []
-    → KeepsRest old new → new.has_edited_circuit ≡ old.has_edited_circuit
+    → KeepsRest old old.has_edited_circuit new
     → EndsEdit old.run.bench.pair (request.drop count) result new.run.bench.pair → EndsChange old (request.drop count) result text new
-drop_ends old new count result text empty k same does =
-    run_changed old new (request.drop count) result text k same does (λ s after h. (h, empty, refl))
+drop_ends old new count result text empty k does =
+    run_changed old new (request.drop count) result text k does (λ s after h. (h, empty, refl))
     (λ s none t ts after h. none h.0.0 h.0.1)
 
 rewired : (old : Session) (name side0 side1 : List ℕ) (result : Result (Unit {0}) Refusal) (text : List ℕ)
@@ -131,11 +131,12 @@ rewired old name side0 side1 (Ok x) text is = λ s after same h.
 rewired old name side0 side1 (Err e) text is = tt
 
 pub rewire_ends : (old new : Session) (name side0 side1 : List ℕ) (result : Result (Unit {0}) Refusal) (text : List ℕ)
-    → OnOk result (IsRewiredText old.run.bench.pair.circuit name side0 side1 text) → KeepsRest old new → new.has_edited_circuit ≡ has_edited old.has_edited_circuit result
+    → OnOk result (IsRewiredText old.run.bench.pair.circuit name side0 side1 text)
+    → KeepsRest old (has_edited old.has_edited_circuit result) new
     → EndsEdit old.run.bench.pair (rewire name side0 side1) result new.run.bench.pair
     → EndsChange old (rewire name side0 side1) result text new
-rewire_ends old new name side0 side1 result text is k edited does =
-    circuit_changed old new (rewire name side0 side1) result text k edited does (rewired old name side0 side1 result text is)
+rewire_ends old new name side0 side1 result text is k does =
+    circuit_changed old new (rewire name side0 side1) result text k does (rewired old name side0 side1 result text is)
     (λ s none t ts after h. none h.0.0 h.0.1)
 
 appended : (old new : Session) (side0 side1 : List ℕ) (result : Result (Unit {0}) Refusal) (was text : List ℕ) → was ≡ []
@@ -151,19 +152,19 @@ appended old new side0 side1 (Ok x) was text empty e = λ s after same h. (
 appended old new side0 side1 (Err e) was text empty is = tt
 
 pub append_ends : (old new : Session) (side0 side1 : List ℕ) (result : Result (Unit {0}) Refusal) (was text : List ℕ) → was ≡ []
-    → OnOk result (text ≡ was ++ (decimal (2 * (old.run.bench.pair.circuit.max_var + 1)) ++ 10 ∷ [])) → KeepsRest old new
-    → new.has_edited_circuit ≡ has_edited old.has_edited_circuit result
+    → OnOk result (text ≡ was ++ (decimal (2 * (old.run.bench.pair.circuit.max_var + 1)) ++ 10 ∷ []))
+    → KeepsRest old (has_edited old.has_edited_circuit result) new
     → EndsEdit old.run.bench.pair (append side0 side1) result new.run.bench.pair
     → EndsChange old (append side0 side1) result text new
-append_ends old new side0 side1 result was text empty is k edited does =
-    circuit_changed old new (append side0 side1) result text k edited does (appended old new side0 side1 result was text empty is)
+append_ends old new side0 side1 result was text empty is k does =
+    circuit_changed old new (append side0 side1) result text k does (appended old new side0 side1 result was text empty is)
     (λ s none t ts after h. none h.0.0 h.0.1)
 
 pub out_ends : (old new : Session) (name literal : List ℕ) (result : Result (Unit {0}) Refusal) (text : List ℕ) → text ≡ []
-    → KeepsRest old new → new.has_edited_circuit ≡ has_edited old.has_edited_circuit result
+    → KeepsRest old (has_edited old.has_edited_circuit result) new
     → EndsEdit old.run.bench.pair (out name literal) result new.run.bench.pair → EndsChange old (out name literal) result text new
-out_ends old new name literal result text empty k edited does =
-    circuit_changed old new (out name literal) result text k edited does (on_ok result (λ s after same h. (h, empty, refl)))
+out_ends old new name literal result text empty k does =
+    circuit_changed old new (out name literal) result text k does (on_ok result (λ s after same h. (h, empty, refl)))
     (λ s none t ts after h. none h.0.0 h.0.1)
 
 -- the help has an answer at any time
@@ -203,9 +204,9 @@ gate_refused session name (Err other) refusal text err none = λ denied s h t ts
     none (λ m. denied (err ∙ m)) answered.0 (subst (λ (p : CircuitAndRows). Means p.circuit name (alone answered.0)) h.pair answered.1)
 
 -- a command that is this one
-pub query_is : {A : Type 0} (session : Session) (q known : Query) (result : Result A Refusal) (text : List ℕ) → q ≡ known
+pub query_is : {A : Type 0} (session : Session) (q known : ShellQuery) (result : Result A Refusal) (text : List ℕ) → q ≡ known
     → EndsQuery session (query_of known) result text → EndsQuery session (query_of q) result text
-query_is session q known result text e h = subst (λ (x : Query). EndsQuery session (query_of x) result text) (sym e) h
+query_is session q known result text e h = subst (λ (x : ShellQuery). EndsQuery session (query_of x) result text) (sym e) h
 
 pub edit_is : {A : Type 0} (old new : Session) (edit known : Edit) (result : Result A Refusal) (text : List ℕ) → edit ≡ known
     → EndsChange old (edit_of known) result text new → EndsChange old (edit_of edit) result text new

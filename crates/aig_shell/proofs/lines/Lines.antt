@@ -21,18 +21,18 @@ use Rattle.aig_shell.specs.Request.{Request, show, why_first, why, set, start, a
 use Rattle.aig_shell.specs.Request.{diff, save, witness, wave, list_names, help, quit, request_words, IsRequest}
 use Rattle.aig_shell.specs.Request.{IsNoRequest}
 use Rattle.aig_shell.specs.Request as request
-use Rattle.aig_shell.specs.Session.{HasUnsaved, IsIn, IsSession, KeepsRun}
+use Rattle.aig_shell.specs.Session.{HasUnsaved, IsIn, KeepsRun}
 use Rattle.aig_shell.specs.State.{SessionState}
-use Rattle.aig_shell.specs.declared.request.command.Command.{Command}
+use Rattle.aig_shell.specs.declared.request.command.ShellCommand.{ShellCommand}
 use Rattle.aig_shell.specs.declared.request.command.Edit.{Edit}
 use Rattle.aig_shell.specs.declared.request.command.Edit.TheVariants as edits
 use Rattle.aig_shell.specs.declared.request.command.Export.{Export}
 use Rattle.aig_shell.specs.declared.request.command.Export.TheVariants as exports
-use Rattle.aig_shell.specs.declared.request.command.Query.{Query}
-use Rattle.aig_shell.specs.declared.request.command.Query.TheVariants as queries
+use Rattle.aig_shell.specs.declared.request.command.ShellQuery.{ShellQuery}
+use Rattle.aig_shell.specs.declared.request.command.ShellQuery.TheVariants as queries
 use Rattle.aig_shell.specs.declared.talk.conversation.Conversation.{Conversation}
-use Rattle.aig_shell.specs.declared.talk.conversation.Next.{Next}
-use Rattle.aig_shell.specs.declared.talk.conversation.Next.TheVariants as next
+use Rattle.aig_shell.specs.declared.talk.conversation.AfterLine.{AfterLine}
+use Rattle.aig_shell.specs.declared.talk.conversation.AfterLine.TheVariants as next
 use Rattle.aig_shell.specs.declared.refusal.Refusal.{Refusal}
 use Rattle.aig_shell.specs.declared.refusal.Refusal.TheVariants as refusals
 use Rattle.aig_shell.specs.declared.session.Session.{Session}
@@ -43,8 +43,8 @@ in_calm session s h =
     record { pair = h.pair; latches = h.latches; property = h.property; first = h.first; entries = h.entries; start = h.start; rows = h.rows; circuit = h.circuit }
 
 -- a conversation that is not warned
-pub at_calm : (c : Conversation) (s : SessionState) → IsSession c.session → IsIn c.session s → c.has_warned ≡ false → IsAt c (calm s)
-at_calm c s is h e = record { session = is; state = in_calm c.session s h; warned = sym e }
+pub at_calm : (c : Conversation) (s : SessionState) → IsIn c.session s → c.has_warned ≡ false → IsAt c (calm s)
+at_calm c s h e = record { state = in_calm c.session s h; warned = sym e }
 
 -- what would be lost of a session and of its state is the same
 pub lost : (session : Session) (s : SessionState) → IsIn session s → HasUnsaved session → IsUnsaved s
@@ -97,7 +97,7 @@ other_request (list_names part) s text calls after denied h = (refl, h)
 other_request (help command) s text calls after denied h = (refl, h)
 other_request quit s text calls after denied h = absurd (denied refl)
 
-pub no_quit_query : (q : Query) → query_of q ≢ quit
+pub no_quit_query : (q : ShellQuery) → query_of q ≢ quit
 no_quit_query (queries.Show names frames) e = cc e
 no_quit_query (queries.Why None frame) e = cc e
 no_quit_query (queries.Why (Some name) frame) e = cc e
@@ -161,25 +161,25 @@ refusal_answers session r refusal calls denied none other s h text said =
     other_request r s text calls (calm s) denied (inr (none other s h, said, refl))
 
 -- a request that only asks
-pub query_answered : (old new : Conversation) (warned : Bool) (q : Query) (calls : Calls) → IsSession new.session
+pub query_answered : (old new : Conversation) (warned : Bool) (q : ShellQuery) (calls : Calls)
     → new.session ≡ old.session → new.has_warned ≡ false
     → ((s : SessionState) → IsIn old.session s → Answers s (query_of q) new.text.items [] (calm s))
     → EndsRequest old warned (query_of q) (Ok next.GoesOn) calls calls new
-query_answered old new warned q calls is same e answers s h w = (
+query_answered old new warned q calls same e answers s h w = (
   [],
   calm s,
   other_request (query_of q) s new.text.items [] (calm s) (no_quit_query q) (inl ([], answers s h, refl)),
-  at_calm new s is (subst (λ (t : Session). IsIn t s) (sym same) h) e,
+  at_calm new s (subst (λ (t : Session). IsIn t s) (sym same) h) e,
   with_none calls,
 )
 
-pub query_refused : (old new : Conversation) (warned : Bool) (q : Query) (calls : Calls) (result : Result Next Refusal) (refusal : Refusal)
-    → IsSession new.session → new.session ≡ old.session → new.has_warned ≡ false → IsErrAnd result (λ e. e ≡ refusal)
+pub query_refused : (old new : Conversation) (warned : Bool) (q : ShellQuery) (calls : Calls) (result : Result AfterLine Refusal) (refusal : Refusal)
+    → new.session ≡ old.session → new.has_warned ≡ false → IsErrAnd result (λ e. e ≡ refusal)
     → (refusal ≢ refusals.Memory → (s : SessionState) → IsIn old.session s → HasNoAnswer s (query_of q))
     → EndsRequest old warned (query_of q) result calls calls new
-query_refused old new warned q calls (Ok x) refusal is same e cause none = absurd cause
-query_refused old new warned q calls (Err other) refusal is same e cause none = (
-  (λ s h. at_calm new s is (subst (λ (t : Session). IsIn t s) (sym same) h) e),
+query_refused old new warned q calls (Ok x) refusal same e cause none = absurd cause
+query_refused old new warned q calls (Err other) refusal same e cause none = (
+  (λ s h. at_calm new s (subst (λ (t : Session). IsIn t s) (sym same) h) e),
   [],
   with_none calls,
   inl refl,
@@ -188,27 +188,27 @@ query_refused old new warned q calls (Err other) refusal is same e cause none = 
 )
 
 -- one that edits
-pub edit_answered : (old new : Conversation) (warned : Bool) (edit : Edit) (calls : Calls) → IsSession new.session → new.has_warned ≡ false
+pub edit_answered : (old new : Conversation) (warned : Bool) (edit : Edit) (calls : Calls) → new.has_warned ≡ false
     → ((s : SessionState) → IsIn old.session s
     → (after : SessionState) × Answers s (edit_of edit) new.text.items [] after × IsIn new.session after)
     → EndsRequest old warned (edit_of edit) (Ok next.GoesOn) calls calls new
-edit_answered old new warned edit calls is e answers s h w =
+edit_answered old new warned edit calls e answers s h w =
     let (after, a, i) = answers s h in (
       [],
       after,
       other_request (edit_of edit) s new.text.items [] after (no_quit_edit edit) (inl ([], a, refl)),
-      record { session = is; state = i; warned = edit_calms edit s new.text.items [] after a ∙ sym e },
+      record { state = i; warned = edit_calms edit s new.text.items [] after a ∙ sym e },
       with_none calls,
     )
 
-pub edit_refused : (old new : Conversation) (warned : Bool) (edit : Edit) (calls : Calls) (result : Result Next Refusal) (refusal : Refusal)
-    → IsSession new.session → new.has_warned ≡ false → IsErrAnd result (λ e. e ≡ refusal)
+pub edit_refused : (old new : Conversation) (warned : Bool) (edit : Edit) (calls : Calls) (result : Result AfterLine Refusal) (refusal : Refusal)
+    → new.has_warned ≡ false → IsErrAnd result (λ e. e ≡ refusal)
     → ((s : SessionState) → IsIn old.session s → IsIn new.session s)
     × (refusal ≢ refusals.Memory → (s : SessionState) → IsIn old.session s → HasNoAnswer s (edit_of edit))
     → EndsRequest old warned (edit_of edit) result calls calls new
-edit_refused old new warned edit calls (Ok x) refusal is e cause h = absurd cause
-edit_refused old new warned edit calls (Err other) refusal is e cause (stays, none) = (
-  (λ s h. at_calm new s is (stays s h) e),
+edit_refused old new warned edit calls (Ok x) refusal e cause h = absurd cause
+edit_refused old new warned edit calls (Err other) refusal e cause (stays, none) = (
+  (λ s h. at_calm new s (stays s h) e),
   [],
   with_none calls,
   inl refl,
@@ -217,28 +217,28 @@ edit_refused old new warned edit calls (Err other) refusal is e cause (stays, no
 )
 
 -- one that writes files
-pub export_answered : (old new : Conversation) (warned : Bool) (x : Export) (old_calls new_calls : Calls) → IsSession new.session
+pub export_answered : (old new : Conversation) (warned : Bool) (x : Export) (old_calls new_calls : Calls)
     → new.has_warned ≡ false
     → ((s : SessionState) → IsIn old.session s
     → (texts : List KeptText) × (after : SessionState) × Answers s (export_of x) new.text.items texts after × IsIn new.session after
     × (texts ≢ []) × (new_calls ≡ with_calls old_calls (files.kept texts ∷ [])))
     → EndsRequest old warned (export_of x) (Ok next.GoesOn) old_calls new_calls new
-export_answered old new warned x old_calls new_calls is e answers s h w =
+export_answered old new warned x old_calls new_calls e answers s h w =
     let (texts, after, a, i, given, got) = answers s h in (
       calls_of texts,
       after,
       other_request (export_of x) s new.text.items (calls_of texts) after (no_quit_export x) (inl (texts, a, refl)),
-      record { session = is; state = i; warned = export_calms x s new.text.items texts after a ∙ sym e },
+      record { state = i; warned = export_calms x s new.text.items texts after a ∙ sym e },
       got ∙ ap (with_calls old_calls) (sym (one_call texts given)),
     )
 
 pub export_refused : (old new : Conversation) (warned : Bool) (x : Export) (old_calls new_calls : Calls)
-    (result : Result Next Refusal) (cause : Refusal) → IsSession new.session → new.has_warned ≡ false → IsErrAnd result (λ e. e ≡ cause)
+    (result : Result AfterLine Refusal) (cause : Refusal) → new.has_warned ≡ false → IsErrAnd result (λ e. e ≡ cause)
     → EndsFiles {A = Unit {0}} old.session (export_of x) (Err cause) [] old_calls new_calls new.session
     → EndsRequest old warned (export_of x) result old_calls new_calls new
-export_refused old new warned x old_calls new_calls (Ok y) cause is e err h = absurd err
-export_refused old new warned x old_calls new_calls (Err refusal) cause is e err (same, calls, got, comes, none) = (
-  (λ s h. at_calm new s is (subst (λ (t : Session). IsIn t s) (sym same) h) e),
+export_refused old new warned x old_calls new_calls (Ok y) cause e err h = absurd err
+export_refused old new warned x old_calls new_calls (Err refusal) cause e err (same, calls, got, comes, none) = (
+  (λ s h. at_calm new s (subst (λ (t : Session). IsIn t s) (sym same) h) e),
   calls,
   got,
   subst (λ (r : Refusal). ComesAfter r calls) (sym err) comes,
@@ -246,41 +246,40 @@ export_refused old new warned x old_calls new_calls (Err refusal) cause is e err
 )
 
 -- `quit`
-pub quit_answered : (old new : Conversation) (warned : Bool) (calls : Calls) (next : Next) → EndsQuit {E = Memory} old warned (Ok next) new
+pub quit_answered : (old new : Conversation) (warned : Bool) (calls : Calls) (next : AfterLine) → EndsQuit {E = Memory} old warned (Ok next) new
     → EndsRequest old warned quit (Ok next) calls calls new
 quit_answered old new warned calls next quits s h w =
     let (after, ends, at) = quits s h w in
     ([], after, (ends, refl), at, with_none calls)
 
-pub quit_refused : (old new : Conversation) (warned : Bool) (calls : Calls) (result : Result Next Refusal)
+pub quit_refused : (old new : Conversation) (warned : Bool) (calls : Calls) (result : Result AfterLine Refusal)
     → IsErrAnd result (λ e. e ≡ refusals.Memory) → ((s : SessionState) → IsIn old.session s → IsAt new (calm s))
     → EndsRequest old warned quit result calls calls new
 quit_refused old new warned calls (Ok x) err calms = absurd err
 quit_refused old new warned calls (Err refusal) err calms =
     (calms, [], with_none calls, inl refl, λ denied. absurd (denied err))
 
-pub quit_twice : (c : Conversation) (warned : Bool) → IsSession c.session → c.has_warned ≡ false → c.text.items ≡ [] → warned ≡ true
+pub quit_twice : (c : Conversation) (warned : Bool) → c.has_warned ≡ false → c.text.items ≡ [] → warned ≡ true
     → EndsQuit {E = Memory} c warned (Ok next.Ends) c
-quit_twice c warned is e empty holds s h w = (calm s, (inl (w ∙ holds), empty, refl), at_calm c s is h e)
+quit_twice c warned e empty holds s h w = (calm s, (inl (w ∙ holds), empty, refl), at_calm c s h e)
 
-saved : (c : Conversation) (warned : Bool) → IsSession c.session → c.has_warned ≡ false → c.text.items ≡ []
+saved : (c : Conversation) (warned : Bool) → c.has_warned ≡ false → c.text.items ≡ []
     → (HasUnsaved c.session → ⊥) → EndsQuit {E = Memory} c warned (Ok next.Ends) c
-saved c warned is e empty none s h w = (calm s, (inr (λ u. none (not_lost c.session s h u)), empty, refl), at_calm c s is h e)
+saved c warned e empty none s h w = (calm s, (inr (λ u. none (not_lost c.session s h u)), empty, refl), at_calm c s h e)
 
-pub quit_saved : (old new : Conversation) (warned told : Bool) → IsSession old.session → old.has_warned ≡ false → old.text.items ≡ []
+pub quit_saved : (old new : Conversation) (warned told : Bool) → old.has_warned ≡ false → old.text.items ≡ []
     → (IsTrue told ↔ HasUnsaved old.session) → told ≡ false → new ≡ old → EndsQuit {E = Memory} old warned (Ok next.Ends) new
-quit_saved old new warned told is e empty tells silent same =
+quit_saved old new warned told e empty tells silent same =
     subst (λ (c : Conversation). EndsQuit {E = Memory} old warned (Ok next.Ends) c) (sym same)
-    (saved old warned is e empty (λ u. let shown : told ≡ true = tells.1 u in let never : true ≡ false = sym shown ∙ silent in cc never))
+    (saved old warned e empty (λ u. let shown : told ≡ true = tells.1 u in let never : true ≡ false = sym shown ∙ silent in cc never))
 
-pub quit_warns : (old new : Conversation) (warned : Bool) → IsSession old.session → new.session ≡ old.session → new.has_warned ≡ true
+pub quit_warns : (old new : Conversation) (warned : Bool) → new.session ≡ old.session → new.has_warned ≡ true
     → HasUnsaved old.session → warned ≡ false → (what : List ℕ) × (new.text.items ≡ codes "unsaved: " ++ what)
     → EndsQuit {E = Memory} old warned (Ok next.GoesOn) new
-quit_warns old new warned is same e unsaved first said s h w = (
+quit_warns old new warned same e unsaved first said s h w = (
   record s { has_warned = true },
   (lost old.session s h unsaved, w ∙ first, said, refl),
   record {
-    session = subst IsSession (sym same) is;
     state = subst (λ (t : Session). IsIn t (record s { has_warned = true })) (sym same)
         (record { pair = h.pair; latches = h.latches; property = h.property; first = h.first; entries = h.entries; start = h.start; rows = h.rows; circuit = h.circuit });
     warned = sym e;
@@ -297,7 +296,7 @@ said_more old mid new what more empty e f = (
 )
 
 -- the words of a line ask for something
-pub words_answered : (old mid new : Conversation) (ws : List (List ℕ)) (r : Request) (result : Result Next Refusal) (old_calls new_calls : Calls)
+pub words_answered : (old mid new : Conversation) (ws : List (List ℕ)) (r : Request) (result : Result AfterLine Refusal) (old_calls new_calls : Calls)
     → mid.session ≡ old.session → IsRequest r → ws ≡ request_words r → EndsRequest mid old.has_warned r result old_calls new_calls new
     → EndsWords old ws result old_calls new_calls new
 words_answered old mid new ws r (Ok next) old_calls new_calls same is e h = λ s at.
@@ -315,13 +314,13 @@ words_answered old mid new ws r (Err refusal) old_calls new_calls same is e (cal
 )
 
 -- they ask for nothing
-pub words_refused : (old new : Conversation) (ws : List (List ℕ)) (result : Result Next Refusal) (cause : Refusal) (calls : Calls)
-    → IsSession new.session → new.session ≡ old.session → new.has_warned ≡ false → IsErrAnd result (λ e. e ≡ cause) → IsNoRequest ws
+pub words_refused : (old new : Conversation) (ws : List (List ℕ)) (result : Result AfterLine Refusal) (cause : Refusal) (calls : Calls)
+    → new.session ≡ old.session → new.has_warned ≡ false → IsErrAnd result (λ e. e ≡ cause) → IsNoRequest ws
     → EndsWords old ws result calls calls new
-words_refused old new ws (Ok x) cause calls is same e err none = absurd err
-words_refused old new ws (Err refusal) cause calls is same e err none =
+words_refused old new ws (Ok x) cause calls same e err none = absurd err
+words_refused old new ws (Err refusal) cause calls same e err none =
     let calms : (s : SessionState) → IsAt old s → IsAt new (calm s) =
-    λ s at. at_calm new s is (subst (λ (t : Session). IsIn t s) (sym same) at.state) e in (
+    λ s at. at_calm new s (subst (λ (t : Session). IsIn t s) (sym same) at.state) e in (
       (λ s at. inr (calms s at)),
       [],
       with_none calls,
@@ -348,7 +347,7 @@ comment ws rest first more e f =
     )
 
 -- the words of a line were not found: nothing is done
-pub words_lacking : (old : Conversation) (ws : List (List ℕ)) (result : Result Next Refusal) (calls : Calls)
+pub words_lacking : (old : Conversation) (ws : List (List ℕ)) (result : Result AfterLine Refusal) (calls : Calls)
     → IsErrAnd result (λ e. e ≡ refusals.Memory) → EndsWords old ws result calls calls old
 words_lacking old ws (Ok x) calls err = absurd err
 words_lacking old ws (Err refusal) calls err =
@@ -356,7 +355,6 @@ words_lacking old ws (Err refusal) calls err =
 
 at_same : (c d : Conversation) (s : SessionState) → d.session ≡ c.session → d.has_warned ≡ c.has_warned → IsAt c s → IsAt d s
 at_same c d s same e at = record {
-  session = subst IsSession (sym same) at.session;
   state = subst (λ (t : Session). IsIn t s) (sym same) at.state;
   warned = at.warned ∙ sym e;
 }
@@ -366,7 +364,7 @@ spaced_line : (line spaced : List ℕ) → spaced ≡ map spaced_byte line → w
 spaced_line line spaced e = ap words e
 
 -- the words are answered
-pub line_answered : (old mid new : Conversation) (line spaced : List ℕ) (next : Next) (old_calls new_calls : Calls) → mid.session ≡ old.session
+pub line_answered : (old mid new : Conversation) (line spaced : List ℕ) (next : AfterLine) (old_calls new_calls : Calls) → mid.session ≡ old.session
     → mid.has_warned ≡ old.has_warned → spaced ≡ map spaced_byte line
     → EndsWords mid (words spaced) (Ok next) old_calls new_calls new
     → AnswersLine old line new.text.items old_calls new_calls (ends_after next) new
@@ -389,7 +387,7 @@ lacks s new line old_calls new_calls called got writes (inl at) =
 lacks s new line old_calls new_calls called got writes (inr at) =
     (called, calm s, inr (inr (inr (refl, writes, refl, inr refl))), at, got)
 
-pub line_lacking : (old new : Conversation) (line : List ℕ) (calls : Calls) (result : Result Next Memory) → new.session ≡ old.session
+pub line_lacking : (old new : Conversation) (line : List ℕ) (calls : Calls) (result : Result AfterLine Memory) → new.session ≡ old.session
     → new.has_warned ≡ old.has_warned → OnErr result (AnswersLine old line no_memory calls calls false new)
 line_lacking old new line calls (Ok x) same warned = tt
 line_lacking old new line calls (Err e) same warned = λ s at.
@@ -407,7 +405,7 @@ lacking_after mid new s same warned (inr at) = inr (at_same mid new (calm s) sam
 
 -- there is no memory for a refusal
 pub refusal_lacking : (old begun mid new : Conversation) (line : List ℕ) (ws : List (List ℕ)) (refusal : Refusal) (old_calls new_calls : Calls)
-    (result : Result Next Memory) → begun.session ≡ old.session → begun.has_warned ≡ old.has_warned
+    (result : Result AfterLine Memory) → begun.session ≡ old.session → begun.has_warned ≡ old.has_warned
     → EndsWords begun ws (Err refusal) old_calls new_calls mid → new.session ≡ mid.session → new.has_warned ≡ mid.has_warned
     → OnErr result (AnswersLine old line no_memory old_calls new_calls false new)
 refusal_lacking old begun mid new line ws refusal old_calls new_calls (Ok x) same warned h same' warned' = tt
@@ -432,8 +430,8 @@ line_refused old begun mid new line spaced refusal old_calls new_calls same warn
     )
 
 -- a command that is this one
-pub request_is : (old new : Conversation) (warned : Bool) (command known : Command) (result : Result Next Refusal) (old_calls new_calls : Calls)
+pub request_is : (old new : Conversation) (warned : Bool) (command known : ShellCommand) (result : Result AfterLine Refusal) (old_calls new_calls : Calls)
     → command ≡ known → EndsRequest old warned (request_of known) result old_calls new_calls new
     → EndsRequest old warned (request_of command) result old_calls new_calls new
 request_is old new warned command known result old_calls new_calls e h =
-    subst (λ (x : Command). EndsRequest old warned (request_of x) result old_calls new_calls new) (sym e) h
+    subst (λ (x : ShellCommand). EndsRequest old warned (request_of x) result old_calls new_calls new) (sym e) h

@@ -18,12 +18,12 @@ use Rattle.aig_command.specs.declared.run_fault.RunFault.{RunFault}
 use Rattle.aig_command.specs.declared.run_fault.RunFault.TheVariants as run_faults
 use Rattle.aig_shell.specs.declared.talk.conversation.Conversation.{Conversation}
 use Rattle.aig_shell.specs.declared.session.Session.{Session}
-use Rattle.aig_shell.specs.declared.talk.Line.{Line}
+use Rattle.aig_shell.specs.declared.talk.LineBuffer.{LineBuffer}
 use Rattle.aig_shell.specs.declared.talk.Talker.{Talker}
 use Rattle.aig_shell.specs.Conversation.{Passes, Ended, BreaksDown, BeginsSession, EndsShell}
 use Rattle.aig_shell.specs.Conversation.{HoldsSession, IsAt, OpensSession, RefusesFiles, RefusesRows}
 use Rattle.aig_shell.specs.Files.{Call}
-use Rattle.aig_shell.specs.Session.{BeginsAt, IsIn, IsSession, first_state}
+use Rattle.aig_shell.specs.Session.{BeginsAt, IsIn, first_state}
 use Rattle.aig_shell.specs.State.{SessionState}
 use Rattle.aig_shell.specs.Talking.{Moment, HoldsLine, Done, Part, EndsInput}
 
@@ -84,11 +84,11 @@ rows_refused r raw rows benches.Width is never limit = absurd (never is)
 rows_refused r raw rows benches.Limit is never limit = limit is
 rows_refused r raw rows benches.Memory is never limit = tt
 
-pub begins_session : (raw : Raw) (run : ReadRun) (r : Result Session RunFault) → IfOk r IsSession
+pub begins_session : (raw : Raw) (run : ReadRun) (r : Result Session RunFault)
     → IfOk r (λ s. BeginsAt raw run.start run.rows s.run.bench.pair)
     → IfOk r (λ s. IsIn s (first_state raw run.property s.run.bench.pair)) → IfOk r (BeginsSession raw run)
-begins_session raw run (Err e) a b c = tt
-begins_session raw run (Ok s) a b c = (a, b, c)
+begins_session raw run (Err e) a b = tt
+begins_session raw run (Ok s) a b = (a, b)
 
 module _ (file : List ℕ) (given : Given (List ℕ)) (raw : Raw) (run : ReadRun) (is : IsFileOf file raw) (begins : IsGiven raw given run)
     (r : Result Session RunFault) where
@@ -105,11 +105,10 @@ module _ {Y X Z : Type 0} (passes : Passes Y X Z) (person : Bool) (file : List �
       → OpensSession file given session → c.session ≡ session → c.has_warned ≡ false → t.conversation ≡ c → t.has_prompt ≡ person
       → HoldsLine [] t.line → ((s : SessionState) → IsAt t.conversation s → HoldsLine [] t.line → Ends passes t.has_prompt s)
       → (raw : Raw) × IsFileOf file raw × HoldsSession passes person raw given Ends
-  holds_session Ends session c t (raw, is, (run, begins, (sound, at, inside))) same calm talks prompts line ends =
+  holds_session Ends session c t (raw, is, (run, begins, (at, inside))) same calm talks prompts line ends =
       let state = first_state raw run.property session.run.bench.pair in
       let of_session : IsAt c state
       = record {
-        session = subst IsSession (sym same) sound;
         state = subst (λ (s : Session). IsIn s state) (sym same) inside;
         warned = sym calm;
       } in (
@@ -135,7 +134,7 @@ module _ {Y X Z : Type 0} (left : Y → Option (List ℕ)) (read_failures : Y �
 
 module _ {Y X Z : Type 0} (left : Y → Option (List ℕ)) (read_failures : Y → ℕ) (written : X → Option (List ℕ)) (failures : X → ℕ)
     (calls : Z → Option (List Call)) (reader reader' : Y) (files files' : Z) (out out' : X) (person : Bool)
-    (c : Conversation) (line : Line) where
+    (c : Conversation) (line : LineBuffer) where
   -- so far the input gives this
   abbrev pub Gives : (SessionState → List ℕ → Type 0) → Type 0
   Gives P =

@@ -10,9 +10,9 @@ use Rattle.std.proofs.lemmas.Option.{get_or_from_slice_get}
 use Rattle.aig_bytes.specs.Bytes.{after, failed, IsBeginning}
 use Rattle.aig_bytes.proofs.WriteLemmas.{after-append, after-nil}
 use Rattle.aig_shell.specs.declared.talk.conversation.Conversation.{Conversation}
-use Rattle.aig_shell.specs.declared.talk.conversation.Next.{Next}
-use Rattle.aig_shell.specs.declared.talk.conversation.Next.TheVariants as next
-use Rattle.aig_shell.specs.declared.talk.Line.{Line}
+use Rattle.aig_shell.specs.declared.talk.conversation.AfterLine.{AfterLine}
+use Rattle.aig_shell.specs.declared.talk.conversation.AfterLine.TheVariants as next
+use Rattle.aig_shell.specs.declared.talk.LineBuffer.{LineBuffer}
 use Rattle.aig_shell.specs.declared.talk.Talker.{Talker}
 use Rattle.aig_shell.specs.Answers.{LineAnswer, IsUnsaved}
 use Rattle.aig_shell.specs.Conversation.{IsPiece, Answered, none, one_more, Converses, at_end, ended, last, AnswersLine}
@@ -62,16 +62,16 @@ with_none (Some old) = ap Some (sym (append-nil old))
 
 -- ---- the line so far
 
-pub holds_same : (text bytes : List ℕ) (line : Line) → bytes ≡ [] → HoldsLine text line → HoldsLine (text ++ bytes) line
+pub holds_same : (text bytes : List ℕ) (line : LineBuffer) → bytes ≡ [] → HoldsLine text line → HoldsLine (text ++ bytes) line
 holds_same text bytes line e h = subst (λ (t : List ℕ). HoldsLine t line) (sym (ap (λ (b : List ℕ). text ++ b) e ∙ append-nil text)) h
 
-pub holds_cut : (text bytes : List ℕ) (line : Line) → line.is_cut ≡ true → HoldsLine text line → HoldsLine (text ++ bytes) line
+pub holds_cut : (text bytes : List ℕ) (line : LineBuffer) → line.is_cut ≡ true → HoldsLine text line → HoldsLine (text ++ bytes) line
 holds_cut text bytes line cut (inl (whole, is)) = absurd (false≢true (sym whole ∙ cut))
 holds_cut text bytes line cut (inr (is, some)) = inr (is, λ e. some (first_of_none text bytes e))
 
 -- ---- the answer to a line
 
-pub reply_written : {E : Type 0} {old new : Conversation} {line : List ℕ} {before now : Moment} (text : List ℕ) (after_it : Next)
+pub reply_written : {E : Type 0} {old new : Conversation} {line : List ℕ} {before now : Moment} (text : List ℕ) (after_it : AfterLine)
     → AnswersLine old line text before.calls now.calls (ends_after after_it) new → now.bytes ≡ after before.bytes text
     → now.failures ≡ before.failures + 0 → Replies {E = E} old line before now (Ok after_it) new
 reply_written text after_it answers got count = record {
@@ -82,8 +82,8 @@ reply_written text after_it answers got count = record {
   writes = record { ok = got; err = tt; count = count };
 }
 
-pub reply_failed : {E : Type 0} {result : Result Next E} {old new : Conversation} {line : List ℕ} {before now : Moment}
-    (text done more : List ℕ) (after_it : Next) → IsErr result
+pub reply_failed : {E : Type 0} {result : Result AfterLine E} {old new : Conversation} {line : List ℕ} {before now : Moment}
+    (text done more : List ℕ) (after_it : AfterLine) → IsErr result
     → AnswersLine old line text before.calls now.calls (ends_after after_it) new → text ≡ done ++ more
     → now.bytes ≡ after before.bytes done → now.failures ≡ before.failures + 1 → Replies old line before now result new
 reply_failed {result = Ok x} text done more after_it is answers begins got count = absurd (false≢true is)
@@ -95,7 +95,7 @@ reply_failed {result = Err e} text done more after_it is answers begins got coun
   writes = record { ok = tt; err = (done, (more, begins), got); count = count };
 }
 
-pub replies_same : {E : Type 0} {result : Result Next E} {old new : Conversation} {before now : Moment} (held piece : List ℕ)
+pub replies_same : {E : Type 0} {result : Result AfterLine E} {old new : Conversation} {before now : Moment} (held piece : List ℕ)
     → held ≡ [] → Replies old piece before now result new → Replies old (held ++ piece) before now result new
 replies_same {E} {result} {old} {new} {before} {now} held piece nothing r =
     subst (λ (t : List ℕ). Replies old (t ++ piece) before now result new) (sym nothing) r
@@ -396,7 +396,7 @@ finished_stands {person} {s} {input} st nothing =
 
 module _ {E : Type 0} {start old now : Moment} {person : Bool} {s : SessionState} {input : List ℕ} {t : Talker} where
   -- the last line
-  last_converses : {result : Result Next E} {c : Conversation} (st : Stands start old person s input t)
+  last_converses : {result : Result AfterLine E} {c : Conversation} (st : Stands start old person s input t)
       → ((text : List ℕ) → HoldsLine text t.line → text ≢ [])
       → (r : Replies t.conversation (st.rest ++ []) old now result c)
       → (called : List Call) × (end : SessionState)
@@ -539,7 +539,7 @@ part_finished {start} {old} {now} {person} {input} what done more f says begins 
 -- ---- what a call answers
 
 -- the last line, if there is one
-pub finishes : {E : Type 0} {start old now : Moment} {person : Bool} {s : SessionState} {input : List ℕ} {t : Talker} (u : Talker) (result : Result Next E)
+pub finishes : {E : Type 0} {start old now : Moment} {person : Bool} {s : SessionState} {input : List ℕ} {t : Talker} (u : Talker) (result : Result AfterLine E)
     → Stands start old person s input t → ((text : List ℕ) → HoldsLine text t.line → text ≢ [])
     → ((held : List ℕ) → HoldsLine held t.line → Replies t.conversation (held ++ []) old now result u.conversation)
     → u.has_prompt ≡ t.has_prompt → Finishes start now person s input result u
@@ -552,7 +552,7 @@ pub ends_err : {A E : Type 0} {start now : Moment} {person : Bool} {s : SessionS
 ends_err (Ok x) is p = absurd (false≢true is)
 ends_err (Err e) is p = p
 
-pub feeds_err : {E : Type 0} {start now : Moment} {person : Bool} {s : SessionState} {input : List ℕ} (result : Result Next E) (t : Talker)
+pub feeds_err : {E : Type 0} {start now : Moment} {person : Bool} {s : SessionState} {input : List ℕ} (result : Result AfterLine E) (t : Talker)
     → IsErr result → Part start now person s input × (start.failures < now.failures) → Feeds start now person s input result t
 feeds_err (Ok x) t is p = absurd (false≢true is)
 feeds_err (Err e) t is p = p
@@ -615,31 +615,31 @@ take_line bytes done rest piece more is e =
 
 -- ---- which end it is
 
-pub replies_next : {E : Type 0} {n m : Next} {old new : Conversation} {line : List ℕ} {before now : Moment} → n ≡ m
+pub replies_next : {E : Type 0} {n m : AfterLine} {old new : Conversation} {line : List ℕ} {before now : Moment} → n ≡ m
     → Replies {E = E} old line before now (Ok n) new → Replies {E = E} old line before now (Ok m) new
 replies_next {E} {n} {m} {old} {new} {line} {before} {now} e r =
-    subst (λ (k : Next). Replies {E = E} old line before now (Ok k) new) e r
+    subst (λ (k : AfterLine). Replies {E = E} old line before now (Ok k) new) e r
 
 pub finished_of : {E : Type 0} {start now : Moment} {person : Bool} {s : SessionState} {input : List ℕ} {u : Talker}
-    (result : Result Next E) (n : Next) → result ≡ Ok n → n ≡ next.GoesOn → Finishes start now person s input result u
+    (result : Result AfterLine E) (n : AfterLine) → result ≡ Ok n → n ≡ next.GoesOn → Finishes start now person s input result u
     → Finished start now person s input u
 finished_of {E} {start} {now} {person} {s} {input} {u} result n is same f =
-    subst (λ (r : Result Next E). Finishes start now person s input r u) (is ∙ ap Ok same) f
+    subst (λ (r : Result AfterLine E). Finishes start now person s input r u) (is ∙ ap Ok same) f
 
 pub done_of : {E : Type 0} {start now : Moment} {person : Bool} {s : SessionState} {input : List ℕ}
-    (result : Result Next E) (n : Next) → result ≡ Ok n → n ≡ next.Ends → (u : Talker) → Finishes start now person s input result u
+    (result : Result AfterLine E) (n : AfterLine) → result ≡ Ok n → n ≡ next.Ends → (u : Talker) → Finishes start now person s input result u
     → Done start now person s input true
 done_of {E} {start} {now} {person} {s} {input} result n is same u f =
-    subst (λ (r : Result Next E). Finishes start now person s input r u) (is ∙ ap Ok same) f
+    subst (λ (r : Result AfterLine E). Finishes start now person s input r u) (is ∙ ap Ok same) f
 
 pub stands_fed : {E : Type 0} {start now : Moment} {person : Bool} {s : SessionState} {input : List ℕ} {u : Talker}
-    (result : Result Next E) (n : Next) → result ≡ Ok n → n ≡ next.GoesOn → Feeds start now person s input result u
+    (result : Result AfterLine E) (n : AfterLine) → result ≡ Ok n → n ≡ next.GoesOn → Feeds start now person s input result u
     → Stands start now person s input u
 stands_fed {E} {start} {now} {person} {s} {input} {u} result n is same f =
-    subst (λ (r : Result Next E). Feeds start now person s input r u) (is ∙ ap Ok same) f
+    subst (λ (r : Result AfterLine E). Feeds start now person s input r u) (is ∙ ap Ok same) f
 
 pub done_fed : {E : Type 0} {start now : Moment} {person : Bool} {s : SessionState} {input : List ℕ}
-    (result : Result Next E) (n : Next) → result ≡ Ok n → n ≡ next.Ends → (u : Talker) → Feeds start now person s input result u
+    (result : Result AfterLine E) (n : AfterLine) → result ≡ Ok n → n ≡ next.Ends → (u : Talker) → Feeds start now person s input result u
     → Done start now person s input true
 done_fed {E} {start} {now} {person} {s} {input} result n is same u f =
-    subst (λ (r : Result Next E). Feeds start now person s input r u) (is ∙ ap Ok same) f
+    subst (λ (r : Result AfterLine E). Feeds start now person s input r u) (is ∙ ap Ok same) f

@@ -16,7 +16,7 @@ use Rattle.aig_shell.specs.Answers.{AreStandings, IsChecked, is_condition, line_
 use Rattle.aig_shell.specs.Answers.{standing_line, standings_text}
 use Rattle.aig_shell.specs.Reasons.{AreConstraints, AreStarts, IsFirstWrong, broken_text, no_property_text, start_text}
 use Rattle.aig_shell.specs.Session.{IsIn, own_circuit}
-use Rattle.aig_shell.specs.Standing.{HoldBefore, IsFirstBroken, IsStanding, StartsRight, standing_text}
+use Rattle.aig_shell.specs.Standing.{IsStanding, StartsRight, standing_text}
 use Rattle.aig_shell.specs.State.{SessionState, circuit_of}
 
 -- a text that grew, and grew again
@@ -54,13 +54,7 @@ finished raw named old t0 t1 t2 t3 lines last broken wrong same bad are none d e
     ∙ ap (λ (ls : List ℕ). (lines ++ last) ++ no_property_text ls) (are ∙ ap (λ (r : Raw). r.bad) same)) g
     ∙ append_assoc lines last (reasons_text raw broken wrong)
 
--- what is found of constraints and of starts
-pub breaks : (p : CircuitAndRows) (broken : Option Broken)
-    → IfSome broken (λ b. IsFirstBroken p b.frame b.constraint b.value) → IfNone broken (HoldBefore p (length p.rows))
-    → AreConstraints p broken
-breaks p None some none = none
-breaks p (Some b) some none = some
-
+-- what is found of starts
 pub starts : (session : Session) (wrong : Option (ℕ × Tern)) → let start = start_of session.run.bench.pair.circuit in
     IfSome wrong (λ found. IsFirstWrong (own_circuit session) start found.0 found.1)
     → IfNone wrong (StartsRight (own_circuit session) start) → AreStarts (own_circuit session) start wrong

@@ -9,8 +9,6 @@ use Rattle.aig_parts.specs.declared.raw.Raw.{Raw}
 use Rattle.aig_parts.specs.declared.ternary.Tern.{Tern}
 use Rattle.aig_parts.specs.declared.ternary.Tern.TheVariants.{Zero, One, X}
 use Rattle.aig_base.specs.Circuit.{IsCircuit}
-use Rattle.aig_base.specs.Runs.{Allows}
-use Rattle.aig_base.specs.Sound.{IsReset}
 use Rattle.aig_base.specs.Value as value
 use Rattle.aig_base.specs.Value.{Value, reset_value, start_of}
 use Rattle.aig_base.proofs.values.OneValue.{have_one_value}
@@ -52,23 +50,6 @@ own_right raw k h =
     let at : slice_get (start_of raw) k ≡ Some (reset_value h.latch.reset) =
     slice_get-map (λ (x : Latch). reset_value x.reset) raw.latches k ∙ rw h.latch_is refl in
     h.wrong (inr (same_Some h.value (reset_value h.latch.reset) (sym h.value_is ∙ at)))
-
-over_is_x : (n : ℕ) → 1 < n → reset_value n ≡ X
-over_is_x zero lt = absurd (omega (arith, lt))
-over_is_x (suc zero) lt = absurd (omega (arith, lt))
-over_is_x (suc (suc n)) lt = refl
-
-module _ (x : Latch) (w : Tern) where
-  -- a known reset allows no other value
-  pub forbids_other : 1 < x.lit → reset_value x.reset ≢ X → w ≢ reset_value x.reset → Allows x w → ⊥
-  forbids_other over known other (inl own) = known (over_is_x x.reset (omega (arith, over, own)))
-  forbids_other over known other (inr same) = other same
-
-  -- one that is x allows all
-  pub allows_all : IsReset x → reset_value x.reset ≡ X → Allows x w
-  allows_all (inl e) is = let no : ⊥ = (let z : reset_value 0 ≡ X = ap reset_value (sym e) ∙ is in cc) in absurd no
-  allows_all (inr (inl e)) is = let no : ⊥ = (let z : reset_value 1 ≡ X = ap reset_value (sym e) ∙ is in cc) in absurd no
-  allows_all (inr (inr own)) is = inl own
 
 -- ---- circuits that differ by resets reach the same
 

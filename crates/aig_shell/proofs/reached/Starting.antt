@@ -1,5 +1,5 @@
 -- Latches that do not start as their resets say.
-use Rattle.std.proofs.Common.{◌≡◌, ◌≢◌, ℕ, ◌+◌, ◌<◌, ◌≤◌, List, length, take, Some, slice_get, refl, sym, ap, ◌∙◌}
+use Rattle.std.proofs.Common.{◌≡◌, ◌≢◌, ℕ, ◌+◌, ◌≤◌, List, length, take, Some, slice_get, refl, sym, ap, ◌∙◌}
 use Rattle.std.proofs.Common.{arith}
 use Rattle.std.proofs.lemmas.List.{take_all, take_more_same}
 use Rattle.std.proofs.lemmas.Option.{get_or_from_slice_get, same_Some, slice_get-map, slice_get_within}
@@ -7,45 +7,17 @@ use Rattle.std.proofs.lemmas.Slice.Zip.{AllZip-long}
 use Rattle.aig_parts.specs.declared.latch.Latch.{Latch}
 use Rattle.aig_parts.specs.declared.ternary.Tern.{Tern}
 use Rattle.aig_parts.specs.declared.ternary.Tern.TheVariants.{Zero}
-use Rattle.aig_base.specs.Circuit.{IsCircuit}
 use Rattle.aig_base.specs.Runs.{Allows}
-use Rattle.aig_base.specs.Sound.{IsReset}
 use Rattle.aig_base.specs.Value.{reset_value, start_of}
-use Rattle.aig_base.proofs.circuits.Circuits.{latch_definition}
-use Rattle.aig_base.proofs.lists.Gets.{All-at}
-use Rattle.aig_base.proofs.values.Refined.{AllZip-slice_get}
-use Rattle.aig_base.specs.Resets.{HasOtherResets, IsSameLatch}
-use Rattle.aig_base.proofs.values.Resets.{other_resets_back, start_length}
+use Rattle.aig_base.specs.Resets.{IsSameLatch}
+use Rattle.aig_base.proofs.values.Resets.{start_length}
 use Rattle.aig_sim.specs.Verdict.{StartsWrong}
 use Rattle.aig_sim.proofs.VerdictLemmas.{starts_right}
 use Rattle.aig_shell.specs.declared.session.Session.{Session}
-use Rattle.aig_shell.specs.Session.{IsSession, own_circuit}
+use Rattle.aig_shell.specs.Session.{own_circuit}
 
--- the circuit with the resets of the file
-pub own_resets : (s : Session) → IsSession s → HasOtherResets s.run.bench.pair.circuit (own_circuit s)
-own_resets s h = other_resets_back (own_circuit s) s.run.bench.pair.circuit (record {
-  inputs = refl;
-  latches = h.latches;
-  outputs = refl;
-  bad = refl;
-  constraints = refl;
-  gates = refl;
-  size = refl;
-  symbols = refl;
-})
-
-module _ (s : Session) (h : IsSession s) (k : ℕ) (own now : Latch) (at : slice_get s.run.latches.items k ≡ Some own)
+module _ (s : Session) (k : ℕ) (own now : Latch) (at : slice_get s.run.latches.items k ≡ Some own)
     (stands : slice_get s.run.bench.pair.circuit.latches k ≡ Some now) where
-  pub own_over : IsCircuit s.run.bench.pair.circuit → 1 < own.lit
-  own_over circuit =
-      let (y, here, same) = AllZip-slice_get IsSameLatch s.run.latches.items s.run.bench.pair.circuit.latches k own h.latches at in
-      let d = latch_definition s.run.bench.pair.circuit circuit.sound k y here in
-      let e : y.lit ≡ own.lit = same.0 in
-      omega (arith, d, e)
-
-  pub own_reset : IsReset own
-  own_reset = All-at IsReset s.run.latches.items k own h.resets at
-
   pub start_is : slice_get (start_of s.run.bench.pair.circuit) k ≡ Some (reset_value now.reset)
   start_is = slice_get-map (λ (x : Latch). reset_value x.reset) s.run.bench.pair.circuit.latches k ∙ rw stands refl
 
@@ -73,9 +45,9 @@ module _ (s : Session) (h : IsSession s) (k : ℕ) (own now : Latch) (at : slice
       other (same_Some (reset_value now.reset) (reset_value own.reset)
       (sym start_is ∙ ap (λ (ss : List Tern). slice_get ss k) e ∙ own_start_is))
 
-module _ (s : Session) (h : IsSession s) where
+module _ (s : Session) where
   pub same_size : length s.run.bench.pair.circuit.latches ≡ length s.run.latches.items
-  same_size = AllZip-long IsSameLatch s.run.latches.items s.run.bench.pair.circuit.latches h.latches
+  same_size = AllZip-long IsSameLatch s.run.latches.items s.run.bench.pair.circuit.latches s.has_latches
 
   pub starts_same : (n : ℕ) → length s.run.latches.items ≤ n
       → take n (start_of s.run.bench.pair.circuit) ≡ take n (start_of (own_circuit s))

@@ -22,7 +22,7 @@ use Rattle.aig_shell.specs.Ends.{EndsFiles, with_calls}
 use Rattle.aig_shell.specs.Files as files
 use Rattle.aig_shell.specs.Files.{KeptText, Call, IsAsked, after_keeping, no_start_text, reached_text, saved}
 use Rattle.aig_shell.specs.Request.{Request, save, witness, wave}
-use Rattle.aig_shell.specs.Session.{IsIn, IsSession, KeepsRun, own_circuit}
+use Rattle.aig_shell.specs.Session.{IsIn, KeepsRun, own_circuit}
 use Rattle.aig_shell.specs.State.{SessionState, circuit_of}
 
 -- ---- calls
@@ -44,11 +44,10 @@ no_call (Some old) = ap Some (sym (append-nil old))
 -- ---- the circuit and the run of a state
 
 -- the circuit with the resets of the file is the bench's, but for resets
-pub own_differs : (session : Session) → IsSession session
-    → HasOtherResets (own_circuit session) session.run.bench.pair.circuit
-own_differs session h = record {
+pub own_differs : (session : Session) → HasOtherResets (own_circuit session) session.run.bench.pair.circuit
+own_differs session = record {
   inputs = refl;
-  latches = h.latches;
+  latches = session.has_latches;
   outputs = refl;
   bad = refl;
   constraints = refl;
@@ -57,13 +56,11 @@ own_differs session h = record {
   symbols = refl;
 }
 
-pub own_resets : (session : Session) → IsSession session
-    → HasOtherResets session.run.bench.pair.circuit (own_circuit session)
-own_resets session h = other_resets_back (own_circuit session) session.run.bench.pair.circuit (own_differs session h)
+pub own_resets : (session : Session) → HasOtherResets session.run.bench.pair.circuit (own_circuit session)
+own_resets session = other_resets_back (own_circuit session) session.run.bench.pair.circuit (own_differs session)
 
-pub own_size : (session : Session) → IsSession session
-    → length session.run.latches.items ≡ length session.run.bench.pair.circuit.latches
-own_size session h = latches_length session.run.bench.pair.circuit (own_circuit session) (own_resets session h)
+pub own_size : (session : Session) → length session.run.latches.items ≡ length session.run.bench.pair.circuit.latches
+own_size session = latches_length session.run.bench.pair.circuit (own_circuit session) (own_resets session)
 
 module _ (session : Session) (s : SessionState) (h : IsIn session s) where
   pub own_is : own_circuit session ≡ circuit_of s

@@ -7,9 +7,9 @@ ghost use Rattle.aig_base.specs.Value.{start_of};
 ghost use Rattle.aig_sim.specs.Verdict.{StartsWrong};
 ghost use Rattle.aig_shell.specs.Answers.{AreStandings, IsChecked, is_condition, line_if, property_name, standing_line};
 ghost use Rattle.aig_shell.specs.Answers.{standings_text};
-ghost use Rattle.aig_shell.specs.Reasons.{broken_text, no_property_text, start_text};
-ghost use Rattle.aig_shell.specs.Session.{IsIn, IsSession, own_circuit};
-ghost use Rattle.aig_shell.specs.Standing.{HoldAt, HoldBefore, HoldBelow, IsBroken, IsFirstAt, IsFirstBroken, IsNever};
+ghost use Rattle.aig_shell.specs.Reasons.{AreConstraints, broken_text, no_property_text, start_text};
+ghost use Rattle.aig_shell.specs.Session.{IsIn, own_circuit};
+ghost use Rattle.aig_shell.specs.Standing.{HoldAt, HoldBefore, HoldBelow, IsBroken, IsFirstAt, IsNever};
 ghost use Rattle.aig_shell.specs.Standing.{IsStanding, StartsRight, standing_text};
 ghost use Rattle.aig_shell.specs.State.{SessionState};
 
@@ -148,8 +148,7 @@ impl Session {
 
     /// The first frame at which a constraint is not 1, and the least of these constraints.
     fn broken(&self) -> Option<Broken>
-        ensures some { IfSome result (λ b. IsFirstBroken self.now.run.bench.pair b.frame b.constraint b.value) }
-        ensures none { IfNone result (HoldBefore self.now.run.bench.pair (length self.now.run.bench.pair.rows)) }
+        ensures { AreConstraints self.now.run.bench.pair result }
     {
         let bench = self.bench();
         for frame in 0..bench.frames() {
@@ -163,8 +162,7 @@ impl Session {
     /// Whether all constraints are 1 up to a frame, which is there.
     fn holds_to(&self, frame: u32, broken: Option<Broken>) -> bool
         requires frame { frame < length self.now.run.bench.pair.rows }
-        requires some { IfSome broken (λ b. IsFirstBroken self.now.run.bench.pair b.frame b.constraint b.value) }
-        requires none { IfNone broken (HoldBefore self.now.run.bench.pair (length self.now.run.bench.pair.rows)) }
+        requires broken { AreConstraints self.now.run.bench.pair broken }
         ensures yes { IsTrue result → HoldBefore self.now.run.bench.pair (frame + 1) }
         ensures no { result ≡ false → (t : ℕ) × (k : ℕ) × (w : Tern) × (t ≤ frame)
             × IsBroken self.now.run.bench.pair t k w }
@@ -177,10 +175,8 @@ impl Session {
 
     /// Whether the frames up to this one are those of a run of the circuit, which has the resets of its file.
     fn is_run_to(&self, frame: u32, broken: Option<Broken>) -> bool
-        requires session { IsSession self.now }
         requires frame { frame < length self.now.run.bench.pair.rows }
-        requires some { IfSome broken (λ b. IsFirstBroken self.now.run.bench.pair b.frame b.constraint b.value) }
-        requires none { IfNone broken (HoldBefore self.now.run.bench.pair (length self.now.run.bench.pair.rows)) }
+        requires broken { AreConstraints self.now.run.bench.pair broken }
         ensures yes { IsTrue result → StartsRight (own_circuit self.now) (start_of self.now.run.bench.pair.circuit)
             × HoldBefore self.now.run.bench.pair (frame + 1) }
         ensures no { result ≡ false →
@@ -198,10 +194,8 @@ impl Session {
 
     /// What the run does to a property with this literal.
     fn standing(&self, position: u32, literal: Lit, broken: Option<Broken>) -> Standing
-        requires session { IsSession self.now }
         requires literal { slice_get self.now.run.bench.pair.circuit.bad position ≡ Some literal }
-        requires some { IfSome broken (λ b. IsFirstBroken self.now.run.bench.pair b.frame b.constraint b.value) }
-        requires none { IfNone broken (HoldBefore self.now.run.bench.pair (length self.now.run.bench.pair.rows)) }
+        requires broken { AreConstraints self.now.run.bench.pair broken }
         ensures { IsStanding (own_circuit self.now) self.now.run.bench.pair position literal result }
     {
         let bench = self.bench();
@@ -224,9 +218,7 @@ impl Session {
 
     /// What the run does to each property.
     fn standings(&self, broken: Option<Broken>) -> Result<Vec<Standing>, Memory>
-        requires session { IsSession self.now }
-        requires some { IfSome broken (λ b. IsFirstBroken self.now.run.bench.pair b.frame b.constraint b.value) }
-        requires none { IfNone broken (HoldBefore self.now.run.bench.pair (length self.now.run.bench.pair.rows)) }
+        requires broken { AreConstraints self.now.run.bench.pair broken }
         ensures { IfOk result (λ standings. AreStandings (own_circuit self.now) self.now.run.bench.pair 0
             self.now.run.bench.pair.circuit.bad standings.items) }
     {
@@ -347,7 +339,6 @@ impl Session {
 
     /// Adds for each property whether the run reaches it, the conditions last, and why it is no run where it is none.
     pub(crate) fn check(&self, text: &mut Vec<u8>) -> Result<(), Memory>
-        requires session { IsSession self.now }
         requires empty { text.old.items ≡ [] }
         ensures { OnOk result ((s : SessionState) → IsIn self.now s → IsChecked s text.new.items) }
     {

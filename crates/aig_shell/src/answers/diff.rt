@@ -12,7 +12,7 @@ ghost use Rattle.aig_signals.specs.declared.signal.Signal.{Signal};
 ghost use Rattle.aig_shell.specs.Answers.{DiffersFrames};
 ghost use Rattle.aig_shell.specs.Ends.{EndsQuery};
 ghost use Rattle.aig_shell.specs.Request as request;
-ghost use Rattle.aig_shell.specs.Session.{IsFirst, IsSession};
+ghost use Rattle.aig_shell.specs.Session.{IsFirst};
 ghost use Rattle.aig_shell.specs.Tables.{AreBits, AreTwoRows, Differs, IsBelow, IsCellOrDot};
 ghost use Rattle.aig_shell.specs.Compared.{AreAllSame, AreLiterals, AreSame, AreTexts, IsDifferenceText, NoneOutside};
 ghost use Rattle.aig_shell.specs.Compared.{OneDiffers};
@@ -236,7 +236,6 @@ impl Session {
 
     /// The first of the frames up to an end at which any signal differs.
     fn first_frame(&self, first: u32, end: u32) -> Result<Option<u32>, Memory>
-        requires { IsSession self.now }
         ensures range { IfOk result (λ found. IfSome found (λ t. (first ≤ t) × (t < end))) }
         ensures differs { (p : CircuitAndRows) → IsFirst self.now p → IfOk result (λ found. IfSome found (λ t.
             OneDiffers self.now.run.bench.pair p (signals_of self.now.run.bench.pair.circuit) t 1)) }
@@ -293,7 +292,6 @@ impl Session {
 
     /// Adds a table of the signals that differ at the frames up to an end.
     fn push_differences(&self, text: &mut Vec<u8>, first: u32, end: u32) -> Result<(), Memory>
-        requires session { IsSession self.now }
         requires order { first ≤ end }
         ensures { (p : CircuitAndRows) → IsFirst self.now p → OnOk result ((table : List ℕ)
             × IsDifferenceText self.now.run.bench.pair p first (end - first) table
@@ -320,7 +318,6 @@ impl Session {
     /// The frames that are shown of so many where none are named, up to an end: all of a short run, and of a long one
     /// those from the first difference on. Says which.
     fn differing_frames(&self, text: &mut Vec<u8>, count: u32) -> Result<(u32, u32), Memory>
-        requires { IsSession self.now }
         ensures order { IfOk result (λ found. found.0 ≤ found.1) }
         ensures within { IfOk result (λ found. found.1 ≤ count) }
         ensures short { IfOk result (λ found. count ≤ 64 → (found.0 ≡ 0) × (found.1 ≡ count)) }
@@ -356,7 +353,6 @@ impl Session {
         frames: Option<&'a [u8]>,
         count: u32,
     ) -> Result<(u32, u32), Refusal<'a>>
-        requires { IsSession self.now }
         ensures order { IfOk result (λ found. found.0 ≤ found.1) }
         ensures within { IfOk result (λ found. found.1 ≤ count) }
         ensures shown { IfOk result (λ found.
@@ -384,7 +380,6 @@ impl Session {
         text: &mut Vec<u8>,
         frames: Option<&'a [u8]>,
     ) -> Result<(), Refusal<'a>>
-        requires session { IsSession self.now }
         requires empty { text.old.items ≡ [] }
         ensures { EndsQuery self.now (request.diff (option_map (λ w. w.now) frames.entry)) result text.new.items }
     {

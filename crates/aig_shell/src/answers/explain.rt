@@ -7,7 +7,7 @@ ghost use Rattle.aig_why.specs.Why.{IsExplanation, run_of};
 ghost use Rattle.aig_shell.specs.Ends.{EndsQuery, asks_why};
 ghost use Rattle.aig_shell.specs.Explained.{AddsLines, Explains, IsFrameOrLast, more_text};
 ghost use Rattle.aig_shell.specs.Request as request;
-ghost use Rattle.aig_shell.specs.Session.{IsSession, own_circuit};
+ghost use Rattle.aig_shell.specs.Session.{own_circuit};
 
 use crate::pieces::{Piece, push_pieces};
 use crate::refusal::Refusal;
@@ -15,7 +15,7 @@ use crate::session::Session;
 use aig_base::{List, Memory};
 use aig_prompt::push_folded;
 use aig_signals::{Form, Naming};
-use aig_why::{Frames, Question, text_of};
+use aig_why::{ExplainedFrames, Question, text_of};
 
 /// The most lines of an explanation that are shown.
 const LINES: usize = 40;
@@ -72,8 +72,7 @@ fn push_more(text: &mut Vec<u8>, count: usize, last: u32) -> Result<(), Memory>
 
 impl Session {
     /// The lines that explain a question between two frames.
-    fn explanation(&self, question: &Question, frames: Frames) -> Result<Vec<u8>, Memory>
-        requires session { IsSession self.now }
+    fn explanation(&self, question: &Question, frames: ExplainedFrames) -> Result<Vec<u8>, Memory>
         requires frame { frames.first < length self.now.run.bench.pair.rows }
         requires last { frames.last ≤ frames.first }
         requires range { All (λ l. variable l ≤ self.now.run.bench.pair.circuit.max_var) question.now.literals }
@@ -93,7 +92,6 @@ impl Session {
         question: &Question,
         frame: u32,
     ) -> Result<(), Memory>
-        requires session { IsSession self.now }
         requires empty { text.old.items ≡ [] }
         requires frame { frame < length self.now.run.bench.pair.rows }
         requires range { All (λ l. variable l ≤ self.now.run.bench.pair.circuit.max_var) question.now.literals }
@@ -103,7 +101,7 @@ impl Session {
     {
         let mut depth = 1u32;
         loop {
-            let frames = Frames {
+            let frames = ExplainedFrames {
                 first: frame,
                 last: frame.saturating_sub(depth),
             };
@@ -120,7 +118,6 @@ impl Session {
 
     /// Explains the property of the witness that was opened; without one, the first that is reached.
     fn explain_property<'a>(&self, text: &mut Vec<u8>) -> Result<(), Refusal<'a>>
-        requires session { IsSession self.now }
         requires empty { text.old.items ≡ [] }
         ensures { EndsQuery self.now request.why_first result text.new.items }
     {
@@ -150,7 +147,6 @@ impl Session {
         name: &'a [u8],
         frame: Option<&'a [u8]>,
     ) -> Result<(), Refusal<'a>>
-        requires session { IsSession self.now }
         requires empty { text.old.items ≡ [] }
         ensures { EndsQuery self.now (request.why name.now (option_map (λ w. w.now) frame.entry)) result
             text.new.items }
@@ -174,7 +170,6 @@ impl Session {
         name: Option<&'a [u8]>,
         frame: Option<&'a [u8]>,
     ) -> Result<(), Refusal<'a>>
-        requires session { IsSession self.now }
         requires empty { text.old.items ≡ [] }
         ensures { EndsQuery self.now (asks_why (option_map (λ w. w.now) name.entry)
             (option_map (λ w. w.now) frame.entry)) result

@@ -12,7 +12,7 @@ ghost use Rattle.aig_shell.specs.Edits.{EndsEdit, has_edited};
 ghost use Rattle.aig_shell.specs.Ends.{EndsQuery};
 ghost use Rattle.aig_shell.specs.Pieces.{piece_text};
 ghost use Rattle.aig_shell.specs.Request as request;
-ghost use Rattle.aig_shell.specs.Session.{IsSession, KeepsRest};
+ghost use Rattle.aig_shell.specs.Session.{KeepsRest};
 
 use crate::pieces::{Piece, push_number, push_pieces};
 use crate::refusal::Refusal;
@@ -219,7 +219,6 @@ impl Session {
 
     /// Adds the line of a literal that is called by a name.
     fn push_definition(&self, text: &mut Vec<u8>, name: &[u8], literal: Lit) -> Result<(), Memory>
-        requires { IsSession self.now }
         ensures { OnOk result ((said : List ℕ) × IsLiteralText self.now.run.bench.pair.circuit
             self.now.run.latches.items name.now literal said × (text.new.items ≡ text.old.items ++ said)) }
     {
@@ -237,7 +236,6 @@ impl Session {
 
     /// Adds what defines the literal of a name.
     pub(crate) fn gate<'a>(&self, text: &mut Vec<u8>, name: &'a [u8]) -> Result<(), Refusal<'a>>
-        requires session { IsSession self.now }
         requires empty { text.old.items ≡ [] }
         ensures { EndsQuery self.now (request.gate name.now) result text.new.items }
     {
@@ -254,15 +252,12 @@ impl Session {
         side0: &'a [u8],
         side1: &'a [u8],
     ) -> Result<(), Refusal<'a>>
-        requires session { IsSession self.old }
         requires empty { text.old.items ≡ [] }
-        ensures session { IsSession self.new }
         ensures edits { EndsEdit self.old.run.bench.pair (request.rewire name.now side0.now side1.now) result
             self.new.run.bench.pair }
         ensures text { OnOk result (IsRewiredText self.old.run.bench.pair.circuit name.now side0.now side1.now
             text.new.items) }
-        ensures rest { KeepsRest self.old self.new }
-        ensures circuit { self.new.has_edited_circuit ≡ has_edited self.old.has_edited_circuit result }
+        ensures rest { KeepsRest self.old (has_edited self.old.has_edited_circuit result) self.new }
     {
         let literal = self.literal(name)?;
         let side0 = self.literal(side0)?;
@@ -288,14 +283,11 @@ impl Session {
         side0: &'a [u8],
         side1: &'a [u8],
     ) -> Result<(), Refusal<'a>>
-        requires session { IsSession self.old }
-        ensures session { IsSession self.new }
         ensures edits { EndsEdit self.old.run.bench.pair (request.append side0.now side1.now) result
             self.new.run.bench.pair }
         ensures text { OnOk result (text.new.items ≡ text.old.items ++
             (decimal (2 * (self.old.run.bench.pair.circuit.max_var + 1)) ++ 10 ∷ [])) }
-        ensures rest { KeepsRest self.old self.new }
-        ensures circuit { self.new.has_edited_circuit ≡ has_edited self.old.has_edited_circuit result }
+        ensures rest { KeepsRest self.old (has_edited self.old.has_edited_circuit result) self.new }
     {
         let side0 = self.literal(side0)?;
         let side1 = self.literal(side1)?;

@@ -15,11 +15,11 @@ use std::alloc::Global;
 use std::collections::BTreeSet;
 
 /// Names, in the order of the circuit.
-type Names = Vec<Vec<u8>>;
+type NameList = Vec<Vec<u8>>;
 
 /// Adds the first name of an entry that has a symbol.
 fn push_first(
-    names: &mut Names,
+    names: &mut NameList,
     alloc: Global,
     circuit: &Circuit,
     kind: Kind,
@@ -33,7 +33,7 @@ fn push_first(
 
 /// Adds the words of an entry's symbol after the first.
 fn push_further(
-    names: &mut Names,
+    names: &mut NameList,
     alloc: Global,
     circuit: &Circuit,
     kind: Kind,
@@ -55,7 +55,7 @@ fn push_further(
 
 /// Adds the name of a signal, and where it is one entry the further words of that.
 fn push_signal(
-    names: &mut Names,
+    names: &mut NameList,
     alloc: Global,
     circuit: &Circuit,
     signal: &Signal,
@@ -75,7 +75,7 @@ fn has_word(circuit: &Circuit, kind: Kind, position: u32) -> bool {
 
 /// Adds the words of the symbols of a section.
 fn push_section(
-    names: &mut Names,
+    names: &mut NameList,
     alloc: Global,
     circuit: &Circuit,
     kind: Kind,
@@ -90,7 +90,7 @@ fn push_section(
 }
 
 /// Takes names away that came before.
-fn without_twins(alloc: Global, names: Names) -> Result<Names, Memory> {
+fn without_twins(alloc: Global, names: NameList) -> Result<NameList, Memory> {
     let mut seen = BTreeSet::new(alloc);
     let mut kept = Vec::new(alloc);
     for name in names {
@@ -115,7 +115,7 @@ fn push_proposal(text: &mut Vec<u8>, name: &[u8]) -> Result<(), Memory> {
 
 impl Session {
     /// The signals that contain a text, and the further words of those that are one entry, each once.
-    fn listed(&self, part: &[u8]) -> Result<Names, Memory> {
+    fn listed(&self, part: &[u8]) -> Result<NameList, Memory> {
         let mut names = Vec::new(self.alloc);
         for signal in self.signals.as_slice() {
             push_signal(&mut names, self.alloc, self.circuit(), signal)?;

@@ -7,21 +7,19 @@ ghost use Rattle.aig_prompt.specs.Table.{TableRow, row_of};
 ghost use Rattle.aig_shell.specs.Answers.{ShowsFrames};
 ghost use Rattle.aig_shell.specs.Ends.{EndsQuery};
 ghost use Rattle.aig_shell.specs.Request as request;
-ghost use Rattle.aig_shell.specs.Session.{IsSession};
 ghost use Rattle.aig_shell.specs.Tables.{AreBits, AreCells, IsCell, IsRowOf, IsShown};
 
 use crate::pieces::{Piece, push_pieces};
 use crate::refusal::Refusal;
 use crate::session::Session;
-use crate::session::frames::{Frames, SHOWN};
+use crate::session::frames::{FrameRange, SHOWN};
 use aig_base::{Lit, Memory, Tern};
 use aig_prompt::{Row, Table, Texts};
 use aig_signals::{SignalNames, push_table_value};
 
 /// The frames that are shown where none are named: all, or the last ones. Says how many are left out.
-fn shown_frames(text: &mut Vec<u8>, all: Frames) -> Result<Frames, Memory>
+fn shown_frames(text: &mut Vec<u8>, all: FrameRange) -> Result<FrameRange, Memory>
     requires first { all.first ≡ 0 }
-    requires fits { all.last + 1 < 2 ^ 32 }
     ensures { IfOk result (λ found. ShowsFrames None (all.last + 1) found.first found.last) }
 {
     if all.count() <= SHOWN {
@@ -34,7 +32,7 @@ fn shown_frames(text: &mut Vec<u8>, all: Frames) -> Result<Frames, Memory>
         Piece::Text(b" are left out; @A-B names frames\n"),
     ];
     push_pieces(text, &note)?;
-    Ok(Frames {
+    Ok(FrameRange {
         first,
         last: all.last,
     })
@@ -76,19 +74,19 @@ impl Session {
         push_table_value(cell, bits.as_slice())
     }
 
-    /// The row of the values of literals, at frames up to the end.
-    fn row(&self, name: &[u8], literals: &[Lit], first: u32, end: u32) -> Result<Row, Memory>
-        requires order { first ≤ end }
-        requires within { end ≤ length self.now.run.bench.pair.rows }
+    /// The row of the values of literals, at some frames.
+    fn row(&self, name: &[u8], literals: &[Lit], frames: FrameRange) -> Result<Row, Memory>
+        requires within { frames.last < length self.now.run.bench.pair.rows }
         requires defined { All (λ l. IsDefined self.now.run.bench.pair.circuit (variable l)) literals.now }
         ensures name { IfOk result (λ row. (row_of row).name ≡ name.now) }
         ensures cells { IfOk result (λ row.
-            AreCells self.now.run.bench.pair literals.now first (end - first) (row_of row).cells) }
+            AreCells self.now.run.bench.pair literals.now frames.first (frames.last + 1 - frames.first)
+            (row_of row).cells) }
     {
         let mut bits = Vec::new(self.alloc);
         let mut cell = Vec::new(self.alloc);
         let mut cells = Texts::new(self.alloc);
-        for frame in first..end {
+        for frame in frames.first..frames.last + 1 {
             self.fill_cell(&mut cell, &mut bits, frame, literals)?;
             cells.push(cell.as_slice())?;
         }
@@ -101,13 +99,11 @@ impl Session {
         &self,
         text: &mut Vec<u8>,
         frames: Option<&'a [u8]>,
-    ) -> Result<Frames, Refusal<'a>>
+    ) -> Result<FrameRange, Refusal<'a>>
         ensures shown { IfOk result (λ found.
             ShowsFrames (option_map (λ w. w.now) frames.entry) (length self.now.run.bench.pair.rows) found.first
             found.last) }
-        ensures order { IfOk result (λ found. found.first ≤ found.last) }
         ensures within { IfOk result (λ found. found.last < length self.now.run.bench.pair.rows) }
-        ensures fits { IfOk result (λ found. found.last + 1 < 2 ^ 32) }
         ensures err { IfErr result (λ refusal. refusal ≢ Refusal.Memory → (first last : ℕ) →
             ShowsFrames (option_map (λ w. w.now) frames.entry) (length self.now.run.bench.pair.rows) first last → ⊥) }
     {
@@ -121,64 +117,59 @@ impl Session {
         }
     }
 
-    /// The row of a name, at frames up to the end.
+    /// The row of a name, at some frames.
     fn named_row<'a>(
         &self,
         known: &SignalNames<'_>,
         name: &'a [u8],
-        first: u32,
-        end: u32,
+        frames: FrameRange,
     ) -> Result<Row, Refusal<'a>>
         requires circuit { known.now ≡ self.now.run.bench.pair.circuit }
-        requires order { first ≤ end }
-        requires within { end ≤ length self.now.run.bench.pair.rows }
-        ensures ok { IfOk result (λ row. IsRowOf self.now.run.bench.pair first (end - first) name.now (row_of row)) }
+        requires within { frames.last < length self.now.run.bench.pair.rows }
+        ensures ok { IfOk result (λ row. IsRowOf self.now.run.bench.pair frames.first (frames.last + 1 - frames.first)
+            name.now (row_of row)) }
         ensures err { IfErr result (λ refusal. refusal ≢ Refusal.Memory → (t n : ℕ) (row : TableRow) →
             IsRowOf self.now.run.bench.pair t n name.now row → ⊥) }
     {
         // Its contract says that it is a circuit.
         self.circuit().facts();
         let literals = self.literals_among(known, name)?;
-        let row = self.row(name, literals.as_slice(), first, end)?;
+        let row = self.row(name, literals.as_slice(), frames)?;
         Ok(row)
     }
 
-    /// The rows of names, at frames up to the end, where what they mean was looked up.
+    /// The rows of names, at some frames, where what they mean was looked up.
     fn rows_among<'a>(
         &self,
         known: &SignalNames<'_>,
         names: &[&'a [u8]],
-        first: u32,
-        end: u32,
+        frames: FrameRange,
     ) -> Result<Vec<Row>, Refusal<'a>>
         requires circuit { known.now ≡ self.now.run.bench.pair.circuit }
-        requires order { first ≤ end }
-        requires within { end ≤ length self.now.run.bench.pair.rows }
-        ensures ok { IfOk result (λ rows.
-            IsShown self.now.run.bench.pair first (end - first) (map (λ w. w.now) names.now) (map row_of rows.items)) }
+        requires within { frames.last < length self.now.run.bench.pair.rows }
+        ensures ok { IfOk result (λ rows. IsShown self.now.run.bench.pair frames.first
+            (frames.last + 1 - frames.first) (map (λ w. w.now) names.now) (map row_of rows.items)) }
         ensures err { IfErr result (λ refusal. refusal ≢ Refusal.Memory → (t n : ℕ) (rows : List TableRow) →
             IsShown self.now.run.bench.pair t n (map (λ w. w.now) names.now) rows → ⊥) }
     {
         let mut rows = Vec::new(self.alloc);
         for name in names {
-            let row = self.named_row(known, *name, first, end)?;
+            let row = self.named_row(known, *name, frames)?;
             rows.push(row)?;
         }
         Ok(rows)
     }
 
-    /// The rows of names, at frames up to the end.
-    fn rows<'a>(&self, names: &[&'a [u8]], first: u32, end: u32) -> Result<Vec<Row>, Refusal<'a>>
-        requires session { IsSession self.now }
-        requires order { first ≤ end }
-        requires within { end ≤ length self.now.run.bench.pair.rows }
-        ensures ok { IfOk result (λ rows.
-            IsShown self.now.run.bench.pair first (end - first) (map (λ w. w.now) names.now) (map row_of rows.items)) }
+    /// The rows of names, at some frames.
+    fn rows<'a>(&self, names: &[&'a [u8]], frames: FrameRange) -> Result<Vec<Row>, Refusal<'a>>
+        requires within { frames.last < length self.now.run.bench.pair.rows }
+        ensures ok { IfOk result (λ rows. IsShown self.now.run.bench.pair frames.first
+            (frames.last + 1 - frames.first) (map (λ w. w.now) names.now) (map row_of rows.items)) }
         ensures err { IfErr result (λ refusal. refusal ≢ Refusal.Memory → (t n : ℕ) (rows : List TableRow) →
             IsShown self.now.run.bench.pair t n (map (λ w. w.now) names.now) rows → ⊥) }
     {
         let known = self.names_for(names)?;
-        self.rows_among(&known, names, first, end)
+        self.rows_among(&known, names, frames)
     }
 
     /// Adds a table of the values of names, at the frames that are named, or at all.
@@ -188,14 +179,13 @@ impl Session {
         names: &[&'a [u8]],
         frames: Option<&'a [u8]>,
     ) -> Result<(), Refusal<'a>>
-        requires session { IsSession self.now }
         requires empty { text.old.items ≡ [] }
         ensures { EndsQuery self.now (request.show (map (λ w. w.now) names.now) (option_map (λ w. w.now) frames.entry))
             result
             text.new.items }
     {
         let shown = self.frames_to_show(text, frames)?;
-        let rows = self.rows(names, shown.first, shown.last + 1)?;
+        let rows = self.rows(names, shown)?;
         let table = Table {
             first: shown.first,
             frames: shown.count(),

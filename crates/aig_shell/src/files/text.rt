@@ -6,17 +6,17 @@ use std::alloc::Global;
 
 /// Keeps all that is written. It fails where no memory is found.
 #[derive(Drop)]
-pub(crate) struct Text {
+pub(crate) struct TextBuffer {
     bytes: Vec<u8>,
     failures: Count,
 }
 
-impl Text {
+impl TextBuffer {
     /// Nothing.
-    pub(crate) fn new(alloc: Global) -> Text
+    pub(crate) fn new(alloc: Global) -> TextBuffer
         ensures { result.bytes.items ≡ [] }
     {
-        Text {
+        TextBuffer {
             bytes: Vec::new(alloc),
             failures: Count::zero(),
         }
@@ -26,12 +26,12 @@ impl Text {
     pub(crate) fn into_bytes(self) -> Vec<u8>
         ensures { result ≡ self.bytes }
     {
-        let Text { bytes, failures: _ } = self;
+        let TextBuffer { bytes, failures: _ } = self;
         bytes
     }
 }
 
-impl Write for Text {
+impl Write for TextBuffer {
     ghost use Rattle.std.specs.Prelude.{Some};
 
     ghost written = { λ t. Some t.bytes.items };

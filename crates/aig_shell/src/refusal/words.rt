@@ -1,7 +1,6 @@
 //! What a refusal says.
 ghost use Rattle.std.specs.Prelude.{◌≡◌, ◌≢◌, [], OnOk};
 ghost use Rattle.aig_shell.specs.Answers.{IsRefusal};
-ghost use Rattle.aig_shell.specs.Session.{IsSession};
 
 use crate::answers::check::push_property;
 use crate::pieces::{Piece, push_number, push_pieces};
@@ -50,9 +49,7 @@ fn signal_named<'s>(signals: &'s [Signal], name: &[u8]) -> Option<&'s Signal> {
 }
 
 /// Adds the first name of bit 0 of a vector, or its literal.
-fn push_bit_0(text: &mut Vec<u8>, session: &Session, word: &[u8]) -> Result<(), Memory>
-    requires session { IsSession session.now }
-{
+fn push_bit_0(text: &mut Vec<u8>, session: &Session, word: &[u8]) -> Result<(), Memory> {
     if let Some(signal) = signal_named(session.signals.as_slice(), word) {
         return push_first_name(text, session.circuit(), signal.kind, signal.first);
     }
@@ -68,9 +65,7 @@ fn push_vector(
     session: &Session,
     word: &[u8],
     bits: usize,
-) -> Result<(), Memory>
-    requires session { IsSession session.now }
-{
+) -> Result<(), Memory> {
     let words = [
         Piece::Shown(word),
         Piece::Text(b" has "),
@@ -259,9 +254,7 @@ fn push_other_words(text: &mut Vec<u8>, refusal: Refusal<'_>) -> Result<(), Memo
 }
 
 /// Adds why a line does nothing.
-fn push_words(text: &mut Vec<u8>, session: &Session, refusal: Refusal<'_>) -> Result<(), Memory>
-    requires session { IsSession session.now }
-{
+fn push_words(text: &mut Vec<u8>, session: &Session, refusal: Refusal<'_>) -> Result<(), Memory> {
     match refusal {
         Refusal::NoCommand(word) => {
             push_said(text, b"no command ", word, b"; help lists the commands")
@@ -285,9 +278,7 @@ fn push_words(text: &mut Vec<u8>, session: &Session, refusal: Refusal<'_>) -> Re
 }
 
 /// Adds why a line does nothing, and an LF.
-fn push_reason(text: &mut Vec<u8>, session: &Session, refusal: Refusal<'_>) -> Result<(), Memory>
-    requires session { IsSession session.now }
-{
+fn push_reason(text: &mut Vec<u8>, session: &Session, refusal: Refusal<'_>) -> Result<(), Memory> {
     if let Refusal::OtherStart { latch, value } = refusal {
         return session.push_other_start(text, latch, value);
     }
@@ -302,7 +293,6 @@ pub(crate) fn push_refusal(
     session: &Session,
     refusal: Refusal<'_>,
 ) -> Result<(), Memory>
-    requires session { IsSession session.now }
     requires empty { text.old.items ≡ [] }
     ensures memory { OnOk result (refusal.entry ≢ Refusal.Memory) }
     ensures said { OnOk result (IsRefusal text.new.items) }

@@ -9,7 +9,7 @@ use crate::request::topic::Topic;
 
 /// What is asked of a session, which stays as it is.
 #[derive(Clone, Copy, Drop)]
-pub(crate) enum Query<'a, 'w> {
+pub(crate) enum ShellQuery<'a, 'w> {
     /// The values of names, at some frames.
     Show {
         names: &'w [&'a [u8]],
@@ -101,8 +101,8 @@ pub(crate) enum Export<'a> {
 
 /// What a line asks for.
 #[derive(Clone, Copy, Drop)]
-pub(crate) enum Command<'a, 'w> {
-    Query(Query<'a, 'w>),
+pub(crate) enum ShellCommand<'a, 'w> {
+    Query(ShellQuery<'a, 'w>),
     Edit(Edit<'a>),
     Export(Export<'a>),
     /// The end.
@@ -132,7 +132,7 @@ pub(crate) fn after_byte(word: &[u8], byte: u8) -> Option<&[u8]>
     }
 }
 
-fn show_of<'a, 'w>(words: &'w [&'a [u8]]) -> Result<Command<'a, 'w>, Refusal<'a>>
+fn show_of<'a, 'w>(words: &'w [&'a [u8]]) -> Result<ShellCommand<'a, 'w>, Refusal<'a>>
     ensures { EndsCommand (topic_word Topic.Show ∷ map (λ w. w.now) words.now) result }
 {
     let Some(last) = words.last() else {
@@ -140,30 +140,30 @@ fn show_of<'a, 'w>(words: &'w [&'a [u8]]) -> Result<Command<'a, 'w>, Refusal<'a>
     };
     match after_byte(*last, b'@') {
         Some(_) if words.len() == 1 => Err(Refusal::Usage(Topic::Show)),
-        Some(frames) => Ok(Command::Query(Query::Show {
+        Some(frames) => Ok(ShellCommand::Query(ShellQuery::Show {
             names: &words[..words.len() - 1],
             frames: Some(frames),
         })),
-        None => Ok(Command::Query(Query::Show {
+        None => Ok(ShellCommand::Query(ShellQuery::Show {
             names: words,
             frames: None,
         })),
     }
 }
 
-fn why_of<'a, 'w>(words: &'w [&'a [u8]]) -> Result<Command<'a, 'w>, Refusal<'a>>
+fn why_of<'a, 'w>(words: &'w [&'a [u8]]) -> Result<ShellCommand<'a, 'w>, Refusal<'a>>
     ensures { EndsCommand (topic_word Topic.Why ∷ map (λ w. w.now) words.now) result }
 {
     match words {
-        [] => Ok(Command::Query(Query::Why {
+        [] => Ok(ShellCommand::Query(ShellQuery::Why {
             name: None,
             frame: None,
         })),
-        [name] => Ok(Command::Query(Query::Why {
+        [name] => Ok(ShellCommand::Query(ShellQuery::Why {
             name: Some(*name),
             frame: None,
         })),
-        [name, frame] => Ok(Command::Query(Query::Why {
+        [name, frame] => Ok(ShellCommand::Query(ShellQuery::Why {
             name: Some(*name),
             frame: Some(*frame),
         })),
@@ -171,11 +171,11 @@ fn why_of<'a, 'w>(words: &'w [&'a [u8]]) -> Result<Command<'a, 'w>, Refusal<'a>>
     }
 }
 
-fn set_of<'a, 'w>(words: &'w [&'a [u8]]) -> Result<Command<'a, 'w>, Refusal<'a>>
+fn set_of<'a, 'w>(words: &'w [&'a [u8]]) -> Result<ShellCommand<'a, 'w>, Refusal<'a>>
     ensures { EndsCommand (topic_word Topic.Set ∷ map (λ w. w.now) words.now) result }
 {
     match words {
-        [frames, name, value] => Ok(Command::Edit(Edit::Set {
+        [frames, name, value] => Ok(ShellCommand::Edit(Edit::Set {
             frames: *frames,
             name: *name,
             value: *value,
@@ -184,11 +184,11 @@ fn set_of<'a, 'w>(words: &'w [&'a [u8]]) -> Result<Command<'a, 'w>, Refusal<'a>>
     }
 }
 
-fn start_of<'a, 'w>(words: &'w [&'a [u8]]) -> Result<Command<'a, 'w>, Refusal<'a>>
+fn start_of<'a, 'w>(words: &'w [&'a [u8]]) -> Result<ShellCommand<'a, 'w>, Refusal<'a>>
     ensures { EndsCommand (topic_word Topic.Start ∷ map (λ w. w.now) words.now) result }
 {
     match words {
-        [name, value] => Ok(Command::Edit(Edit::Start {
+        [name, value] => Ok(ShellCommand::Edit(Edit::Start {
             name: *name,
             value: *value,
         })),
@@ -196,12 +196,12 @@ fn start_of<'a, 'w>(words: &'w [&'a [u8]]) -> Result<Command<'a, 'w>, Refusal<'a
     }
 }
 
-fn gate_of<'a, 'w>(words: &'w [&'a [u8]]) -> Result<Command<'a, 'w>, Refusal<'a>>
+fn gate_of<'a, 'w>(words: &'w [&'a [u8]]) -> Result<ShellCommand<'a, 'w>, Refusal<'a>>
     ensures { EndsCommand (topic_word Topic.Gate ∷ map (λ w. w.now) words.now) result }
 {
     match words {
-        [name] => Ok(Command::Query(Query::Gate { name: *name })),
-        [name, side0, side1] => Ok(Command::Edit(Edit::Rewire {
+        [name] => Ok(ShellCommand::Query(ShellQuery::Gate { name: *name })),
+        [name, side0, side1] => Ok(ShellCommand::Edit(Edit::Rewire {
             name: *name,
             side0: *side0,
             side1: *side1,
@@ -210,11 +210,11 @@ fn gate_of<'a, 'w>(words: &'w [&'a [u8]]) -> Result<Command<'a, 'w>, Refusal<'a>
     }
 }
 
-fn new_of<'a, 'w>(words: &'w [&'a [u8]]) -> Result<Command<'a, 'w>, Refusal<'a>>
+fn new_of<'a, 'w>(words: &'w [&'a [u8]]) -> Result<ShellCommand<'a, 'w>, Refusal<'a>>
     ensures { EndsCommand (topic_word Topic.New ∷ map (λ w. w.now) words.now) result }
 {
     match words {
-        [side0, side1] => Ok(Command::Edit(Edit::New {
+        [side0, side1] => Ok(ShellCommand::Edit(Edit::New {
             side0: *side0,
             side1: *side1,
         })),
@@ -222,11 +222,11 @@ fn new_of<'a, 'w>(words: &'w [&'a [u8]]) -> Result<Command<'a, 'w>, Refusal<'a>>
     }
 }
 
-fn out_of<'a, 'w>(words: &'w [&'a [u8]]) -> Result<Command<'a, 'w>, Refusal<'a>>
+fn out_of<'a, 'w>(words: &'w [&'a [u8]]) -> Result<ShellCommand<'a, 'w>, Refusal<'a>>
     ensures { EndsCommand (topic_word Topic.Out ∷ map (λ w. w.now) words.now) result }
 {
     match words {
-        [name, literal] => Ok(Command::Edit(Edit::Out {
+        [name, literal] => Ok(ShellCommand::Edit(Edit::Out {
             name: *name,
             literal: *literal,
         })),
@@ -234,29 +234,29 @@ fn out_of<'a, 'w>(words: &'w [&'a [u8]]) -> Result<Command<'a, 'w>, Refusal<'a>>
     }
 }
 
-fn diff_of<'a, 'w>(words: &'w [&'a [u8]]) -> Result<Command<'a, 'w>, Refusal<'a>>
+fn diff_of<'a, 'w>(words: &'w [&'a [u8]]) -> Result<ShellCommand<'a, 'w>, Refusal<'a>>
     ensures { EndsCommand (topic_word Topic.Diff ∷ map (λ w. w.now) words.now) result }
 {
     let Some(word) = at_most_one(words, Topic::Diff)? else {
-        return Ok(Command::Query(Query::Diff { frames: None }));
+        return Ok(ShellCommand::Query(ShellQuery::Diff { frames: None }));
     };
     match after_byte(word, b'@') {
-        Some(frames) => Ok(Command::Query(Query::Diff {
+        Some(frames) => Ok(ShellCommand::Query(ShellQuery::Diff {
             frames: Some(frames),
         })),
         None => Err(Refusal::Usage(Topic::Diff)),
     }
 }
 
-fn save_of<'a, 'w>(words: &'w [&'a [u8]]) -> Result<Command<'a, 'w>, Refusal<'a>>
+fn save_of<'a, 'w>(words: &'w [&'a [u8]]) -> Result<ShellCommand<'a, 'w>, Refusal<'a>>
     ensures { EndsCommand (topic_word Topic.Save ∷ map (λ w. w.now) words.now) result }
 {
     match words {
-        [circuit] => Ok(Command::Export(Export::Save {
+        [circuit] => Ok(ShellCommand::Export(Export::Save {
             circuit: *circuit,
             stimulus: None,
         })),
-        [circuit, stimulus] => Ok(Command::Export(Export::Save {
+        [circuit, stimulus] => Ok(ShellCommand::Export(Export::Save {
             circuit: *circuit,
             stimulus: Some(*stimulus),
         })),
@@ -264,15 +264,15 @@ fn save_of<'a, 'w>(words: &'w [&'a [u8]]) -> Result<Command<'a, 'w>, Refusal<'a>
     }
 }
 
-fn witness_of<'a, 'w>(words: &'w [&'a [u8]]) -> Result<Command<'a, 'w>, Refusal<'a>>
+fn witness_of<'a, 'w>(words: &'w [&'a [u8]]) -> Result<ShellCommand<'a, 'w>, Refusal<'a>>
     ensures { EndsCommand (topic_word Topic.Witness ∷ map (λ w. w.now) words.now) result }
 {
     match words {
-        [file] => Ok(Command::Export(Export::Witness {
+        [file] => Ok(ShellCommand::Export(Export::Witness {
             file: *file,
             name: None,
         })),
-        [file, name] => Ok(Command::Export(Export::Witness {
+        [file, name] => Ok(ShellCommand::Export(Export::Witness {
             file: *file,
             name: Some(*name),
         })),
@@ -280,11 +280,11 @@ fn witness_of<'a, 'w>(words: &'w [&'a [u8]]) -> Result<Command<'a, 'w>, Refusal<
     }
 }
 
-fn wave_of<'a, 'w>(words: &'w [&'a [u8]]) -> Result<Command<'a, 'w>, Refusal<'a>>
+fn wave_of<'a, 'w>(words: &'w [&'a [u8]]) -> Result<ShellCommand<'a, 'w>, Refusal<'a>>
     ensures { EndsCommand (topic_word Topic.Wave ∷ map (λ w. w.now) words.now) result }
 {
     match words {
-        [file] => Ok(Command::Export(Export::Wave { file: *file })),
+        [file] => Ok(ShellCommand::Export(Export::Wave { file: *file })),
         _ => Err(Refusal::Usage(Topic::Wave)),
     }
 }
@@ -293,8 +293,8 @@ fn wave_of<'a, 'w>(words: &'w [&'a [u8]]) -> Result<Command<'a, 'w>, Refusal<'a>
 fn alone<'a, 'w>(
     words: &'w [&'a [u8]],
     topic: Topic,
-    command: Command<'a, 'w>,
-) -> Result<Command<'a, 'w>, Refusal<'a>>
+    command: ShellCommand<'a, 'w>,
+) -> Result<ShellCommand<'a, 'w>, Refusal<'a>>
     ensures ok { IfOk result (λ done. (done ≡ command.entry) × (words.now ≡ [])) }
     ensures err { IfErr result (λ refusal. (words.now ≢ []) × (refusal ≢ Refusal.Memory)) }
 {
@@ -305,9 +305,9 @@ fn alone<'a, 'w>(
     }
 }
 
-impl<'a, 'w> Command<'a, 'w> {
+impl<'a, 'w> ShellCommand<'a, 'w> {
     /// What the words after the first ask for.
-    fn of_topic(topic: Topic, words: &'w [&'a [u8]]) -> Result<Command<'a, 'w>, Refusal<'a>>
+    fn of_topic(topic: Topic, words: &'w [&'a [u8]]) -> Result<ShellCommand<'a, 'w>, Refusal<'a>>
         ensures { EndsCommand (topic_word topic ∷ map (λ w. w.now) words.now) result }
     {
         match topic {
@@ -315,36 +315,39 @@ impl<'a, 'w> Command<'a, 'w> {
             Topic::Why => why_of(words),
             Topic::Set => set_of(words),
             Topic::Start => start_of(words),
-            Topic::Add => Ok(Command::Edit(Edit::Add {
+            Topic::Add => Ok(ShellCommand::Edit(Edit::Add {
                 count: at_most_one(words, topic)?,
             })),
-            Topic::Drop => Ok(Command::Edit(Edit::Drop {
+            Topic::Drop => Ok(ShellCommand::Edit(Edit::Drop {
                 count: at_most_one(words, topic)?,
             })),
             Topic::Gate => gate_of(words),
             Topic::New => new_of(words),
             Topic::Out => out_of(words),
-            Topic::Check => alone(words, topic, Command::Query(Query::Check)),
+            Topic::Check => alone(words, topic, ShellCommand::Query(ShellQuery::Check)),
             Topic::Diff => diff_of(words),
             Topic::Save => save_of(words),
             Topic::Witness => witness_of(words),
             Topic::Wave => wave_of(words),
-            Topic::Names => Ok(Command::Query(Query::Names {
+            Topic::Names => Ok(ShellCommand::Query(ShellQuery::Names {
                 text: at_most_one(words, topic)?,
             })),
-            Topic::Help => Ok(Command::Query(Query::Help {
+            Topic::Help => Ok(ShellCommand::Query(ShellQuery::Help {
                 command: at_most_one(words, topic)?,
             })),
-            Topic::Quit => alone(words, topic, Command::Quit),
+            Topic::Quit => alone(words, topic, ShellCommand::Quit),
         }
     }
 
     /// What the words of a line ask for, the first of which is the command's.
-    pub(crate) fn of(word: &'a [u8], words: &'w [&'a [u8]]) -> Result<Command<'a, 'w>, Refusal<'a>>
+    pub(crate) fn of(
+        word: &'a [u8],
+        words: &'w [&'a [u8]],
+    ) -> Result<ShellCommand<'a, 'w>, Refusal<'a>>
         ensures { EndsCommand (word.now ∷ map (λ w. w.now) words.now) result }
     {
         match Topic::of(word) {
-            Some(topic) => Command::of_topic(topic, words),
+            Some(topic) => ShellCommand::of_topic(topic, words),
             None => Err(Refusal::NoCommand(word)),
         }
     }

@@ -1,8 +1,8 @@
 //! Many values of inputs at once.
-ghost use Rattle.std.specs.Prelude.{◌≡◌, ◌∷◌, [], ◌-◌, ◌<◌, ◌≤◌, All, IfOk, OnErr, OnOk, length};
+ghost use Rattle.std.specs.Prelude.{◌≡◌, ◌∷◌, [], ◌-◌, ◌<◌, ◌≤◌, All, OnErr, OnOk, length};
 ghost use Rattle.aig_bench.specs.Edit.{set_bit};
-ghost use Rattle.aig_shell.specs.State.{Leads, row_edits, set_edits};
-ghost use Rattle.aig_shell.specs.Written.{RowsLead};
+ghost use Rattle.aig_shell.specs.State.{AreSettable, Leads, row_edits, set_edits};
+ghost use Rattle.aig_shell.specs.Written.{RowsBecome};
 
 use crate::session::run_kept::copy_of;
 use aig_base::{Memory, Tern};
@@ -14,10 +14,7 @@ use std::alloc::Global;
 fn write_value(stimulus: &mut Stimulus, frame: u32, position: u32, value: Tern)
     requires frame { frame < length stimulus.old.rows }
     requires position { position < stimulus.old.width }
-    ensures leads { RowsLead stimulus.old.width stimulus.old.rows (set_bit frame position value ∷ [])
-        stimulus.new.rows }
-    ensures frames { length stimulus.new.rows ≡ length stimulus.old.rows }
-    ensures width { stimulus.new.width ≡ stimulus.old.width }
+    ensures { RowsBecome stimulus.old (set_bit frame position value ∷ []) stimulus.new }
 {
     stimulus.set(frame, position, value);
 }
@@ -27,10 +24,7 @@ fn write_row(stimulus: &mut Stimulus, frame: u32, positions: &[u32], values: &[T
     requires frame { frame < length stimulus.old.rows }
     requires positions { All (λ p. p < stimulus.old.width) positions.now }
     requires size { length values.now ≡ length positions.now }
-    ensures leads { RowsLead stimulus.old.width stimulus.old.rows (row_edits frame positions.now values.now)
-        stimulus.new.rows }
-    ensures frames { length stimulus.new.rows ≡ length stimulus.old.rows }
-    ensures width { stimulus.new.width ≡ stimulus.old.width }
+    ensures { RowsBecome stimulus.old (row_edits frame positions.now values.now) stimulus.new }
 {
     for place in 0..positions.len() {
         write_value(stimulus, frame, positions[place], values[place]);
@@ -43,10 +37,7 @@ fn write_rows(stimulus: &mut Stimulus, first: u32, end: u32, positions: &[u32], 
     requires within { end ≤ length stimulus.old.rows }
     requires positions { All (λ p. p < stimulus.old.width) positions.now }
     requires size { length values.now ≡ length positions.now }
-    ensures leads { RowsLead stimulus.old.width stimulus.old.rows
-        (set_edits first (end - first) positions.now values.now) stimulus.new.rows }
-    ensures frames { length stimulus.new.rows ≡ length stimulus.old.rows }
-    ensures width { stimulus.new.width ≡ stimulus.old.width }
+    ensures { RowsBecome stimulus.old (set_edits first (end - first) positions.now values.now) stimulus.new }
 {
     for frame in first..end {
         write_row(stimulus, frame, positions, values);
@@ -63,10 +54,7 @@ pub(crate) fn set_at_once(
     positions: &[u32],
     values: &[Tern],
 ) -> Result<(), Memory>
-    requires order { first ≤ end }
-    requires within { end ≤ length bench.old.pair.rows }
-    requires positions { All (λ p. p < length bench.old.pair.circuit.inputs) positions.now }
-    requires size { length values.now ≡ length positions.now }
+    requires { AreSettable bench.old.pair first end positions.now values.now }
     ensures done { OnOk result
         (Leads bench.old.pair (set_edits first (end - first) positions.now values.now) bench.new.pair) }
     ensures kept { OnErr result (bench.new ≡ bench.old) }

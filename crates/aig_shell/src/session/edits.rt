@@ -9,8 +9,8 @@ ghost use Rattle.aig_bench.specs.Edit.{add_frame, edited, drop_frame, set_bit, s
 ghost use Rattle.aig_signals.specs.Lookup.{entry_in};
 ghost use Rattle.aig_shell.specs.Edits.{EndsEdit, IsCount, IsValue, has_edited};
 ghost use Rattle.aig_shell.specs.Request as request;
-ghost use Rattle.aig_shell.specs.Session.{IsSession, KeepsRest};
-ghost use Rattle.aig_shell.specs.State.{Leads, drop_edits, row_edits, set_edits, start_edits};
+ghost use Rattle.aig_shell.specs.Session.{KeepsRest};
+ghost use Rattle.aig_shell.specs.State.{AreSettable, Leads, drop_edits, row_edits, set_edits, start_edits};
 
 use crate::refusal::{Refusal, Wanted};
 use crate::session::Session;
@@ -93,10 +93,7 @@ fn set_one_by_one(
     positions: &[u32],
     values: &[Tern],
 )
-    requires order { first ≤ end }
-    requires within { end ≤ length bench.old.pair.rows }
-    requires positions { All (λ p. p < length bench.old.pair.circuit.inputs) positions.now }
-    requires size { length values.now ≡ length positions.now }
+    requires { AreSettable bench.old.pair first end positions.now values.now }
     ensures { Leads bench.old.pair (set_edits first (end - first) positions.now values.now) bench.new.pair }
 {
     for frame in first..end {
@@ -119,10 +116,7 @@ fn set_many(
     positions: &[u32],
     values: &[Tern],
 ) -> bool
-    requires order { first ≤ end }
-    requires within { end ≤ length bench.old.pair.rows }
-    requires positions { All (λ p. p < length bench.old.pair.circuit.inputs) positions.now }
-    requires size { length values.now ≡ length positions.now }
+    requires { AreSettable bench.old.pair first end positions.now values.now }
     ensures done { IsTrue result →
         Leads bench.old.pair (set_edits first (end - first) positions.now values.now) bench.new.pair }
     ensures kept { (IsTrue result → ⊥) → bench.new ≡ bench.old }
@@ -145,10 +139,7 @@ fn set_frames(
     positions: &[u32],
     values: &[Tern],
 )
-    requires order { first ≤ end }
-    requires within { end ≤ length bench.old.pair.rows }
-    requires positions { All (λ p. p < length bench.old.pair.circuit.inputs) positions.now }
-    requires size { length values.now ≡ length positions.now }
+    requires { AreSettable bench.old.pair first end positions.now values.now }
     ensures { Leads bench.old.pair (set_edits first (end - first) positions.now values.now) bench.new.pair }
 {
     if set_many(alloc, bench, first, end, positions, values) {
@@ -202,22 +193,6 @@ fn drop_frames(bench: &mut Bench<PlaneGrid>, count: u32)
     }
 }
 
-/// Appends a frame with this row.
-fn add_frame(bench: &mut Bench<PlaneGrid>, row: &[Tern]) -> Result<(), EditFault>
-    requires width { length row.now ≡ length bench.old.pair.circuit.inputs }
-    requires frames { length bench.old.pair.rows < frame_limit }
-    requires cells { (bench.old.pair.circuit.max_var + 1) * (length bench.old.pair.rows + 1) ≤ cell_limit }
-    ensures done { OnOk result (bench.new.pair ≡ edited bench.old.pair (add_frame row.now)) }
-    ensures leads { OnOk result (Leads bench.old.pair (add_frame row.now ∷ []) bench.new.pair) }
-    ensures kept { OnErr result (bench.new.pair ≡ bench.old.pair) }
-    ensures memory { IfErr result (λ fault. fault ≡ EditFault.Memory) }
-{
-    match bench.add_frame(row) {
-        Ok(_report) => Ok(()),
-        Err(fault) => Err(fault),
-    }
-}
-
 /// Appends frames with this row, or none.
 fn add_frames(bench: &mut Bench<PlaneGrid>, row: &[Tern], count: u32) -> Result<(), EditFault>
     requires width { length row.now ≡ length bench.old.pair.circuit.inputs }
@@ -228,7 +203,7 @@ fn add_frames(bench: &mut Bench<PlaneGrid>, row: &[Tern], count: u32) -> Result<
     ensures memory { IfErr result (λ fault. fault ≡ EditFault.Memory) }
 {
     for added in 0..count {
-        if let Err(fault) = add_frame(bench, row) {
+        if let Err(fault) = bench.add_frame(row) {
             drop_frames(bench, added);
             return Err(fault);
         }
@@ -259,12 +234,9 @@ impl Session {
         name: &'a [u8],
         value: &'a [u8],
     ) -> Result<(), Refusal<'a>>
-        requires session { IsSession self.old }
-        ensures session { IsSession self.new }
         ensures edits { EndsEdit self.old.run.bench.pair (request.set frames.now name.now value.now) result
             self.new.run.bench.pair }
-        ensures rest { KeepsRest self.old self.new }
-        ensures circuit { self.new.has_edited_circuit ≡ self.old.has_edited_circuit }
+        ensures rest { KeepsRest self.old self.old.has_edited_circuit self.new }
     {
         let frames = self.frames(frames)?;
         let positions = self.inputs(name)?;
@@ -284,12 +256,9 @@ impl Session {
 
     /// Gives latches a value at frame 0, in this run alone.
     pub(crate) fn start<'a>(&mut self, name: &'a [u8], value: &'a [u8]) -> Result<(), Refusal<'a>>
-        requires session { IsSession self.old }
-        ensures session { IsSession self.new }
         ensures edits { EndsEdit self.old.run.bench.pair (request.start name.now value.now) result
             self.new.run.bench.pair }
-        ensures rest { KeepsRest self.old self.new }
-        ensures circuit { self.new.has_edited_circuit ≡ self.old.has_edited_circuit }
+        ensures rest { KeepsRest self.old self.old.has_edited_circuit self.new }
     {
         let latches = self.latches(name)?;
         // Its contract says that it is a circuit.
@@ -301,12 +270,9 @@ impl Session {
 
     /// Appends frames with x at each input.
     pub(crate) fn add<'a>(&mut self, count: Option<&'a [u8]>) -> Result<(), Refusal<'a>>
-        requires session { IsSession self.old }
-        ensures session { IsSession self.new }
         ensures edits { EndsEdit self.old.run.bench.pair (request.add (option_map (λ w. w.now) count.entry)) result
             self.new.run.bench.pair }
-        ensures rest { KeepsRest self.old self.new }
-        ensures circuit { self.new.has_edited_circuit ≡ self.old.has_edited_circuit }
+        ensures rest { KeepsRest self.old self.old.has_edited_circuit self.new }
     {
         let count = count_of(count)?;
         if !fits(self.circuit(), self.bench().frames(), count) {
@@ -319,12 +285,9 @@ impl Session {
 
     /// Takes frames off the end.
     pub(crate) fn drop_last<'a>(&mut self, count: Option<&'a [u8]>) -> Result<(), Refusal<'a>>
-        requires session { IsSession self.old }
-        ensures session { IsSession self.new }
         ensures edits { EndsEdit self.old.run.bench.pair (request.drop (option_map (λ w. w.now) count.entry)) result
             self.new.run.bench.pair }
-        ensures rest { KeepsRest self.old self.new }
-        ensures circuit { self.new.has_edited_circuit ≡ self.old.has_edited_circuit }
+        ensures rest { KeepsRest self.old self.old.has_edited_circuit self.new }
     {
         let count = count_of(count)?;
         let frames = self.bench().frames();
@@ -347,7 +310,6 @@ impl Session {
 
     /// The position of the output that a word names.
     fn output<'a>(&self, word: &'a [u8]) -> Result<u32, Refusal<'a>>
-        requires session { IsSession self.now }
         ensures ok { IfOk result (λ position.
             entry_in self.now.run.bench.pair.circuit word.now kinds.Output ≡ Some position) }
         ensures err { IfErr result (λ refusal. refusal ≢ Refusal.Memory →
@@ -374,12 +336,9 @@ impl Session {
         name: &'a [u8],
         literal: &'a [u8],
     ) -> Result<(), Refusal<'a>>
-        requires session { IsSession self.old }
-        ensures session { IsSession self.new }
         ensures edits { EndsEdit self.old.run.bench.pair (request.out name.now literal.now) result
             self.new.run.bench.pair }
-        ensures rest { KeepsRest self.old self.new }
-        ensures circuit { self.new.has_edited_circuit ≡ has_edited self.old.has_edited_circuit result }
+        ensures rest { KeepsRest self.old (has_edited self.old.has_edited_circuit result) self.new }
     {
         let position = self.output(name)?;
         let literal = self.literal(literal)?;

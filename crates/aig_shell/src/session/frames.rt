@@ -12,16 +12,16 @@ pub(crate) const SHOWN: u32 = 64;
 
 /// Frames from the first up to the last, which is one of them.
 #[derive(Clone, Copy, Drop)]
-pub(crate) struct Frames {
+pub(crate) struct FrameRange {
     pub(crate) first: u32,
     pub(crate) last: u32,
+    ghost order: { first ≤ last },
+    ghost fits: { last + 1 < 2 ^ 32 },
 }
 
-impl Frames {
+impl FrameRange {
     /// How many there are.
     pub(crate) fn count(self) -> u32
-        requires order { self.first ≤ self.last }
-        requires fits { self.last + 1 < 2 ^ 32 }
         ensures { result ≡ self.last + 1 - self.first }
     {
         self.last - self.first + 1
@@ -51,13 +51,13 @@ fn dash_at(word: &[u8]) -> Option<usize>
 }
 
 /// The frames that a word names, `A` or `A-B`, of so many.
-pub(crate) fn frames_of(word: &[u8], frames: u32) -> Result<Frames, Refusal<'_>>
+pub(crate) fn frames_of(word: &[u8], frames: u32) -> Result<FrameRange, Refusal<'_>>
     ensures ok { IfOk result (λ found. AreFrames word.now frames found.first found.last) }
     ensures err { IfErr result (λ _. (first last : ℕ) → AreFrames word.now frames first last → ⊥) }
 {
     let Some(at) = dash_at(word) else {
         let frame = frame_of(word, frames)?;
-        return Ok(Frames {
+        return Ok(FrameRange {
             first: frame,
             last: frame,
         });
@@ -67,7 +67,7 @@ pub(crate) fn frames_of(word: &[u8], frames: u32) -> Result<Frames, Refusal<'_>>
     if first > last {
         return Err(Refusal::EmptySpan(word));
     }
-    Ok(Frames { first, last })
+    Ok(FrameRange { first, last })
 }
 
 impl Session {
@@ -80,10 +80,9 @@ impl Session {
     }
 
     /// The frames that a word names.
-    pub(crate) fn frames<'a>(&self, word: &'a [u8]) -> Result<Frames, Refusal<'a>>
+    pub(crate) fn frames<'a>(&self, word: &'a [u8]) -> Result<FrameRange, Refusal<'a>>
         ensures ok { IfOk result (λ found.
             AreFrames word.now (length self.now.run.bench.pair.rows) found.first found.last) }
-        ensures fits { IfOk result (λ found. found.last + 1 < 2 ^ 32) }
         ensures err { IfErr result (λ _. (first last : ℕ) →
             AreFrames word.now (length self.now.run.bench.pair.rows) first last → ⊥) }
     {
@@ -91,13 +90,12 @@ impl Session {
     }
 
     /// All frames.
-    pub(crate) fn all_frames<'a>(&self) -> Result<Frames, Refusal<'a>>
+    pub(crate) fn all_frames<'a>(&self) -> Result<FrameRange, Refusal<'a>>
         ensures ok { IfOk result (λ all. (all.first ≡ 0) × (all.last + 1 ≡ length self.now.run.bench.pair.rows)) }
-        ensures fits { IfOk result (λ all. all.last + 1 < 2 ^ 32) }
         ensures err { IfErr result (λ _. self.now.run.bench.pair.rows ≡ []) }
     {
         match self.bench().frames().checked_sub(1) {
-            Some(last) => Ok(Frames { first: 0, last }),
+            Some(last) => Ok(FrameRange { first: 0, last }),
             None => Err(Refusal::NoFrames),
         }
     }

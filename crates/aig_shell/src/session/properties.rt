@@ -4,7 +4,7 @@ ghost use Rattle.aig_base.specs.Value.{start_of};
 ghost use Rattle.aig_parts.specs.declared.symbols.Kind.TheVariants as kinds;
 ghost use Rattle.aig_signals.specs.Lookup.{entry_in};
 ghost use Rattle.aig_sim.specs.Reached.{IsFirstReached, ReachesNone};
-ghost use Rattle.aig_shell.specs.Session.{IsSession, own_circuit};
+ghost use Rattle.aig_shell.specs.Session.{own_circuit};
 
 use crate::refusal::{Refusal, Wanted};
 use crate::session::Session;
@@ -15,7 +15,6 @@ use aig_sim::{Reached, first_reached, first_states};
 impl Session {
     /// The first frame that reaches a property, and which; of those that are asked for.
     pub(crate) fn reached<'a>(&self, asked: Option<u32>) -> Result<Reached, Refusal<'a>>
-        requires session { IsSession self.now }
         requires property { IfSome asked (λ k. k < length self.now.run.bench.pair.circuit.bad) }
         ensures ok { IfOk result (λ found. IsFirstReached (own_circuit self.now)
             (start_of self.now.run.bench.pair.circuit)
@@ -39,7 +38,6 @@ impl Session {
 
     /// The position of the property that a word names.
     pub(crate) fn property<'a>(&self, word: &'a [u8]) -> Result<u32, Refusal<'a>>
-        requires session { IsSession self.now }
         ensures ok { IfOk result (λ k. entry_in self.now.run.bench.pair.circuit word.now kinds.Bad ≡ Some k) }
         ensures within { IfOk result (λ k. k < length self.now.run.bench.pair.circuit.bad) }
         ensures err { IfErr result (λ refusal. refusal ≢ Refusal.Memory →

@@ -2,12 +2,11 @@
 ghost use Rattle.std.specs.Prelude.{◌≡◌, []};
 ghost use Rattle.aig_shell.specs.Commands.{edit_of, export_of, query_of};
 ghost use Rattle.aig_shell.specs.Ends.{EndsChange, EndsFiles, EndsQuery};
-ghost use Rattle.aig_shell.specs.Session.{IsSession};
 
 use crate::answers::help::push_help;
 use crate::files::keeper::Keep;
 use crate::refusal::Refusal;
-use crate::request::command::{Edit, Export, Query};
+use crate::request::command::{Edit, Export, ShellQuery};
 use crate::session::Session;
 
 impl Session {
@@ -15,29 +14,26 @@ impl Session {
     pub(crate) fn ask<'a>(
         &self,
         text: &mut Vec<u8>,
-        query: Query<'a, '_>,
+        query: ShellQuery<'a, '_>,
     ) -> Result<(), Refusal<'a>>
-        requires session { IsSession self.now }
         requires empty { text.old.items ≡ [] }
         ensures { EndsQuery self.now (query_of query.entry) result text.new.items }
     {
         match query {
-            Query::Show { names, frames } => self.show(text, names, frames),
-            Query::Why { name, frame } => self.why(text, name, frame),
-            Query::Gate { name } => self.gate(text, name),
-            Query::Check => Ok(self.check(text)?),
-            Query::Diff { frames } => self.diff(text, frames),
-            Query::Names { text: part } => self.names(text, part),
-            Query::Help { command } => push_help(text, command),
+            ShellQuery::Show { names, frames } => self.show(text, names, frames),
+            ShellQuery::Why { name, frame } => self.why(text, name, frame),
+            ShellQuery::Gate { name } => self.gate(text, name),
+            ShellQuery::Check => Ok(self.check(text)?),
+            ShellQuery::Diff { frames } => self.diff(text, frames),
+            ShellQuery::Names { text: part } => self.names(text, part),
+            ShellQuery::Help { command } => push_help(text, command),
         }
     }
 
     /// Does an edit.
     pub(crate) fn edit<'a>(&mut self, text: &mut Vec<u8>, edit: Edit<'a>) -> Result<(), Refusal<'a>>
-        requires session { IsSession self.old }
         requires empty { text.old.items ≡ [] }
-        ensures session { IsSession self.new }
-        ensures change { EndsChange self.old (edit_of edit.entry) result text.new.items self.new }
+        ensures { EndsChange self.old (edit_of edit.entry) result text.new.items self.new }
     {
         match edit {
             Edit::Set {
@@ -61,10 +57,8 @@ impl Session {
         text: &mut Vec<u8>,
         export: Export<'a>,
     ) -> Result<(), Refusal<'a>>
-        requires session { IsSession self.old }
         requires empty { text.old.items ≡ [] }
-        ensures session { IsSession self.new }
-        ensures files { EndsFiles self.old (export_of export.entry) result text.new.items (K.calls files.old)
+        ensures { EndsFiles self.old (export_of export.entry) result text.new.items (K.calls files.old)
             (K.calls files.new) self.new }
     {
         match export {

@@ -4,21 +4,21 @@ ghost use Rattle.std.specs.Prelude.{map, ℕ};
 ghost use Rattle.aig_names.specs.Names.{words};
 ghost use Rattle.aig_shell.specs.Commands.{request_of};
 ghost use Rattle.aig_shell.specs.Conversation.{AnswersLine, EndsQuit, EndsRequest, EndsWords, ends_after, no_memory};
-ghost use Rattle.aig_shell.specs.Session.{HasUnsaved, IsSession, IsIn};
+ghost use Rattle.aig_shell.specs.Session.{HasUnsaved, IsIn};
 ghost use Rattle.aig_shell.specs.Answers.{IsUnsaved};
 ghost use Rattle.aig_shell.specs.State.{SessionState};
 
 use crate::files::keeper::Keep;
 use crate::refusal::Refusal;
 use crate::refusal::words::push_refusal;
-use crate::request::command::{Command, after_byte};
+use crate::request::command::{ShellCommand, after_byte};
 use crate::session::Session;
 use aig_base::Memory;
 use aig_prompt::{spaced, words_of};
 
 /// Whether lines go on after one.
 #[derive(Clone, Copy, Drop)]
-pub(crate) enum Next {
+pub(crate) enum AfterLine {
     GoesOn,
     Ends,
 }
@@ -78,53 +78,49 @@ impl Conversation {
     }
 
     /// Answers `quit`: where something is unsaved, the first of two says so.
-    fn quit(&mut self, has_warned: bool) -> Result<Next, Memory>
-        requires session { IsSession self.old.session }
+    fn quit(&mut self, has_warned: bool) -> Result<AfterLine, Memory>
         requires calm { self.old.has_warned ≡ false }
         requires empty { self.old.text.items ≡ [] }
-        ensures quits { EndsQuit self.old has_warned result self.new }
-        ensures session { IsSession self.new.session }
+        ensures { EndsQuit self.old has_warned result self.new }
     {
         if has_warned {
-            return Ok(Next::Ends);
+            return Ok(AfterLine::Ends);
         }
         let told = self.push_unsaved()?;
         if !told {
-            return Ok(Next::Ends);
+            return Ok(AfterLine::Ends);
         }
         self.text.extend_from_slice(b"; quit again to leave\n")?;
         self.has_warned = true;
-        Ok(Next::GoesOn)
+        Ok(AfterLine::GoesOn)
     }
 
     /// Does what a command asks for, and makes its answer.
     fn do_command<'a, K: Keep>(
         &mut self,
         files: &mut K,
-        command: Command<'a, '_>,
+        command: ShellCommand<'a, '_>,
         has_warned: bool,
-    ) -> Result<Next, Refusal<'a>>
-        requires session { IsSession self.old.session }
+    ) -> Result<AfterLine, Refusal<'a>>
         requires calm { self.old.has_warned ≡ false }
         requires empty { self.old.text.items ≡ [] }
-        ensures request { EndsRequest self.old has_warned (request_of command.entry) result (K.calls files.old)
+        ensures { EndsRequest self.old has_warned (request_of command.entry) result (K.calls files.old)
             (K.calls files.new) self.new }
-        ensures session { IsSession self.new.session }
     {
         match command {
-            Command::Query(query) => {
+            ShellCommand::Query(query) => {
                 self.session.ask(&mut self.text, query)?;
-                Ok(Next::GoesOn)
+                Ok(AfterLine::GoesOn)
             }
-            Command::Edit(edit) => {
+            ShellCommand::Edit(edit) => {
                 self.session.edit(&mut self.text, edit)?;
-                Ok(Next::GoesOn)
+                Ok(AfterLine::GoesOn)
             }
-            Command::Export(export) => {
+            ShellCommand::Export(export) => {
                 self.session.export(files, &mut self.text, export)?;
-                Ok(Next::GoesOn)
+                Ok(AfterLine::GoesOn)
             }
-            Command::Quit => Ok(self.quit(has_warned)?),
+            ShellCommand::Quit => Ok(self.quit(has_warned)?),
         }
     }
 
@@ -134,16 +130,14 @@ impl Conversation {
         files: &mut K,
         word: &'a [u8],
         words: &[&'a [u8]],
-    ) -> Result<Next, Refusal<'a>>
-        requires session { IsSession self.old.session }
+    ) -> Result<AfterLine, Refusal<'a>>
         requires empty { self.old.text.items ≡ [] }
-        ensures words { EndsWords self.old (word.now ∷ map (λ w. w.now) words.now) result (K.calls files.old)
+        ensures { EndsWords self.old (word.now ∷ map (λ w. w.now) words.now) result (K.calls files.old)
             (K.calls files.new) self.new }
-        ensures session { IsSession self.new.session }
     {
         let has_warned = self.has_warned;
         self.has_warned = false;
-        let command = Command::of(word, words)?;
+        let command = ShellCommand::of(word, words)?;
         self.do_command(files, command, has_warned)
     }
 
@@ -152,28 +146,28 @@ impl Conversation {
         &mut self,
         files: &mut K,
         words: &[&'a [u8]],
-    ) -> Result<Next, Refusal<'a>>
-        requires session { IsSession self.old.session }
+    ) -> Result<AfterLine, Refusal<'a>>
         requires empty { self.old.text.items ≡ [] }
-        ensures words { EndsWords self.old (map (λ w. w.now) words.now) result (K.calls files.old) (K.calls files.new)
+        ensures { EndsWords self.old (map (λ w. w.now) words.now) result (K.calls files.old) (K.calls files.new)
             self.new }
-        ensures session { IsSession self.new.session }
     {
         let Some((first, rest)) = words.split_first() else {
-            return Ok(Next::GoesOn);
+            return Ok(AfterLine::GoesOn);
         };
         match after_byte(*first, b'#') {
-            Some(_) => Ok(Next::GoesOn),
+            Some(_) => Ok(AfterLine::GoesOn),
             None => self.do_request(files, *first, rest),
         }
     }
 
     /// Does what a line asks for, and makes its answer.
-    fn do_line<'a, K: Keep>(&mut self, files: &mut K, line: &'a [u8]) -> Result<Next, Refusal<'a>>
-        requires session { IsSession self.old.session }
+    fn do_line<'a, K: Keep>(
+        &mut self,
+        files: &mut K,
+        line: &'a [u8],
+    ) -> Result<AfterLine, Refusal<'a>>
         requires empty { self.old.text.items ≡ [] }
-        ensures words { EndsWords self.old (words line.now) result (K.calls files.old) (K.calls files.new) self.new }
-        ensures session { IsSession self.new.session }
+        ensures { EndsWords self.old (words line.now) result (K.calls files.old) (K.calls files.new) self.new }
     {
         let words = words_of(self.session.alloc, line)?;
         self.do_words(files, words.as_slice())
@@ -184,14 +178,12 @@ impl Conversation {
         &mut self,
         files: &mut K,
         line: &[u8],
-    ) -> Result<Next, Memory>
-        requires session { IsSession self.old.session }
+    ) -> Result<AfterLine, Memory>
         ensures answered { IfOk result (λ next. AnswersLine self.old line.now self.new.text.items (K.calls files.old)
             (K.calls files.new) (ends_after next) self.new) }
         ensures memory { OnErr result (AnswersLine self.old line.now no_memory (K.calls files.old) (K.calls files.new)
             false
             self.new) }
-        ensures session { IsSession self.new.session }
     {
         self.text.clear();
         let line = spaced(self.session.alloc, line)?;
@@ -200,7 +192,7 @@ impl Conversation {
             Err(refusal) => {
                 self.text.clear();
                 push_refusal(&mut self.text, &self.session, refusal)?;
-                Ok(Next::GoesOn)
+                Ok(AfterLine::GoesOn)
             }
         }
     }

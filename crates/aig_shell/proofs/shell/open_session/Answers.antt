@@ -16,7 +16,7 @@ returns-clause-session c =
     let run = read_run c.in_ok-run.run' in
     let raw = c.in_ok-circuit.circuit in
     opens c.args.file.now (given_text c.args.given) raw run c.in_ok-circuit.ensures.circuit c.in_ok-run.ensures.run c.new.result
-    (begins_session raw run c.new.result c.new.ensures.session c.new.ensures.begins c.new.ensures.state)
+    (begins_session raw run c.new.result c.new.ensures.begins c.new.ensures.state)
 
 pub returns-clause-refused : goal.returns-clause-refused
 returns-clause-refused c =

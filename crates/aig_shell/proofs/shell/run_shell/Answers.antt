@@ -1,20 +1,10 @@
-use Rattle.std.proofs.Common.{inl, inr, refl, sym, subst}
+use Rattle.std.proofs.Common.{inl, inr, refl}
 use Rattle.aig_bytes.specs.Flow.{flow}
 use Rattle.aig_command.proofs.Files.{answered}
 use Rattle.aig_command.specs.Given.{given_text}
 use Rattle.aig_shell.specs.Conversation.{Ended, BreaksDown, EndsShell}
 use Rattle.aig_shell.proofs.lines.Shells.{passes_of, holds_session, shell_refused}
-use Rattle.aig_shell.specs.declared.talk.conversation.Conversation.{Conversation}
-use Rattle.aig_shell.specs.Session.{IsSession}
 use Rattle.aig_shell.proofs.shell.run_shell.Goals as goal
-
-pub run-requires : goal.run-requires
-run-requires g c =
-    let (raw, is, (run, begins, sound)) = c.in_ok-session.ensures.session in
-    record {
-      session = subst (λ (x : Conversation). IsSession x.session) (sym c.new-talker.ensures.conversation)
-          (subst IsSession (sym c.new-conversation.ensures.session) sound.0);
-    }
 
 pub returns-in_err-session : goal.returns-in_err-session
 returns-in_err-session g c =

@@ -2,7 +2,7 @@ use Rattle.std.proofs.Common.{length, ap, refl, ◌∙◌}
 use Rattle.std.specs.Prelude.{option_map}
 use Rattle.aig_bench.specs.BenchState.{BenchState}
 use Rattle.aig_shell.proofs.editing.Impossible.{no_add, no_room}
-use Rattle.aig_shell.proofs.editing.Sessions.{session_kept}
+use Rattle.aig_shell.proofs.editing.Sessions.{fits_either}
 use Rattle.aig_shell.proofs.session.Session.add.Goals as goal
 
 pub returns-then-not-fits-clause-edits : goal.returns-then-not-fits-clause-edits
@@ -13,5 +13,7 @@ returns-then-not-fits-clause-edits c = (
   refl,
 )
 
-pub returns-clause-session : goal.returns-clause-session
-returns-clause-session c = session_kept _ _ _ c.requires.session (record { latches = refl; signals = refl; first = refl; kept = refl; property = refl }) c.in_ok-add_frames.ensures.done
+pub invariant_of-self : goal.invariant_of-self
+invariant_of-self c =
+    let fits = fits_either c.args.self.now _ c.add_frames.result _ c.add_frames.ensures.done c.add_frames.ensures.kept in
+    record { has_signals = fits.signals; has_latches = fits.latches; has_property = fits.property }

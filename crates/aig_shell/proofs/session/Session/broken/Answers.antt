@@ -4,8 +4,8 @@ use Rattle.aig_shell.specs.Standing.{HoldBefore, HoldBelow, IsBroken}
 use Rattle.aig_shell.proofs.reached.Reaching.{hold_more}
 use Rattle.aig_shell.proofs.session.Session.broken.Goals as goal
 
-pub returns-in-Some-clause-some : goal.returns-in-Some-clause-some
-returns-in-Some-clause-some c =
+pub returns-in-Some : goal.returns-in-Some
+returns-in-Some c =
     let p = c.args.self.now.run.bench.pair in
     let b = c.in-Some.broken in
     let size = c.frames-frame-end.ensures ∙ ap (λ (b : BenchState). length b.pair.rows) c.bench-bench.ensures in
@@ -21,7 +21,7 @@ pub loop-frame-preserved : goal.loop-frame-preserved
 loop-frame-preserved c =
     hold_more c.args.self.now.run.bench.pair c.loop-frame.frame c.loop-frame.invariant c.in_default.ensures.none
 
-pub returns-clause-none : goal.returns-clause-none
-returns-clause-none c =
+pub returns : goal.returns
+returns c =
     let size = c.frames-frame-end.ensures ∙ ap (λ (b : BenchState). length b.pair.rows) c.bench-bench.ensures in
     λ u lt. c.loop-frame.invariant u (omega (arith, lt, size, c.loop-frame-test.false))

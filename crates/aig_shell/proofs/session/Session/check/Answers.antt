@@ -4,7 +4,7 @@ use Rattle.aig_base.specs.Circuit.{IsCircuit}
 use Rattle.aig_shell.specs.Answers.{standings_text}
 use Rattle.aig_shell.specs.declared.answers.check.Standing.{Standing}
 use Rattle.aig_shell.specs.Session.{own_circuit}
-use Rattle.aig_shell.proofs.reached.Checking.{breaks, checked, finished, standings_size, starts}
+use Rattle.aig_shell.proofs.reached.Checking.{checked, finished, standings_size, starts}
 use Rattle.aig_shell.proofs.session.Session.check.Goals as goal
 
 pub push_lines-requires : goal.push_lines-requires
@@ -29,7 +29,7 @@ returns c = λ s is.
     let raw = self.run.bench.pair.circuit in
     let xs = c.in_ok-standings.standings.items in
     checked self s c.push_reasons.new.text.items xs c.broken-broken.result c.other_start.result is c.in_ok-standings.ensures
-    (breaks self.run.bench.pair c.broken-broken.result c.broken-broken.ensures.some c.broken-broken.ensures.none)
+    c.broken-broken.ensures
     (starts self c.other_start.result c.other_start.ensures.some c.other_start.ensures.none)
     (finished raw c.circuit-2.result.now _ c.push_lines.new.text.items c.push_lines-2.new.text.items c.push_none.new.text.items
     c.push_reasons.new.text.items (standings_text raw false 0 xs) (standings_text raw true 0 xs) c.broken-broken.result

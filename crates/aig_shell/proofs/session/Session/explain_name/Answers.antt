@@ -1,6 +1,8 @@
 use Rattle.std.proofs.Common.{ℕ, List, subst, ◌∙◌}
 use Rattle.std.specs.Prelude.{option_map}
 use Rattle.aig_base.specs.Circuit.{IsCircuit}
+use Rattle.aig_base.proofs.circuits.Gates.{defined_in_range}
+use Rattle.aig_signals.proofs.Defined.{meant_known}
 use Rattle.aig_why.specs.Why.{run_of}
 use Rattle.aig_shell.specs.Explained.{Explains}
 use Rattle.aig_shell.specs.Request.{why}
@@ -36,3 +38,14 @@ returns c = λ s h.
     (subst (λ (name : List ℕ). Explains (own_circuit c.args.self.now) (run_of c.args.self.now.run.bench.pair) name
     c.in_ok-literals.literals c.in_ok-frame.frame c.push_explanation.new.text.items) (c.from_vec.ensures ∙ c.in_ok-from_slice.ensures.items)
     c.in_ok-push_explanation.ensures)
+
+pub push_explanation-requires-clause-defined : goal.push_explanation-requires-clause-defined
+push_explanation-requires-clause-defined c =
+    meant_known c.args.self.now.run.bench.pair.circuit (subst IsCircuit c.circuit.ensures c.facts.ensures) c.args.name.now
+    c.in_ok-literals.literals c.in_ok-literals.ensures.ok
+
+pub push_explanation-requires-clause-range : goal.push_explanation-requires-clause-range
+push_explanation-requires-clause-range c =
+    let circuit : IsCircuit c.args.self.now.run.bench.pair.circuit = subst IsCircuit c.circuit.ensures c.facts.ensures in
+    let defined = meant_known c.args.self.now.run.bench.pair.circuit circuit c.args.name.now c.in_ok-literals.literals c.in_ok-literals.ensures.ok in
+    λ k d lt. defined_in_range c.args.self.now.run.bench.pair.circuit circuit.sound _ (defined k d lt)

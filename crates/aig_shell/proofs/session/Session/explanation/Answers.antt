@@ -5,7 +5,7 @@ use Rattle.aig_shell.proofs.saved.Saved.{own_size}
 use Rattle.aig_shell.proofs.session.Session.explanation.Goals as goal
 
 pub text_of-requires-clause-size : goal.text_of-requires-clause-size
-text_of-requires-clause-size c = own_size c.args.self.now c.requires.session
+text_of-requires-clause-size c = own_size c.args.self.now
 
 pub text_of-requires-clause-none : goal.text_of-requires-clause-none
 text_of-requires-clause-none c =
@@ -15,12 +15,12 @@ text_of-requires-clause-none c =
 pub text_of-requires-clause-of : goal.text_of-requires-clause-of
 text_of-requires-clause-of c = (
   own_circuit c.args.self.now,
-  names_own c.args.self.now c.requires.session c.in_ok-naming.naming (rw c.circuit.ensures at c.in_ok-naming.ensures.inputs)
+  names_own c.args.self.now c.in_ok-naming.naming (rw c.circuit.ensures at c.in_ok-naming.ensures.inputs)
       (rw c.circuit.ensures at c.in_ok-naming.ensures.latches),
 )
 
 pub returns : goal.returns
 returns c =
     c.text_of.ensures (own_circuit c.args.self.now)
-    (names_own c.args.self.now c.requires.session c.in_ok-naming.naming (rw c.circuit.ensures at c.in_ok-naming.ensures.inputs)
+    (names_own c.args.self.now c.in_ok-naming.naming (rw c.circuit.ensures at c.in_ok-naming.ensures.inputs)
     (rw c.circuit.ensures at c.in_ok-naming.ensures.latches)) refl

@@ -10,7 +10,7 @@ pub signal_literals-requires-clause-order : goal.signal_literals-requires-clause
 signal_literals-requires-clause-order c =
     let there =
     signal_within c.args.self.now.run.bench.pair.circuit c.args.self.now.signals.items c.as_slice-signal-items.result.now
-    c.loop-signal.signal-index c.signal-item.result c.as_slice-signal-items.ensures.value c.requires.signals c.loop-signal-test.true
+    c.loop-signal.signal-index c.signal-item.result c.as_slice-signal-items.ensures.value c.args.self.now.has_signals c.loop-signal-test.true
     c.signal-item.is in
     omega (arith, there.0)
 
@@ -18,7 +18,7 @@ pub signal_literals-requires-clause-within : goal.signal_literals-requires-claus
 signal_literals-requires-clause-within c =
     let there =
     signal_within c.args.self.now.run.bench.pair.circuit c.args.self.now.signals.items c.as_slice-signal-items.result.now
-    c.loop-signal.signal-index c.signal-item.result c.as_slice-signal-items.ensures.value c.requires.signals c.loop-signal-test.true
+    c.loop-signal.signal-index c.signal-item.result c.as_slice-signal-items.ensures.value c.args.self.now.has_signals c.loop-signal-test.true
     c.signal-item.is in
     there.1
 
@@ -56,12 +56,12 @@ pub returns-clause-differs : goal.returns-clause-differs
 returns-clause-differs c = λ p h.
     let now = c.args.self.now.run.bench.pair in
     least_some now p c.args.first c.args.end c.as_slice-signal-items.result.now c.loop-signal.signal-index c.loop-signal.least
-    (signals_of now.circuit) (c.as_slice-signal-items.ensures.value ∙ c.requires.signals) (omega (arith, c.loop-signal-test.false))
+    (signals_of now.circuit) (c.as_slice-signal-items.ensures.value ∙ c.args.self.now.has_signals) (omega (arith, c.loop-signal-test.false))
     (c.loop-signal.invariant.least p h)
 
 pub returns-clause-same : goal.returns-clause-same
 returns-clause-same c = λ p h.
     let now = c.args.self.now.run.bench.pair in
     least_none now p c.args.first c.args.end c.as_slice-signal-items.result.now c.loop-signal.signal-index c.loop-signal.least
-    (signals_of now.circuit) (c.as_slice-signal-items.ensures.value ∙ c.requires.signals) (omega (arith, c.loop-signal-test.false))
+    (signals_of now.circuit) (c.as_slice-signal-items.ensures.value ∙ c.args.self.now.has_signals) (omega (arith, c.loop-signal-test.false))
     (c.loop-signal.invariant.least p h)

@@ -1,15 +1,8 @@
-use Rattle.std.proofs.Common.{All, subst}
-use Rattle.aig_parts.specs.Literal.{variable}
+use Rattle.std.proofs.Common.{subst}
 use Rattle.aig_parts.specs.declared.raw.Raw.{Raw}
-use Rattle.aig_base.specs.Sections.{IsDefined}
 use Rattle.aig_signals.specs.Lookup.{Unknown}
 use Rattle.aig_shell.proofs.session.Session.literals_among.Goals as goal
 
 pub returns-in-None-clause-err : goal.returns-in-None-clause-err
 returns-in-None-clause-err c = λ other.
     subst (λ (raw : Raw). Unknown raw c.args.word.now) c.requires.circuit (rw c.in-None.is at c.in_ok-found.ensures.unknown)
-
-pub returns-in-Some-clause-defined : goal.returns-in-Some-clause-defined
-returns-in-Some-clause-defined c =
-    subst (λ (raw : Raw). All (λ l. IsDefined raw (variable l)) c.in-Some.literals) c.requires.circuit
-    (rw c.in-Some.is at c.in_ok-found.ensures.defined)

@@ -1,24 +1,21 @@
-use Rattle.std.proofs.Common.{ℕ, ◌<◌, Err, List, All, IfSome, length, refl, sym, subst, ◌∙◌}
-use Rattle.std.specs.List.{AllZip}
+use Rattle.std.proofs.Common.{ℕ, ◌<◌, Err, List, IfSome, length, refl, sym, subst, ◌∙◌}
 use Rattle.aig_bytes.proofs.Results.{known_err}
 use Rattle.aig_parts.specs.declared.latch.Latch.{Latch}
-use Rattle.aig_base.specs.Sound.{IsReset}
-use Rattle.aig_base.specs.Resets.{IsSameLatch}
+use Rattle.aig_shell.specs.Latches.{AreAlike}
 use Rattle.aig_shell.proofs.editing.Kept.{alike_signals}
 use Rattle.aig_command.specs.declared.run_fault.RunFault.TheVariants as run_faults
 use Rattle.aig_shell.specs.Conversation.{RefusesRows}
 use Rattle.aig_shell.proofs.lines.Shells.{rows_refused}
 use Rattle.aig_shell.proofs.session.Session.new.Goals as goal
 
-pub returns-clause-session : goal.returns-clause-session
-returns-clause-session c =
+pub invariant_of-result : goal.invariant_of-result
+invariant_of-result c =
     let circuit = c.in_ok-run.run'.bench.pair.circuit in
     record {
-      signals = c.in_ok-signals.ensures ∙ sym (alike_signals c.args.circuit circuit c.in_ok-run.ensures.resets);
-      latches = subst (λ (own : List Latch). AllZip IsSameLatch own circuit.latches) (sym c.in_ok-run.ensures.latches)
+      has_signals = c.in_ok-signals.ensures ∙ sym (alike_signals c.args.circuit circuit c.in_ok-run.ensures.resets);
+      has_latches = subst (λ (own : List Latch). AreAlike own circuit.latches) (sym c.in_ok-run.ensures.latches)
           c.in_ok-run.ensures.resets.latches;
-      resets = subst (All IsReset) (sym c.in_ok-run.ensures.latches) c.facts.ensures.sound.resets;
-      property = subst (λ (ls : List ℕ). IfSome c.args.given.property (λ k. k < length ls)) (sym c.in_ok-run.ensures.resets.bad)
+      has_property = subst (λ (ls : List ℕ). IfSome c.args.given.property (λ k. k < length ls)) (sym c.in_ok-run.ensures.resets.bad)
           c.requires.property;
     }
 

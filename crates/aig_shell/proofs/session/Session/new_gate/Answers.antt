@@ -5,7 +5,7 @@ use Rattle.aig_shell.specs.Request.{append}
 use Rattle.aig_shell.proofs.editing.Impossible.{no_side0, no_side1, no_append, append_done}
 use Rattle.aig_shell.proofs.editing.Leading.{leads_one}
 use Rattle.aig_shell.proofs.editing.Results.{ends_err, ends_fault}
-use Rattle.aig_shell.proofs.editing.Sessions.{session_kept}
+use Rattle.aig_shell.proofs.editing.Sessions.{fits_same, still_fits}
 use Rattle.aig_shell.proofs.session.Session.new_gate.Goals as goal
 
 pub returns-in_err-side0-clause-edits : goal.returns-in_err-side0-clause-edits
@@ -26,8 +26,15 @@ returns-in_err-append_gate-clause-edits c =
     c.args.side0.now c.args.side1.now c.in_ok-side0.side0 c.in_ok-side1.side1 c.in_err-append_gate.field-0.0
     c.in_ok-side0.ensures.ok c.in_ok-side1.ensures.ok c.in_err-append_gate.ensures.edits) c.in_err-append_gate.ensures.edits.1
 
-pub returns-clause-session : goal.returns-clause-session
-returns-clause-session c = session_kept _ _ _ c.requires.session (record { latches = refl; signals = refl; first = refl; kept = refl; property = refl }) (leads_one _ _ (append_gate c.in_ok-side0.side0 c.in_ok-side1.side1) c.in_ok-append_gate.ensures.edits.0 c.in_ok-append_gate.ensures.edits.1)
+pub invariant_of-self : goal.invariant_of-self
+invariant_of-self c =
+    let fits = fits_same c.args.self.now _ c.in_err-append_gate.ensures.edits.1 in
+    record { has_signals = fits.signals; has_latches = fits.latches; has_property = fits.property }
+
+pub invariant_of-self-2 : goal.invariant_of-self-2
+invariant_of-self-2 c =
+    let fits = still_fits c.args.self.now _ _ (leads_one _ _ (append_gate c.in_ok-side0.side0 c.in_ok-side1.side1) c.in_ok-append_gate.ensures.edits.0 c.in_ok-append_gate.ensures.edits.1) in
+    record { has_signals = fits.signals; has_latches = fits.latches; has_property = fits.property }
 
 pub returns-clause-edits : goal.returns-clause-edits
 returns-clause-edits c =

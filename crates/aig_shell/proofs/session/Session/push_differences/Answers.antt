@@ -13,7 +13,7 @@ pub signal_literals-requires-clause-order : goal.signal_literals-requires-clause
 signal_literals-requires-clause-order c =
     let there =
     signal_within c.args.self.now.run.bench.pair.circuit c.args.self.now.signals.items c.as_slice-signal-items.result.now
-    c.loop-signal.signal-index c.signal-item.result c.as_slice-signal-items.ensures.value c.requires.session.signals c.loop-signal-test.true
+    c.loop-signal.signal-index c.signal-item.result c.as_slice-signal-items.ensures.value c.args.self.now.has_signals c.loop-signal-test.true
     c.signal-item.is in
     omega (arith, there.0)
 
@@ -21,7 +21,7 @@ pub signal_literals-requires-clause-within : goal.signal_literals-requires-claus
 signal_literals-requires-clause-within c =
     let there =
     signal_within c.args.self.now.run.bench.pair.circuit c.args.self.now.signals.items c.as_slice-signal-items.result.now
-    c.loop-signal.signal-index c.signal-item.result c.as_slice-signal-items.ensures.value c.requires.session.signals c.loop-signal-test.true
+    c.loop-signal.signal-index c.signal-item.result c.as_slice-signal-items.ensures.value c.args.self.now.has_signals c.loop-signal-test.true
     c.signal-item.is in
     there.1
 
@@ -76,7 +76,7 @@ returns-then-is_empty c = λ p h.
       (
         map row_of rows,
         rows_end c.args.self.now.run.bench.pair p c.args.first c.args.end c.as_slice-signal-items.result.now c.loop-signal.signal-index rows
-            (omega (arith, c.loop-signal-test.false)) (c.as_slice-signal-items.ensures.value ∙ c.requires.session.signals)
+            (omega (arith, c.loop-signal-test.false)) (c.as_slice-signal-items.ensures.value ∙ c.args.self.now.has_signals)
             (c.loop-signal.invariant.rows p h),
         inl (no_row rows c.is_empty.result (c.is_empty.ensures ∙ ap (λ n. n == 0) c.loop-signal.table.rows.ok.0) c.if-is_empty.true, refl),
       ),
@@ -90,5 +90,5 @@ returns c = λ p h.
     c.loop-signal.table.frames (map row_of rows) c.push_text.result c.args.text.now.items c.push_text.new.text.items
     c.loop-signal.invariant.first c.loop-signal.invariant.frames
     (rows_end c.args.self.now.run.bench.pair p c.args.first c.args.end c.as_slice-signal-items.result.now c.loop-signal.signal-index rows
-    (omega (arith, c.loop-signal-test.false)) (c.as_slice-signal-items.ensures.value ∙ c.requires.session.signals)
+    (omega (arith, c.loop-signal-test.false)) (c.as_slice-signal-items.ensures.value ∙ c.args.self.now.has_signals)
     (c.loop-signal.invariant.rows p h)) (some_row rows c.is_empty.result (c.is_empty.ensures ∙ ap (λ n. n == 0) c.loop-signal.table.rows.ok.0) c.if-is_empty.false) c.push_text.ensures

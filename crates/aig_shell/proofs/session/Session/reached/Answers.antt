@@ -4,7 +4,7 @@ use Rattle.aig_bench.specs.BenchState.{BenchState}
 use Rattle.aig_sim.proofs.ReachedLemmas.{reaches_none}
 use Rattle.aig_shell.specs.Session.{own_circuit}
 use Rattle.aig_shell.proofs.reached.Reaching.{found_first, found_none}
-use Rattle.aig_shell.proofs.reached.Starting.{own_resets}
+use Rattle.aig_shell.proofs.saved.Saved.{own_resets}
 use Rattle.aig_shell.proofs.session.Session.reached.Goals as goal
 
 pub returns-in-Some-clause-err : goal.returns-in-Some-clause-err
@@ -17,7 +17,7 @@ pub returns-in-Some-2-clause-ok : goal.returns-in-Some-2-clause-ok
 returns-in-Some-2-clause-ok c =
     let s = c.args.self.now in
     let rows = c.stimulus-rows.ensures.rows ∙ ap (λ (b : BenchState). b.pair.rows) c.bench-bench.ensures in
-    found_first (own_circuit s) s.run.bench.pair (own_resets s c.requires.session) c.args.asked c.circuit-circuit.result.now
+    found_first (own_circuit s) s.run.bench.pair (own_resets s) c.args.asked c.circuit-circuit.result.now
     c.as_slice.result.now c.stimulus-rows.result.now.rows c.circuit-circuit.ensures (c.as_slice.ensures.value ∙ c.in_ok-start.ensures) rows
     c.in_default.ensures.none c.in-Some-2.reached.frame c.in-Some-2.reached.property (rw c.in-Some-2.is at c.in_ok-reached.ensures.some)
 
@@ -25,6 +25,6 @@ pub returns-clause-err : goal.returns-clause-err
 returns-clause-err c = λ other.
     let s = c.args.self.now in
     let rows = c.stimulus-rows.ensures.rows ∙ ap (λ (b : BenchState). b.pair.rows) c.bench-bench.ensures in
-    found_none (own_circuit s) s.run.bench.pair (own_resets s c.requires.session) c.args.asked c.circuit-circuit.result.now
+    found_none (own_circuit s) s.run.bench.pair (own_resets s) c.args.asked c.circuit-circuit.result.now
     c.as_slice.result.now c.stimulus-rows.result.now.rows c.circuit-circuit.ensures (c.as_slice.ensures.value ∙ c.in_ok-start.ensures) rows
     (rw c.in-None.is at c.in_ok-reached.ensures.none)

@@ -4,4 +4,4 @@ use Rattle.aig_shell.proofs.session.Session.row.Given as goal
 
 abbrev pub invariant-loop-frame : goal.invariant-loop-frame
 invariant-loop-frame l =
-    AreCells l.self.run.bench.pair l.literals l.first (l.frame - l.first) l.cells
+    AreCells l.self.run.bench.pair l.literals l.fn.frames.first (l.frame - l.fn.frames.first) l.cells

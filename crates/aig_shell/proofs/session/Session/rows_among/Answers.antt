@@ -1,4 +1,4 @@
-use Rattle.std.proofs.Common.{ℕ, List, Bor, ◌-◌}
+use Rattle.std.proofs.Common.{ℕ, List, Bor, ◌+◌, ◌-◌}
 use Rattle.aig_prompt.specs.Table.{row_of}
 use Rattle.aig_shell.specs.Tables.{IsRowOf}
 use Rattle.aig_shell.proofs.tables.Shown.{handed_on, no_rows, rows_more}
@@ -12,6 +12,6 @@ returns-in_err-row-clause-err c =
 
 pub loop-name-preserved : goal.loop-name-preserved
 loop-name-preserved c =
-    rows_more (IsRowOf c.args.self.now.run.bench.pair c.args.first (c.args.end - c.args.first)) (λ (w : Bor (List ℕ)). w.now) row_of
+    rows_more (IsRowOf c.args.self.now.run.bench.pair c.args.frames.first (c.args.frames.last + 1 - c.args.frames.first)) (λ (w : Bor (List ℕ)). w.now) row_of
     c.args.names.now c.loop-name.name-index _ c.loop-name.rows.items c.push.new.self.items c.in_ok-row.row c.loop-name-test.true
     c.loop-name.invariant c.in_ok-row.ensures.ok c.in_ok-push.ensures.items

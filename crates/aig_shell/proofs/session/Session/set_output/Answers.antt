@@ -5,7 +5,7 @@ use Rattle.aig_shell.specs.Request.{out}
 use Rattle.aig_shell.proofs.editing.Impossible.{no_literal, no_out, out_done}
 use Rattle.aig_shell.proofs.editing.Leading.{leads_one}
 use Rattle.aig_shell.proofs.editing.Results.{ends_err, ends_fault}
-use Rattle.aig_shell.proofs.editing.Sessions.{session_kept}
+use Rattle.aig_shell.proofs.editing.Sessions.{still_fits}
 use Rattle.aig_shell.proofs.session.Session.set_output.Goals as goal
 
 pub returns-in_err-literal-clause-edits : goal.returns-in_err-literal-clause-edits
@@ -22,11 +22,10 @@ returns-in_err-set_output-clause-edits c =
     c.args.name.now c.args.literal.now c.in_ok-position.position c.in_ok-literal.literal c.in_err-set_output.field-0.0
     c.in_ok-position.ensures.ok c.in_ok-literal.ensures.ok c.in_err-set_output.ensures.edits) c.in_err-set_output.ensures.edits.1
 
-pub returns-clause-session : goal.returns-clause-session
-returns-clause-session c =
-    session_kept _ _ _ c.requires.session (record { latches = refl; signals = refl; first = refl; kept = refl; property = refl })
-    (leads_one _ _ (edit.set_output c.in_ok-position.position c.in_ok-literal.literal) c.in_ok-set_output.ensures.edits.0
-    c.in_ok-set_output.ensures.edits.1)
+pub invariant_of-self-2 : goal.invariant_of-self-2
+invariant_of-self-2 c =
+    let fits = still_fits c.args.self.now _ _ (leads_one _ _ (edit.set_output c.in_ok-position.position c.in_ok-literal.literal) c.in_ok-set_output.ensures.edits.0 c.in_ok-set_output.ensures.edits.1) in
+    record { has_signals = fits.signals; has_latches = fits.latches; has_property = fits.property }
 
 pub returns-clause-edits : goal.returns-clause-edits
 returns-clause-edits c =

@@ -7,7 +7,7 @@ use Rattle.aig_values.proofs.PropertyLines.{bad_defined}
 use Rattle.aig_values.specs.InputRows.{HaveWidth}
 use Rattle.aig_shell.specs.Session.{own_circuit}
 use Rattle.aig_shell.proofs.reached.Reaching.{first_reached, none_reached}
-use Rattle.aig_shell.proofs.reached.Starting.{own_resets}
+use Rattle.aig_shell.proofs.saved.Saved.{own_resets}
 use Rattle.aig_shell.proofs.session.Session.standing.Goals as goal
 
 pub first_at-requires : goal.first_at-requires
@@ -28,7 +28,7 @@ returns-then-is_run_to c =
     let circuit = subst (λ (b : BenchState). IsCircuit b.pair.circuit) c.bench-bench.ensures c.width.ensures.circuit in
     let fits = subst (λ (b : BenchState). HaveWidth (length b.pair.circuit.inputs) b.pair.rows) c.bench-bench.ensures c.width.ensures.rows in
     let (right, held) = c.is_run_to.ensures.yes c.if-is_run_to.true in
-    first_reached (own_circuit s) s.run.bench.pair (own_resets s c.requires.session) circuit fits c.in-Some.frame c.args.position
+    first_reached (own_circuit s) s.run.bench.pair (own_resets s) circuit fits c.in-Some.frame c.args.position
     c.args.literal c.requires.literal c.in-Some.ensures.some right held
 
 pub returns-else-is_run_to : goal.returns-else-is_run_to
@@ -40,7 +40,7 @@ returns-else-is_run_to c =
       elim (c.is_run_to.ensures.no c.if-is_run_to.false) [
         | inl (k, wrong) ↦ reaches_none (own_circuit s) (start_of s.run.bench.pair.circuit) s.run.bench.pair.rows (Some c.args.position) k wrong
         | inr (t, k, w, le, broken) ↦
-            none_reached (own_circuit s) s.run.bench.pair (own_resets s c.requires.session) circuit fits c.in-Some.frame c.args.position
+            none_reached (own_circuit s) s.run.bench.pair (own_resets s) circuit fits c.in-Some.frame c.args.position
             c.args.literal c.requires.literal c.in-Some.ensures.some t k w le broken
       ],
     )

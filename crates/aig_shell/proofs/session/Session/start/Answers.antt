@@ -5,7 +5,7 @@ use Rattle.aig_shell.specs.Edits.{IsValue}
 use Rattle.aig_shell.proofs.editing.Impossible.{small_variables}
 use Rattle.aig_shell.specs.Request.{start}
 use Rattle.aig_shell.proofs.editing.Results.{ends_err}
-use Rattle.aig_shell.proofs.editing.Sessions.{session_kept, no_latches, no_start}
+use Rattle.aig_shell.proofs.editing.Sessions.{still_fits, no_latches, no_start}
 use Rattle.aig_shell.proofs.session.Session.start.Goals as goal
 
 pub returns-in_err-latches-clause-edits : goal.returns-in_err-latches-clause-edits
@@ -25,5 +25,7 @@ pub start_latches-requires-clause-latches : goal.start_latches-requires-clause-l
 start_latches-requires-clause-latches c =
     subst (All (IsLatchLiteral c.args.self.now.run.bench.pair.circuit)) (sym c.as_slice.ensures) c.in_ok-latches.ensures.ok.1
 
-pub returns-clause-session : goal.returns-clause-session
-returns-clause-session c = session_kept _ _ _ c.requires.session (record { latches = refl; signals = refl; first = refl; kept = refl; property = refl }) c.start_latches.ensures
+pub invariant_of-self : goal.invariant_of-self
+invariant_of-self c =
+    let fits = still_fits c.args.self.now _ _ c.start_latches.ensures in
+    record { has_signals = fits.signals; has_latches = fits.latches; has_property = fits.property }

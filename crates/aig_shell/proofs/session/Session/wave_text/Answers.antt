@@ -11,7 +11,7 @@ pub returns-in-Ok : goal.returns-in-Ok
 returns-in-Ok c =
     let raw = c.args.self.now.run.bench.pair.circuit in
     let rows = c.args.self.now.run.bench.pair.rows in
-    dump_with raw (own_circuit c.args.self.now) (own_resets c.args.self.now c.requires) (start_of raw) rows c.into_bytes.result.items
+    dump_with raw (own_circuit c.args.self.now) (own_resets c.args.self.now) (start_of raw) rows c.into_bytes.result.items
     (subst (λ (text : Vec ℕ). IsDump raw (start_of raw) rows text.items) (sym c.into_bytes.ensures)
     (dumped raw rows c.in_ok-rows.rows.items c.dump.new.reader c.dump.new.out.bytes.items _ _ _ c.in-Ok._frames
     (rw c.circuit.ensures at c.in-Ok.ensures.dumped) c.in_ok-rows.ensures (ap Some (c.new-reader.ensures ∙ c.as_slice.ensures.value)) refl

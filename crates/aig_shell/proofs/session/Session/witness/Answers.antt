@@ -6,23 +6,23 @@ use Rattle.aig_shell.proofs.saved.Saved.{files_denied, files_kept, files_refused
 use Rattle.aig_shell.proofs.saved.Saved.{witness_saved}
 use Rattle.aig_shell.proofs.session.Session.witness.Goals as goal
 
-pub returns-in_err-asked-clause-files : goal.returns-in_err-asked-clause-files
-returns-in_err-asked-clause-files g c =
+pub returns-in_err-asked : goal.returns-in_err-asked
+returns-in_err-asked g c =
     let word = option_map (λ w. w.now) c.args.property in
     files_denied c.args.self.now (request.witness c.args.name.now word) _ (g.K.Keep.calls c.args.files.now)
     c.from_residual.result c.in_err-asked.field-0.0 c.from_residual.ensures.1
     (λ other. no_property c.args.self.now c.args.name.now word (c.in_err-asked.ensures.err other))
 
-pub returns-in_err-reached-clause-files : goal.returns-in_err-reached-clause-files
-returns-in_err-reached-clause-files g c =
+pub returns-in_err-reached : goal.returns-in_err-reached
+returns-in_err-reached g c =
     let word = option_map (λ w. w.now) c.args.property in
     files_denied c.args.self.now (request.witness c.args.name.now word) _ (g.K.Keep.calls c.args.files.now)
     c.from_residual-in_err-reached.result c.in_err-reached.field-0.0 c.from_residual-in_err-reached.ensures.1
     (λ other. no_witness c.args.self.now c.args.name.now word c.in_ok-asked.asked c.in_ok-asked.ensures.asked
     (c.in_err-reached.ensures.err other))
 
-pub returns-in_err-keep-clause-files : goal.returns-in_err-keep-clause-files
-returns-in_err-keep-clause-files g c =
+pub returns-in_err-keep : goal.returns-in_err-keep
+returns-in_err-keep g c =
     let word = option_map (λ w. w.now) c.args.property in
     let reached = c.in_ok-reached.reached in
     let said = reached_text reached.property reached.frame c.args.name.now in
@@ -36,10 +36,11 @@ returns-in_err-keep-clause-files g c =
     (c.as_slice.ensures.value ∙ c.in_ok-witness.ensures) (rw c.bench.ensures at c.in_ok-run.ensures) refl)
     c.in_err-keep.ensures.calls
 
-pub returns-clause-files : goal.returns-clause-files
-returns-clause-files g c =
+pub returns : goal.returns
+returns g c = λ s h.
     let word = option_map (λ w. w.now) c.args.property in
     let reached = c.in_ok-reached.reached in
+    let (texts, after, answers, is, some, got) =
     files_kept c.args.self.now (request.witness c.args.name.now word) c.push_reached.new.text.items _
     (g.K.Keep.calls c.args.files.now) (g.K.Keep.calls c.keep.new.files) tt
     (record { name = c.args.name.now; text = c.as_slice.result.now }) []
@@ -49,4 +50,6 @@ returns-clause-files g c =
     (c.as_slice.ensures.value ∙ c.in_ok-witness.ensures) (rw c.bench.ensures at c.in_ok-run.ensures)
     (c.in_ok-push_reached.ensures
     ∙ ap (λ (z : List ℕ). z ++ reached_text reached.property reached.frame c.args.name.now) c.requires.empty))
-    c.in_ok-keep.ensures.calls
+    c.in_ok-keep.ensures.calls s h in
+    -- the session after it has new proofs of its ghost fields
+    (texts, after, answers, record { pair = is.pair; latches = is.latches; property = is.property; first = is.first; entries = is.entries; start = is.start; rows = is.rows; circuit = is.circuit }, some, got)

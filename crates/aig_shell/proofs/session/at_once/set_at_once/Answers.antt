@@ -15,7 +15,7 @@ write_rows-requires-clause-within c =
 pub write_rows-requires-clause-positions : goal.write_rows-requires-clause-positions
 write_rows-requires-clause-positions c =
     subst (λ (n : ℕ). All (λ p. p < n) c.args.positions.now)
-    (sym (ap (λ (s : InputRows). s.width) c.in_ok-rows.ensures ∙ c.stimulus.ensures.width)) c.requires.positions
+    (sym (ap (λ (s : InputRows). s.width) c.in_ok-rows.ensures ∙ c.stimulus.ensures.width)) c.requires.are_inputs
 
 pub replace_rows-requires-clause-width : goal.replace_rows-requires-clause-width
 replace_rows-requires-clause-width c =

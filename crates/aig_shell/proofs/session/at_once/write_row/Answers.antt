@@ -19,8 +19,12 @@ loop-place-preserved c =
       width = c.write_value.ensures.width ∙ inv.width;
     }
 
-pub returns-clause-leads : goal.returns-clause-leads
-returns-clause-leads c =
-    c.loop-place.invariant.leads c.loop-place.stimulus.rows (λ raw size.
-    leads_none _ _ (paired_end (set_bit c.args.frame) c.loop-place.place c.args.positions.now c.args.values.now
-    (omega (arith, c.loop-place-test.false))))
+pub returns : goal.returns
+returns c = record {
+  leads =
+      c.loop-place.invariant.leads c.loop-place.stimulus.rows (λ raw size.
+      leads_none _ _ (paired_end (set_bit c.args.frame) c.loop-place.place c.args.positions.now c.args.values.now
+      (omega (arith, c.loop-place-test.false))));
+  frames = c.loop-place.invariant.frames;
+  width = c.loop-place.invariant.width;
+}

@@ -27,8 +27,12 @@ loop-frame-preserved c =
       width = c.write_row.ensures.width ∙ inv.width;
     }
 
-pub returns-clause-leads : goal.returns-clause-leads
-returns-clause-leads c =
-    c.loop-frame.invariant.leads c.loop-frame.stimulus.rows (λ raw size.
-    leads_none _ _ (frames_end (λ u. row_edits u c.args.positions.now c.args.values.now) c.loop-frame.frame c.args.end
-    (omega (arith, c.loop-frame-test.false))))
+pub returns : goal.returns
+returns c = record {
+  leads =
+      c.loop-frame.invariant.leads c.loop-frame.stimulus.rows (λ raw size.
+      leads_none _ _ (frames_end (λ u. row_edits u c.args.positions.now c.args.values.now) c.loop-frame.frame c.args.end
+      (omega (arith, c.loop-frame-test.false))));
+  frames = c.loop-frame.invariant.frames;
+  width = c.loop-frame.invariant.width;
+}

@@ -13,7 +13,7 @@ set_inputs-requires-clause-frame c =
 
 pub set_inputs-requires-clause-positions : goal.set_inputs-requires-clause-positions
 set_inputs-requires-clause-positions c =
-    subst (λ (raw : Raw). All (λ p. p < length raw.inputs) c.args.positions.now) (sym c.loop-frame.invariant.circuit) c.requires.positions
+    subst (λ (raw : Raw). All (λ p. p < length raw.inputs) c.args.positions.now) (sym c.loop-frame.invariant.circuit) c.requires.are_inputs
 
 pub loop-frame-preserved : goal.loop-frame-preserved
 loop-frame-preserved c =

@@ -2,13 +2,13 @@ use Rattle.std.proofs.Common.{◌≡◌, List, ℕ, [], ◌++◌, subst}
 use Rattle.aig_bytes.proofs.Results.{on_ok}
 use Rattle.aig_shell.specs.Conversation.{no_memory}
 use Rattle.aig_shell.specs.Talking.{HoldsLine}
-use Rattle.aig_shell.specs.declared.talk.conversation.Next.TheVariants as next
+use Rattle.aig_shell.specs.declared.talk.conversation.AfterLine.TheVariants as next
 use Rattle.aig_shell.proofs.lines.Talks.{reply_written, reply_failed, replies_same, lacks_memory}
 use Rattle.aig_shell.proofs.talk.Talker.end_line.Goals as goal
 
 pub returns-then-is_empty-clause-reply : goal.returns-then-is_empty-clause-reply
 returns-then-is_empty-clause-reply g c = λ held h.
-    replies_same held c.args.piece.now ((c.is_empty.ensures held h).0 c.if-is_empty.true) c.answer.ensures.reply
+    replies_same held c.args.piece.now ((c.is_empty.ensures held h).0 c.if-is_empty.true) c.answer.ensures
 
 pub returns-then-is_empty-clause-empty : goal.returns-then-is_empty-clause-empty
 returns-then-is_empty-clause-empty g c =

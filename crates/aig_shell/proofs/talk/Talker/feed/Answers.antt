@@ -7,7 +7,6 @@ use Rattle.aig_shell.proofs.talk.Talker.feed.Goals as goal
 
 pub loop-rest-init : goal.loop-rest-init
 loop-rest-init g c = record {
-  session = c.requires.session;
   taken = ([], refl, λ start person s input st. stands_at (sym (append-nil input)) st);
 }
 
@@ -23,7 +22,6 @@ loop-rest-preserved g c =
     = take_all (length xs - (n + 1)) (drop (n + 1) xs) (omega (arith, length-drop (n + 1) xs)) in
     let w = c.in_ok-write_prompt-in-GoesOn.ensures in
     record {
-      session = c.in_ok-end_line.ensures.session;
       taken = (
         done ++ (piece ++ 10 ∷ []),
         take_line c.args.bytes.now done xs piece (drop (n + 1) xs) is split
@@ -45,8 +43,8 @@ loop-rest-smaller g c =
     = take_all (length xs - (n + 1)) (drop (n + 1) xs) (omega (arith, length-drop (n + 1) xs)) in
     omega (arith, lt, ap length all, length-drop (n + 1) xs)
 
-pub returns-then-size-rest-clause-feeds : goal.returns-then-size-rest-clause-feeds
-returns-then-size-rest-clause-feeds g c = λ start person s input st.
+pub returns-then-size-rest : goal.returns-then-size-rest
+returns-then-size-rest g c = λ start person s input st.
     let xs = c.loop-rest.rest.now in
     let n = c.line_length-size.result in
     let (done, is, stands) = c.loop-rest.invariant.taken in
@@ -55,8 +53,8 @@ returns-then-size-rest-clause-feeds g c = λ start person s input st.
     (stands_more xs (stands start person s input st) (subst (λ (v : List ℕ). All (λ b. b ≢ 10) v) all c.line_length-size.ensures.no_end)
     c.extend.ensures refl refl)
 
-pub returns-in_err-end_line-clause-feeds : goal.returns-in_err-end_line-clause-feeds
-returns-in_err-end_line-clause-feeds g c = λ start person s input st.
+pub returns-in_err-end_line : goal.returns-in_err-end_line
+returns-in_err-end_line g c = λ start person s input st.
     let xs = c.loop-rest.rest.now in
     let n = c.line_length-size.result in
     let lt : n < length xs = omega arith in
@@ -66,8 +64,8 @@ returns-in_err-end_line-clause-feeds g c = λ start person s input st.
     (part_at (taken_is input c.args.bytes.now done xs (take n xs ++ 10 ∷ drop (n + 1) xs) is split)
     (part_line (take n xs) (drop (n + 1) xs) (stands start person s input st) c.line_length-size.ensures.no_end c.in_err-end_line.ensures.reply))
 
-pub returns-in-Ends-clause-feeds : goal.returns-in-Ends-clause-feeds
-returns-in-Ends-clause-feeds g c = λ start person s input st.
+pub returns-in-Ends : goal.returns-in-Ends
+returns-in-Ends g c = λ start person s input st.
     let xs = c.loop-rest.rest.now in
     let n = c.line_length-size.result in
     let lt : n < length xs = omega arith in
@@ -77,8 +75,8 @@ returns-in-Ends-clause-feeds g c = λ start person s input st.
     (done_line (take n xs) (drop (n + 1) xs) (stands start person s input st) c.line_length-size.ensures.no_end
     (λ held h. replies_next c.in-Ends.is (c.in_ok-end_line.ensures.reply held h)))
 
-pub returns-in_err-write_prompt-in-GoesOn-clause-feeds : goal.returns-in_err-write_prompt-in-GoesOn-clause-feeds
-returns-in_err-write_prompt-in-GoesOn-clause-feeds g c = λ start person s input st.
+pub returns-in_err-write_prompt-in-GoesOn : goal.returns-in_err-write_prompt-in-GoesOn
+returns-in_err-write_prompt-in-GoesOn g c = λ start person s input st.
     let xs = c.loop-rest.rest.now in
     let n = c.line_length-size.result in
     let lt : n < length xs = omega arith in

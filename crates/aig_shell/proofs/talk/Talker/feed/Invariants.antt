@@ -1,12 +1,10 @@
 use Rattle.std.proofs.Common.{◌≡◌, ◌++◌, ℕ, Bool, List, length}
-use Rattle.aig_shell.specs.Session.{IsSession}
 use Rattle.aig_shell.specs.State.{SessionState}
 use Rattle.aig_shell.specs.Talking.{Moment, Stands, moment}
 use Rattle.aig_shell.proofs.talk.Talker.feed.Given as goal
 
 abbrev pub invariant-loop-rest : goal.invariant-loop-rest
 invariant-loop-rest g l = record {
-  session : IsSession l.self.conversation.session;
   taken : (done : List ℕ) × (l.bytes ≡ done ++ l.rest)
       × ((start : Moment) (person : Bool) (s : SessionState) (input : List ℕ)
       → Stands start (moment g.W.Write.written g.W.Write.failures g.K.Keep.calls l.initial.out l.initial.files) person s input l.initial.self

@@ -11,7 +11,6 @@ use Rattle.aig_shell.proofs.talk.Talker.run.Goals as goal
 
 pub loop-reader-init : goal.loop-reader-init
 loop-reader-init g c = record {
-  session = c.requires.session;
   room = refl;
   count = refl;
   stands = λ s at h.
@@ -28,7 +27,6 @@ loop-reader-preserved g c =
     let r = c.in_ok-size.ensures in
     let chunk : List ℕ = take c.in_ok-size.size c.read.new.buffer in
     record {
-      session = c.in_ok-feed.ensures.session;
       room = omega arith;
       count = omega (arith, inv.count, r.count);
       stands = λ s at h.
@@ -36,7 +34,7 @@ loop-reader-preserved g c =
             input ++ chunk,
             read ∙ ap (before input) r.given ∙ before-before input chunk (g.R.Read.left c.read.new.self),
             stands_fed {E = Io} (Ok c.in_ok-feed.field-0) c.in_ok-feed.field-0 refl c.in-GoesOn.is
-                (c.in_ok-feed.ensures.feeds start person s input (stands_flushed st f.kept f.count refl)),
+                (c.in_ok-feed.ensures start person s input (stands_flushed st f.kept f.count refl)),
           );
     }
 
@@ -120,7 +118,7 @@ returns-in_err-feed-clause-failed g c = on_err c.from_residual-in_err-feed.resul
     let r = c.in_ok-size.ensures in
     let chunk : List ℕ = take c.in_ok-size.size c.read.new.buffer in
     let (input, read, st) = inv.stands s at h in
-    let (p, more) = c.in_err-feed.ensures.feeds start person s input (stands_flushed st f.kept f.count refl) in
+    let (p, more) = c.in_err-feed.ensures start person s input (stands_flushed st f.kept f.count refl) in
     breaks_part g.R.Read.left g.R.Read.failures g.W.Write.written g.W.Write.failures g.K.Keep.calls c.args.reader.now c.read.new.self
     c.args.files.now c.feed.new.files c.args.out.now c.feed.new.out c.args.self.now.has_prompt
     s (input ++ chunk) p (read ∙ ap (before input) r.given ∙ before-before input chunk (g.R.Read.left c.read.new.self)) (inr more))
@@ -138,5 +136,5 @@ returns-in-Ends-clause-ended g c = λ s at h.
     c.args.files.now c.feed.new.files c.args.out.now c.feed.new.out c.args.self.now.has_prompt
     s (input ++ chunk) true
     (done_fed {E = Io} (Ok c.in_ok-feed.field-0) c.in_ok-feed.field-0 refl c.in-Ends.is c.feed.new.self
-    (c.in_ok-feed.ensures.feeds start person s input (stands_flushed st f.kept f.count refl)))
+    (c.in_ok-feed.ensures start person s input (stands_flushed st f.kept f.count refl)))
     (read ∙ ap (before input) r.given ∙ before-before input chunk (g.R.Read.left c.read.new.self)) (λ q. absurd (true≢false q))

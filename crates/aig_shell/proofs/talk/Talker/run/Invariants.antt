@@ -1,14 +1,12 @@
 use Rattle.std.proofs.Common.{◌≡◌, ℕ, List, [], length}
 use Rattle.aig_bytes.specs.Bytes.{before}
 use Rattle.aig_shell.specs.Conversation.{IsAt}
-use Rattle.aig_shell.specs.Session.{IsSession}
 use Rattle.aig_shell.specs.State.{SessionState}
 use Rattle.aig_shell.specs.Talking.{HoldsLine, Stands, moment}
 use Rattle.aig_shell.proofs.talk.Talker.run.Given as goal
 
 abbrev pub invariant-loop-reader : goal.invariant-loop-reader
 invariant-loop-reader g l = record {
-  session : IsSession l.self.conversation.session;
   room : length l.buffer ≡ 4096;
   count : g.R.Read.failures l.reader ≡ g.R.Read.failures l.fn.reader;
   stands : (s : SessionState) → IsAt l.fn.self.conversation s → HoldsLine [] l.fn.self.line

@@ -2,9 +2,9 @@ use Rattle.std.proofs.Common.{◌≡◌, refl, sym, ◌∙◌, arith, length}
 use Rattle.std.proofs.lemmas.Bool.{eqb-true}
 use Rattle.std.proofs.lemmas.List.{nil_from_length}
 use Rattle.aig_shell.proofs.lines.Talks.{holds_same, holds_cut}
-use Rattle.aig_shell.proofs.talk.Line.extend.Goals.{then-is_empty-via-then-is_empty}
-use Rattle.aig_shell.proofs.talk.Line.extend.Goals.{then-is_empty-via-else-is_empty+then-self}
-use Rattle.aig_shell.proofs.talk.Line.extend.Goals as goal
+use Rattle.aig_shell.proofs.talk.LineBuffer.extend.Goals.{then-is_empty-via-then-is_empty}
+use Rattle.aig_shell.proofs.talk.LineBuffer.extend.Goals.{then-is_empty-via-else-is_empty+then-self}
+use Rattle.aig_shell.proofs.talk.LineBuffer.extend.Goals as goal
 
 pub returns-then-is_empty : goal.returns-then-is_empty
 returns-then-is_empty c = λ text h.
