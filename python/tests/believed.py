@@ -3,20 +3,19 @@ a check."""
 
 from aig.verdicts import checked
 from aig.verdicts.checked import Checked, Claim
-from aig.verdicts.row import Row
+from aig.verdicts.row import LEFT_OUT
 
 # That of the circuit which these rows are about.
 SUM = "0" * 64
 
 
-def believed(position, kind, name, file="", first=0, last=0, of=None, verdict="undecided", by="", frames=0, files=(),
-             notes=(), circuit=SUM):
-    """A row with this verdict. One that nothing shows has no check."""
-    row = Row(position, kind, name, file, first, last, of, verdict == "left out", notes=list(notes))
+def believed(row, verdict="undecided", by="", frames=0, files=()):
+    """The row, which gets this verdict. One that nothing shows has no check."""
+    row.is_left_out = verdict == LEFT_OUT
     if by:
-        row.take(check_of(position, by, frames, files, circuit), circuit)
+        row.take(check_of(row.position, by, frames, files), SUM)
     elif verdict == "alive":
-        row.claim = Claim(position, "", frames)
+        row.claim = Claim(row.position, "", frames)
     if row.claim is None and verdict not in ("undecided", row.verdict):
         raise ValueError(f"{verdict} is not the verdict of {by}")
     return row

@@ -9,9 +9,9 @@ from pathlib import Path
 PYTHON = Path(__file__).resolve().parent.parent
 sys.path[:0] = [str(PYTHON.parent / "tests"), str(PYTHON / "src"), str(PYTHON / "tests")]
 from bundles import (  # noqa: E402
-    attacks, checking, comparing, concrete, cores, crashing, deciding, denying, dying, emptied, ends, engines, equal,
-    folding, hinted, judging, late, lots, lying, many, many_rows, needed, remaking, replaying, reusing, searches,
-    tampering, zips,
+    attacks, checking, comparing, concrete, cores, crashing, cuts, deciding, denying, dying, emptied, ends, engines,
+    equal, folding, hinted, judging, late, lots, lying, many, many_rows, needed, rechecking, remaking, replaying,
+    reusing, rows, searches, tampering, zips,
 )
 from library import runs  # noqa: E402
 
@@ -38,15 +38,15 @@ PARTS = {part.__name__.rstrip("_"): on_program(part) for part in (
     many.many, many.taken_over, many_rows.unpacked_once, lying.lies, checking.checking, late.dead, late.late,
     emptied.emptied, dying.dying,
     dying.memory, crashing.crashing, denying.denying, lots.lots,
-    deciding.right, deciding.harms, deciding.lines, deciding.ends_of_aig, deciding.again, deciding.commands,
-    deciding.names_of_files, deciding.folder_files, deciding.workers_, deciding.shared_again, deciding.stopped,
-    deciding.rechecked,
-    deciding.kinds,
+    rechecking.right, rechecking.harms, rechecking.lines, rechecking.ends_of_aig, rechecking.again, rows.commands,
+    rows.names_of_files, rows.folder_files, deciding.workers_, deciding.shared_again, deciding.stopped,
+    rechecking.rechecked,
+    rows.kinds,
     equal.equal, remaking.remaking, replaying.replaying,
     comparing.changed, comparing.hiding, comparing.moved, comparing.compares,
     reusing.reusing, reusing.stopped_in_its_folder, reusing.open_rows, reusing.lying_baselines, reusing.refused,
-    cores.needs, cores.unneeded, cores.afterwards, cores.minimal, cores.contradictions, cores.forged, cores.follows,
-    cores.reading, cores.counting,
+    cores.needs, cores.unneeded, cores.afterwards, cores.minimal, cores.contradictions, cuts.forged, cuts.follows,
+    cuts.reading, cores.counting,
     cores.garbled, cores.since, cores.failing,
     needed.runs_kept, needed.runs_forged, needed.runs_believed,
     needed.drawn,

@@ -8,6 +8,7 @@ from collections import namedtuple
 from pathlib import Path
 
 Port = namedtuple("Port", "name width")
+TOP = "probes"  # the top module of the sources
 STEP = 10  # of simulated time, for each frame
 SEEN = 5  # when the signals of a frame are compared: after its inputs and before its edge
 
@@ -109,9 +110,9 @@ def testbench(top, ports, words, edge):
     return "\n".join([*lines, "$finish; end", "endmodule", ""])
 
 
-def simulated(folder, sources, ports, words, edge="rise", top="probes"):
+def simulated(folder, sources, ports, words, edge="rise"):
     """Runs Icarus Verilog in a folder. The text of each bit in each frame, and what it says where it stops."""
-    Path(folder, "testbench.v").write_text(testbench(top, ports, words, edge))
+    Path(folder, "testbench.v").write_text(testbench(TOP, ports, words, edge))
     build = ["iverilog", "-g2012", "-s", "testbench", "-o", "simulation", *map(str, sources), "testbench.v"]
     for command in (build, ["vvp", "-n", "simulation"]):
         done = subprocess.run(command, cwd=folder, stdin=subprocess.DEVNULL, capture_output=True, text=True)

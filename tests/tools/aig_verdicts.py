@@ -18,8 +18,9 @@ sys.path[:0] = [f"{REPOSITORY}/python/src", f"{REPOSITORY}/python/tests"]
 from aig.verdicts import workers  # noqa: E402
 from aig.verdicts.decide import Bounds  # noqa: E402
 from aig.verdicts.design import Reading, read_verilog  # noqa: E402
-from aig.verdicts.session import Session  # noqa: E402
+from aig.verdicts.session import Plan, Session  # noqa: E402
 from aig.verdicts.tools import Stop  # noqa: E402
+from aig.verdicts.workers import Work  # noqa: E402
 from bundles.common import (  # noqa: E402
     HERE, called, judged, manifest_of, rows_of, same_manifests, write_manifest,
 )
@@ -92,7 +93,8 @@ def by_abc(tally):
     tally.compare("by ABC: an invariant", (status, rows_of("decimal")["a"]["by"]), (0, "certificate"))
     status, _, _ = run(written("counter.v", COUNTER), "--frames", "5", out="counter")
     row = rows_of("counter")["a"]
-    tally.compare("by ABC: a long run", (status, row["frames"], sorted(row["files"])), (5, 41, ["shorter", "witness"]))
+    tally.compare("by ABC: a long run", (status, row["frames"], sorted(row["files"])),
+                  (5, 41, ["concrete", "shorter", "witness"]))
     status, _, _ = run("counter.v", "--frames", "5", "--abc", "", out="bounded")
     tally.compare("by ABC: without it", (status, rows_of("bounded")["a"]["verdict"]), (4, "unreachable within 5"))
     status, _, _ = run("counter.v", "--frames", "5", out="bounded")
@@ -113,8 +115,8 @@ def hints(tally):
         run(source, *words, out=f"{name}_lrat")
         tally.compare(f"hints: {name}", judged(f"{name}_lrat"), judged(f"{name}_drat"))
         for row in manifest_of(f"{name}_lrat")["rows"]:
-            proofs = {role: file for role, file in row.get("files", {}).items() if role not in ("witness",
-                                                                                                "certificate")}
+            proofs = {role: file for role, file in row.get("files", {}).items()
+                      if role not in ("witness", "concrete", "certificate")}
             tally.check(f"hints: {name}: {row['position']}", all(it.endswith(".lrat") for it in proofs.values()), row)
             roles |= set(proofs)
     tally.compare("hints: of each kind", roles & {*PROOFS}, {*PROOFS})
@@ -203,11 +205,11 @@ def same_bytes(tally):
     design = read_verilog([EVERY], Reading(), Stop())
     for name, large in (("processes", workers.LARGE), ("by_path", 1)):
         usual, workers.LARGE = workers.LARGE, large
-        session = Session(design, Path(name), Bounds(frames=6))
+        session = Session(design, Path(name), Plan(Bounds(frames=6)))
         try:
             session.open()
             with ProcessPoolExecutor(2) as pool:
-                tally.check(f"same bytes: {name}: complete", session.search(pool))
+                tally.check(f"same bytes: {name}: complete", session.search(Work(pool)))
         finally:
             workers.LARGE = usual
             session.close()

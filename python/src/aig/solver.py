@@ -18,7 +18,7 @@ from .verdict import Verdict
 from .verdicts.checked import Checked, Rejected, check, sum_of
 from .verdicts.decide import Bounds, Found, Programs, Task, decide
 from .verdicts.hints import by_name, claim_of
-from .verdicts.tools import Stop, Stopped, run
+from .verdicts.tools import Limits, Stop, Stopped, run
 
 Solver = Union[str, Sequence[str]]
 CADICAL = ("cadical", "-q")
@@ -50,7 +50,8 @@ def solve(
         folder = Path(name)
         proof = folder / "proof"
         (folder / "cnf").write_bytes(formula.text)
-        ran = run([*words, *bounded, "cnf", "proof"], folder, NO_BOUND if seconds is None else seconds, stop or Stop())
+        limits = Limits(NO_BOUND if seconds is None else seconds)
+        ran = run([*words, *bounded, "cnf", "proof"], folder, limits, stop or Stop())
         if ran.status == 10:
             return Solved(ran.out.decode("utf-8", "replace"), None)
         if ran.status == 20:

@@ -17,7 +17,7 @@ from aig.verdicts.decisions import Decided, judge
 from aig.verdicts.design import read_aiger
 from aig.verdicts.recheck import recheck
 from aig.verdicts.row import Row
-from aig.verdicts.session import Session
+from aig.verdicts.session import Plan, Session
 from aig.verdicts.tools import Stop
 from aig.verdicts.workers import check_all
 from believed import believed, check_of
@@ -144,12 +144,15 @@ def rows(tally):
     row.forget()
     tally.compare("checking: forgotten", (row.verdict, judge([row])[0].words), ("undecided", "undecided"))
     for by in ("kept", "alive"):
-        it = believed(0, "assert", "a", by=by, frames=1)
+        it = believed(Row(0, "assert", "a"), by=by, frames=1)
         tally.check(f"checking: an assertion that is {by}", "another kind of row" in raised(Wrong, judge, [it]))
-    two = [believed(at, "assert", "a", by="bound", frames=1, circuit=str(at) * 64) for at in range(2)]
+    two = [Row(at, "assert", "a") for at in range(2)]
+    for at, row in enumerate(two):
+        row.take(check_of(at, "bound", 1, circuit=str(at) * 64), str(at) * 64)
     tally.check("checking: of two circuits", "several circuits" in raised(Wrong, judge, two))
-    three = [believed(-1, "constraints", "", by="alive", frames=2), believed(0, "assert", "a", by="bound", frames=1),
-             believed(1, "assert", "b", by="induction", frames=1), Row(2, "assert", "c")]
+    three = [believed(Row(-1, "constraints", ""), by="alive", frames=2),
+             believed(Row(0, "assert", "a"), by="bound", frames=1),
+             believed(Row(1, "assert", "b"), by="induction", frames=1), Row(2, "assert", "c")]
     tally.compare("checking: the check of each word", [isinstance(it.said, Decided) and it.said.shown.line
                                                        for it in judge(three)], ["no run of 2 frames"] * 2 + [False])
     tally.compare("checking: the same without a contradiction", [isinstance(it.said, Decided) and it.said.shown.line
@@ -171,7 +174,7 @@ def workers(tally):
     several = [pickle.loads(pickle.dumps(found)) for _ in range(60)]
     check_all(several, FEW.read_bytes(), Stop())
     tally.compare("checking: of several, each", sum(it.checked is not None for it in several), 60)
-    proof = {"base": PROOF, "step": PROOF}
+    proof, plan = {"base": PROOF, "step": PROOF}, Plan(Bounds(frames=3), Programs(tool("none", "exit 0"), None))
     for name, it, wanted in (
         ("what is right", sent, found.verdict),
         ("a word", Found(1, "unreachable", "induction", 1, {"base": b"1\n", "step": b"1\n"}), "undecided"),
@@ -183,7 +186,7 @@ def workers(tally):
             0, "bound", 3, BOUND.named)), "undecided"),
         ("a verdict without a way", Found(0, "unreachable", "", 0), "undecided"),
     ):
-        session = Session(read_aiger(FEW), Path(name), Bounds(frames=3), Programs(tool("none", "exit 0"), None))
+        session = Session(read_aiger(FEW), Path(name), plan)
         session.open(1)
         check_all([it], FEW.read_bytes(), Stop())
         session.take(it)
@@ -192,7 +195,7 @@ def workers(tally):
         tally.compare(f"checking: {name}", (row.verdict, bool(row.notes)), (wanted, has_note))
 
 
-    session = Session(read_aiger(FEW), Path("both"), Bounds(frames=3), Programs(tool("none", "exit 0"), None))
+    session = Session(read_aiger(FEW), Path("both"), plan)
     session.open(1)
     for it in (Found(0, "", "bound", 3, {"base": PROOF}), Found(0, "", "bound", 9, {"base": PROOF})):
         check_all([it], FEW.read_bytes(), Stop())

@@ -13,10 +13,11 @@ import stat
 import subprocess
 import sys
 import tempfile
+import unittest.mock
 from pathlib import Path
 
 from aig.verdicts import command
-from aig.verdicts.bundle import Wrong
+from aig.verdicts.bundle import Bundle, Wrong
 from aig.verdicts.recheck import recheck
 from library import supervised
 
@@ -115,9 +116,11 @@ def row(manifest, name, kind="assert"):
 
 
 def judged(path, sums=True):
-    """What a re-check says of each row, or None if the bundle is rejected."""
+    """What a re-check says of each row, or None if the bundle is rejected. Without `sums` it compares no sum."""
+    compares = contextlib.nullcontext() if sums else unittest.mock.patch.object(Bundle, "summed", Bundle.read)
     try:
-        found = recheck(Path(path), sums, jobs=2)
+        with compares:
+            found = recheck(Path(path), jobs=2)
     except Wrong:
         return None
     return [(it.position, it.kind, it.name, it.verdict, it.frames, it.of) for it in found.rows]
@@ -129,6 +132,15 @@ def why_rejected(path):
     except Wrong as error:
         return str(error)
     return None
+
+
+def raises(kind, call, *words):
+    """Whether a call ends with an exception of this kind."""
+    try:
+        call(*words)
+    except kind:
+        return True
+    return False
 
 
 _folder = tempfile.TemporaryDirectory()

@@ -53,13 +53,10 @@ NEW = {"F": 5, "L": 5, "P": 0, "I": 0, "B": 4, "U": 4, "-": 4, "V": 4, "D": 4, "
 def known(letter, kind="assert", position=0, name="name"):
     """What is known of a row."""
     found = {"V": "P", "D": "P", "N": "P"}.get(letter, letter)
-    verdict, by, frames = FOUND[found]
-    row = believed(position, kind, name, "f.v", 1, 2, verdict=verdict, by=by, frames=frames)
-    rows = [row]
+    rows = [believed(Row(position, kind, name, "f.v", 1, 2), *FOUND[found])]
     if letter in "VD":
         asked = FOUND["P" if letter == "V" else "U"]
-        rows.append(believed(position + 1, "condition", name, of=position, verdict=asked[0], by=asked[1],
-                             frames=asked[2]))
+        rows.append(believed(Row(position + 1, "condition", name, of=position), *asked))
     judged, = judge(rows)
     return Known.of(judged.denied_by("the simulator") if letter == "N" else judged)
 
@@ -119,7 +116,7 @@ def rejected(call):
 def side(source, letters, options=None, more=None):
     """A version by its source: each line with `assert` or `cover` is a row, but for those with `// no row`."""
     sources = {"f.v": source, **(more or {})}
-    rows, assumed = [believed(-1, "constraints", "", verdict="alive", frames=4)], []
+    rows, assumed = [believed(Row(-1, "constraints", ""), "alive", frames=4)], []
     letters = iter(letters.split())
     for file, text in sources.items():
         for number, line in enumerate(text.split("\n"), 1):
@@ -129,9 +126,8 @@ def side(source, letters, options=None, more=None):
             if match and match[2] == "assume":
                 assumed.append(name)
             elif match:
-                verdict, by, frames = FOUND[next(letters)]
-                rows.append(believed(len(rows) - 1, match[2], name, file, number, number, verdict=verdict, by=by,
-                                     frames=frames))
+                row = Row(len(rows) - 1, match[2], name, file, number, number)
+                rows.append(believed(row, *FOUND[next(letters)]))
     count = len(rows) - 1
     circuit = "\n".join([f"aag 1 1 0 0 0 {count} {len(assumed)}", "2", *["2"] * (count + len(assumed)),
                          *(f"b{at} {row.name}" for at, row in enumerate(rows[1:])),

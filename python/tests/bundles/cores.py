@@ -1,10 +1,9 @@
-"""What proofs need (`--cores`): a circuit whose truth is known, forged cuts, and circuits that are garbled where no proof
-looks. Hints are made by tests/hints/drat2lrat.cpp, where there is a compiler of C++."""
+"""What proofs need (`--cores`): a circuit whose truth is known, and circuits that are garbled where no proof looks.
+Hints are made by tests/hints/drat2lrat.cpp, where there is a compiler of C++."""
 
 from __future__ import annotations
 
 import functools
-import json
 import os
 import shutil
 import tempfile
@@ -12,11 +11,10 @@ import xml.etree.ElementTree as tree
 from pathlib import Path
 from types import SimpleNamespace
 
-from aig.verdicts import needs_page, pieces, sentences
-from aig.verdicts.bundle import Wrong
-from bundles import common
+from aig.verdicts import needs_page, pieces
 from bundles.common import (
-    HERE, SMALL_SOLVER, called, kept, manifest_of, of_script, rows_of, same_manifests, tool, why_rejected, write_manifest,
+    HERE, SMALL_SOLVER, called, kept, manifest_of, of_script, rows_of, same_manifests, tool, why_rejected,
+    write_manifest,
 )
 from hints.programs import built
 from library.runs import contents
@@ -65,8 +63,8 @@ def cut_of(path, name):
 
 
 def needs(_, tally, __):
-    """Each row needs what it is known to need, in the manifest, the table, `recheck`, the page, and JUnit. Its proofs are
-    those of the smaller circuit, and no others are in the folder."""
+    """Each row needs what it is known to need, in the manifest, the table, `recheck`, the page, and JUnit. Its proofs
+    are those of the smaller circuit, and no others are in the folder."""
     path = made("--cores")
     tally.compare("needs: of each row", needs_of(path), NEEDS)
     tally.compare("needs: which assumption", rows_of(path)["assumed"]["needs"]["assumptions"], ["no_c"])
@@ -79,12 +77,14 @@ def needs(_, tally, __):
     tally.check("needs: which assumption no proof needs", "no proof needs" in err and "no_c" not in err, err)
     page = contents("page.html").decode()
     tally.check("needs: page", all(f"<td>{word}</td>" in page for word in WORDS.values()), page.count("<td>n"))
-    cases = {case.get("name"): "".join(case.itertext()) for case in tree.fromstring(contents("junit.xml")).iter("testcase")}
+    cases = {case.get("name"): "".join(case.itertext())
+             for case in tree.fromstring(contents("junit.xml")).iter("testcase")}
     tally.check("needs: JUnit", all(f"needs {word}" in cases[name] for name, word in WORDS.items()), cases)
     files = {it.name for it in path.iterdir() if it.suffix in (".drat", ".lrat", ".cuts", ".wit")}
     tally.compare("needs: files", files, {it for it in manifest_of(path)["sums"] if not it.endswith(".aig")})
     done = of_script(path)
-    tally.compare("needs: recheck.sh", (done.returncode, done.stderr, done.stdout.count("unreachable: cut --cuts")), (0, "", 5))
+    tally.compare("needs: recheck.sh", (done.returncode, done.stderr, done.stdout.count("unreachable: cut --cuts")),
+                  (0, "", 5))
     tally.compare("needs: commands", [it.get("makes") for it in rows_of(path)["chain"]["commands"]], ["cut.aag", None])
 
 
@@ -94,7 +94,8 @@ def unneeded(_, tally, __):
     section = section_of(called("recheck", path, "--page", "page.html") and contents("page.html").decode())
     tally.check("unneeded: data alone", ">data</span>" in section and not any(
         f">{name}</span>" in section for name in ("state", "go", "delay", "late")), section)
-    tally.compare("unneeded: one of two", [f">{name}</span>" in section for name in ("not_both", "no_b", "no_c")].count(True), 1)
+    tally.compare("unneeded: one of two",
+                  [f">{name}</span>" in section for name in ("not_both", "no_b", "no_c")].count(True), 1)
     tally.check("unneeded: no_c is needed", ">no_c</span>" not in section, section)
     tally.check("unneeded: it is about five rows", "5 rows" in section and "more" not in section, section)
     manifest = manifest_of(path)
@@ -111,7 +112,8 @@ def unneeded(_, tally, __):
     write_manifest(path, manifest)
     called("recheck", path, "--page", "page.html")
     section = section_of(contents("page.html").decode())
-    tally.check("unneeded: one row is not known", "4 rows" in section and "Of 1 more" in section, section or why_rejected(path))
+    tally.check("unneeded: one row is not known", "4 rows" in section and "Of 1 more" in section,
+                section or why_rejected(path))
 
 
 def section_of(page):
@@ -128,7 +130,8 @@ def afterwards(_, tally, __):
     tally.compare("afterwards: needs", needs_of(path), NEEDS)
     tally.check("afterwards: the table", all(f"  needs {word}  " in out for word in WORDS.values()), out)
     same = ("bounds", "name", "notes", "options", "simulated", "sources", "timing", "versions")
-    tally.compare("afterwards: the rest stays", {it: manifest_of(path)[it] for it in same}, {it: before[it] for it in same})
+    tally.compare("afterwards: the rest stays", {it: manifest_of(path)[it] for it in same},
+                  {it: before[it] for it in same})
     tally.check("afterwards: re-checked", why_rejected(path) is None, why_rejected(path))
     manifest = contents("later/MANIFEST.json")
     tally.compare("afterwards: again", called("cores", path, *words[2:], "--solver", tool("none", "exit 9"))[1], out)
@@ -140,7 +143,8 @@ def afterwards(_, tally, __):
 
 
 def minimal(_, tally, __):
-    """With --minimal each piece that is left is tried: the start of `go` never matters, whatever the first proof used."""
+    """With --minimal each piece that is left is tried: the initial value of `go` never matters, whatever the first
+    proof used."""
     path = copied(to="minimal")
     called("cores", path, "--solver", SMALL_SOLVER, "--abc", "", "--drat2lrat", built("drat2lrat"), "--minimal", "-q")
     tally.compare("minimal: needs", needs_of(path), NEEDS)
@@ -157,175 +161,24 @@ def contradictions(_, tally, __):
     tally.check("contradictions: some are needed", row.get("needs", {}).get("assumptions"), row)
     tally.check("contradictions: re-checked", why_rejected(path) is None, why_rejected(path))
     rows = [line for line in out.splitlines() if "vacuous" in line]
-    tally.check("contradictions: vacuous", rows and all("needs 1 register, 2 assumptions" in line for line in rows), out)
-
-
-# -- forgers: what each changes, and what `recheck` says of it. The sums are mended afterwards.
-
-
-def _cuts(path, name, text):
-    Path(path, rows_of(path)[name]["files"]["cuts"]).write_text(text)
-
-
-def _more(name, line):
-    """Cuts one more line of a row, beside the proofs that are there."""
-    def forge(path, manifest):
-        _cuts(path, name, "\n".join([*cut_of(path, name), line, ""]))
-    return forge
-
-
-def _less(path, manifest):
-    """The page then has to say that more is needed; the manifest does not."""
-    _cuts(path, "trivial", "".join(f"{line}\n" for line in cut_of(path, "trivial") if line != "f 18"))
-
-
-def _text(text):
-    def forge(path, manifest):
-        _cuts(path, "toggles", text)
-    return forge
-
-
-def _whole(path, manifest):
-    """The proofs of the whole circuit, beside the cuts."""
-    for name in ("1.base.drat", "1.step.drat"):
-        there = rows_of(path)["toggles"]["files"]
-        shutil.copy(made() / rows_of(made())["toggles"]["files"][name.split(".")[1]], path / there[name.split(".")[1]])
-
-
-def _whole_and_more(path, manifest):
-    """The same, where a register is cut that is needed."""
-    _whole(path, manifest)
-    _more("toggles", "f 8")(path, manifest)
-
-
-def _says_less(path, manifest):
-    next(it for it in manifest["rows"] if it.get("name") == "chain")["needs"]["registers"].remove("go")
-
-
-def _says_nothing(path, manifest):
-    del next(it for it in manifest["rows"] if it.get("name") == "chain")["needs"]
-
-
-def _says_of_others(path, manifest):
-    manifest["rows"][0]["needs"] = {"registers": [], "resets": [], "assumptions": []}
-
-
-def _of_another_row(path, manifest):
-    next(it for it in manifest["rows"] if it.get("name") == "chain")["files"]["cuts"] = "0.cuts"
-
-
-def _for_a_run(path, manifest):
-    row = next(it for it in manifest["rows"] if it.get("name") == "fails")
-    row["files"]["cuts"] = "5.cuts"
-    (path / "5.cuts").write_text("")
-    manifest["sums"]["5.cuts"] = ""
-
-
-def _older(path, manifest):
-    manifest["format"] = "aig-verdicts 2"
-
-
-def _without_file(path, manifest):
-    del next(it for it in manifest["rows"] if it.get("name") == "toggles")["files"]["cuts"]
-    del manifest["sums"]["1.cuts"]
-
-
-FORGED = (
-    (_more("toggles", "f 8"), "aig refute: proof"), (_more("toggles", "r 10"), "aig refute: proof"),
-    (_more("chain", "f 12"), "aig refute: proof"), (_more("assumed", "c 2"), "aig refute: proof"),
-    (_less, "b0"), (_whole, "aig refute: proof"), (_whole_and_more, "aig refute: proof"),
-    (_text("f 8"), "cut: cuts: line 1"), (_text("f 08\n"), "cut: cuts: line 1"), (_text("f 2\n"), "cut: cuts: line 1"),
-    (_text("f 18\nc 3\n"), "cut: cuts: line 2"), (_text("g 8\n"), "cut: cuts: line 1"),
-    (_says_less, "needs of b2"), (_says_nothing, "needs of b2"), (_says_of_others, "needs of constraints"),
-    (_of_another_row, "file '0.cuts' of b2"), (_for_a_run, "files of b5"), (_without_file, "aig refute: proof"),
-    (_older, "format of MANIFEST.json"),
-)
-
-
-def forged(_, tally, __):
-    """Cuts that are wrong, or not what the manifest says: `recheck` rejects the bundle, and `recheck.sh` says WRONG where
-    the cuts or the proofs are."""
-    for at, (forge, why) in enumerate(FORGED):
-        path = copied("--cores")
-        said = common.forged(path, forge)
-        tally.check(f"forged: {at}: rejected", said is not None and why in said, said)
-        if "aig" in why or "cut: " in why:
-            done = of_script(path)
-            is_about = forge is not _without_file  # the script has the cuts in its lines
-            tally.check(f"forged: {at}: recheck.sh", (done.returncode == 1 and "WRONG" in done.stderr) or not is_about,
-                        done.stderr)
-
-
-def follows(_, tally, __):
-    """Cuts that leave more than the manifest of a forger said: where the proofs fit, all that is shown follows the cuts."""
-    path = copied()
-    manifest = manifest_of(path)
-    row = next(it for it in manifest["rows"] if it.get("name") == "toggles")
-    row["files"]["cuts"], manifest["format"] = "1.cuts", "aig-verdicts 3"
-    (path / "1.cuts").write_text("")
-    manifest["sums"]["1.cuts"] = ""
-    row["needs"] = {"registers": ["state"], "resets": ["state"], "assumptions": []}
-    write_manifest(path, manifest)
-    tally.compare("follows: less in the manifest", why_rejected(path), "needs of b1")
-    every = ["data", "delay", "go", "late", "state"]
-    row["needs"] = {"registers": every, "resets": every, "assumptions": ["no_b", "no_c", "not_both"]}
-    write_manifest(path, manifest)
-    _, out, _ = called("recheck", path, "--page", "page.html")
-    tally.check("follows: recheck", "toggles  needs 5 registers, 3 assumptions" in out, out)
-    tally.check("follows: page", "5 registers, 3 assumptions" in contents("page.html").decode())
-    _, out, _ = called("recheck", path, "--json")
-    shown = next(it for it in json.loads(out)["rows"] if it.get("name") == "toggles")
-    tally.compare("follows: JSON", shown["needs"]["registers"], every)
-
-
-# Files of cuts, and what they leave: registers, those of them whose resets are left, and assumptions. All else is cut.
-BITS = {"state": (8, 10), "go": (12,), "delay": (14,), "late": (16,), "data": (18, 20)}
-EVERY = [f"{letter} {literal}" for literals in BITS.values() for literal in literals for letter in "fr"] + ["c 0", "c 1", "c 2"]
-LEFT = (
-    ((), ((), (), ())), (EVERY, (tuple(sorted(BITS)), tuple(sorted(BITS)), ("no_b", "no_c", "not_both"))),
-    (["f 8"], (("state",), (), ())), (["f 10"], (("state",), (), ())), (["r 20"], (("data",), ("data",), ())),
-    (["f 8", "f 10", "r 16"], (("late", "state"), ("late",), ())), (["c 0"], ((), (), ("not_both",))),
-    (["c 2", "f 14"], (("delay",), (), ("no_c",))),
-)
-# What is no file of cuts.
-NO_CUTS = (b"f 8", b"f 08\n", b"f  8\n", b"f 8\r\n", b"\nf 8\n", b"g 8\n", b"f -8\n", b"f 8 \n", b"# 8\n", b"f 99999999999\n")
-
-
-def reading(_, tally, __):
-    """What a file of cuts leaves is needed: a register where one bit of it is left, its next state or its reset."""
-    circuit = CIRCUIT.read_bytes()
-    for left, wanted in LEFT:
-        lines = [line for line in EVERY if line not in left]
-        for text in (lines, lines[::-1], lines + lines[:3]):
-            found = pieces.needs_of(circuit, "".join(f"{line}\n" for line in text).encode())
-            tally.compare(f"reading: {left}", found[:3], wanted)
-        tally.compare(f"reading: {left}: trivial", found.is_trivial, not left)
-    tally.check("reading: without cuts nothing is known", pieces.needs_of(circuit, None) is None)
-    for text in NO_CUTS:
-        try:
-            tally.check(f"reading: {text!r}", False, pieces.needs_of(circuit, text))
-        except Wrong:
-            tally.check(f"reading: {text!r}", True)
-    words = [sentences.of_needs(pieces.Needs(*it)) for it in (
-        ((), (), (), False), ((), (), (), True), (("a",), (), (), False), (("a", "b"), ("a",), ("c",), True),
-        (("past_3", "u.value_4"), (), (), True), (("past_3", "q"), (), (), True), (("m[0]", "m[1]"), (), (), False),
-        (("m[0]", "m[1]", "m[2]", "n"), (), ("c", "d"), True))]
-    tally.compare("reading: words", words, [
-        "nothing: trivial", "nothing: trivial", "1 register", "2 registers, 1 assumption",
-        "its own registers alone, no assumption", "2 registers, no assumption", "2 registers", "2 registers, 2 assumptions"])
+    tally.check("contradictions: vacuous", rows and all("needs 1 register, 2 assumptions" in line for line in rows),
+                out)
 
 
 def counting(_, tally, __):
-    """The number of a line is how many rows need a register that it declares or writes, or an assumption that it makes."""
+    """The number of a line is how many rows need a register that it declares or writes, or an assumption that it
+    makes."""
     def row(position, registers, assumptions):
-        return SimpleNamespace(row=SimpleNamespace(position=position), needs=pieces.Needs(registers, (), assumptions, True))
+        return SimpleNamespace(row=SimpleNamespace(position=position),
+                               needs=pieces.Needs(registers, (), assumptions, True))
 
     known = [row(0, ("top.count", "q"), ("polite",)), row(1, ("top.count",), ("t.v:7",)), row(2, ("mem[3]",), ())]
     found = pieces.Needs(("idle", "u.timer"), (), ("other",), True)
     counts = needs_page.Counts(needs_page.Proofs(known, 0), found, {"q": ["q", "top.also_q"]})
     for number, text, wanted in (
-            (1, "reg [3:0] count, q;", 2), (2, "  q <= count + 1;", 1), (3, "count <= 0; timer <= 1;", 2), (4, "timer <= q;", 0),
-            (5, "reg [7:0] mem [0:3];", 1), (6, "polite: assume (q <= 3);", 1), (7, "assume (count);", 1), (8, "assume (q);", -1),
+            (1, "reg [3:0] count, q;", 2), (2, "  q <= count + 1;", 1), (3, "count <= 0; timer <= 1;", 2),
+            (4, "timer <= q;", 0), (5, "reg [7:0] mem [0:3];", 1), (6, "polite: assume (q <= 3);", 1),
+            (7, "assume (count);", 1), (8, "assume (q);", -1),
             (9, "other: assume (1);", 0), (10, "wire a = q;", -1), (11, "assert (q <= 3);", -1), (12, "// q <= 1;", -1),
             (13, "if (rst) begin idle <= 0; end", 0), (14, "", -1), (15, "also_q <= 1;", 1)):
         tally.compare(f"counting: {text!r}", counts.of("t.v", number, text), wanted)
@@ -346,25 +199,28 @@ def garbled(_, tally, __):
     every = set.intersection(*cut.values())
     tally.check("garbled: something is in no proof", {"f 18", "f 20", "r 18", "r 20"} < every, every)
     for name, edits in (
-            ("data", {"18 4 18": "18 9 0", "20 18": "20 13 1"}), ("data late", {"18 4 18": "18 16 1", "20 18": "20 11 20"}),
+            ("data", {"18 4 18": "18 9 0", "20 18": "20 13 1"}),
+            ("data late", {"18 4 18": "18 16 1", "20 18": "20 11 20"}),
             ("go at first", {"12 31": "12 31 1"}), ("go at any", {"12 31": "12 31 12"})):
         _, out, _ = run("-q", out=f"of {name}", circuit=garbling(lines, edits, set()))
         rows = {it: words["result"] for it, words in rows_of(f"of {name}").items() if it in holds}
         tally.compare(f"garbled: {name}", rows, holds)
     dropped = {line for line in every if line.startswith("c ")}
     run("-q", out="dropped", circuit=garbling(lines, {}, {int(line[2:]) for line in dropped}))
-    tally.compare("garbled: assumptions", {it: words["result"] for it, words in rows_of("dropped").items() if it in holds}, holds)
-    for name, edits in (("toggles", {"10 8 1": "10 9 1"}), ("toggles", {"10 8 1": "10 8"}), ("chain", {"16 14": "16 3"}),
-                        ("chain", {"14 12": "14 12 1"})):
+    tally.compare("garbled: assumptions",
+                  {it: words["result"] for it, words in rows_of("dropped").items() if it in holds}, holds)
+    for name, edits in (("toggles", {"10 8 1": "10 9 1"}), ("toggles", {"10 8 1": "10 8"}),
+                        ("chain", {"16 14": "16 3"}), ("chain", {"14 12": "14 12 1"})):
         run("-q", out="needed", circuit=garbling(lines, edits, set()))
         tally.compare(f"garbled: {name} needs {edits}", rows_of("needed")[name]["result"], "fails")
 
 
 def since(_, tally, __):
-    """A later version that differs in what no proof needs: its rows hold by the old proofs, and need the same. Where they
-    do not fit, the search finds others, about the whole circuit."""
+    """A later version that differs in what no proof needs: its rows hold by the old proofs, and need the same. Where
+    they do not fit, the search finds others, about the whole circuit."""
     lines = CIRCUIT.read_text().splitlines()
-    for name, edits, wanted in (("data", {"18 4 18": "18 9 0"}, set(NEEDS)), ("state", {"10 8 1": "10 8"}, set(NEEDS) - {"toggles"})):
+    for name, edits, wanted in (("data", {"18 4 18": "18 9 0"}, set(NEEDS)),
+                                ("state", {"10 8 1": "10 8"}, set(NEEDS) - {"toggles"})):
         run("-q", "--since", made("--cores"), out=name, circuit=garbling(lines, edits, set()))
         old = {it for it, row in rows_of(name).items() if row.get("origin") == "old proof"}
         tally.compare(f"since: {name}", old, wanted)
@@ -415,4 +271,5 @@ def failing(_, tally, __):
     called("cores", path, "--solver", lying, "--abc", "", "--drat2lrat", program, "-q")
     tally.check("failing: a solver that lies", why_rejected(path) is None, why_rejected(path))
     rows = rows_of(path)  # propagation alone shows the core of `chain`, so there the solver is right
-    tally.check("failing: a solver that lies has no core", all("needs" not in rows[it] for it in ("toggles", "assumed")), rows)
+    tally.check("failing: a solver that lies has no core",
+                all("needs" not in rows[it] for it in ("toggles", "assumed")), rows)

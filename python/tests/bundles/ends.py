@@ -20,7 +20,7 @@ from pathlib import Path
 from aig.verdicts import workers
 from aig.verdicts.decide import Bounds, Programs
 from aig.verdicts.design import read_aiger
-from aig.verdicts.session import Session
+from aig.verdicts.session import Plan, Session
 from aig.verdicts.tools import Stop
 from bundles.common import (
     COMMAND, FEW, HERE, SMALL_SOLVER, SOURCES, called, ended, judged, manifest_of, process_of, rows_of, same_manifests,
@@ -376,7 +376,7 @@ def executors(_, tally, __):
     """An executor of two processes writes the same bytes, also where the circuit goes to them by its path; a process
     that is killed costs no row but its own."""
     def searched(out, solver=SMALL_SOLVER):
-        session = Session(read_aiger(FEW), Path(out), Bounds(frames=4), Programs(solver, None))
+        session = Session(read_aiger(FEW), Path(out), Plan(Bounds(frames=4), Programs(solver, None)))
         session.open()
         try:
             with ProcessPoolExecutor(2) as pool:

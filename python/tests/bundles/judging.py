@@ -6,8 +6,8 @@ import xml.etree.ElementTree as tree
 from dataclasses import replace
 from pathlib import Path
 
-from aig.verdicts.checked import Wrong
 from aig.verdicts.decisions import Judge, checked, exit_status, judge, summary
+from aig.verdicts.row import Row
 from aig.verdicts.table import junit, next_command, open_notes, plain, text
 from believed import believed
 
@@ -32,7 +32,7 @@ GUARDED = {"run": ("holds", 0), "proof": ("vacuous", 4), "invariant": ("vacuous"
 
 def rows(kind, found, condition=None, alive="alive", files=()):
     frames = 4 if alive == "alive" else int(alive.split()[3])
-    constraints = believed(-1, "constraints", "", verdict=alive, by="alive" * (alive != "alive"), frames=frames)
+    constraints = believed(Row(-1, "constraints", ""), alive, "alive" * (alive != "alive"), frames)
     made = [constraints, _row(0, kind, found, files)]
     if condition:
         made.append(_row(1, "condition", condition))
@@ -41,8 +41,7 @@ def rows(kind, found, condition=None, alive="alive", files=()):
 
 
 def _row(position, kind, found, files=()):
-    verdict, by, frames = FOUND[found]
-    return believed(position, kind, "name", "file.v", 1, 2, verdict=verdict, by=by, frames=frames, files=files)
+    return believed(Row(position, kind, "name", "file.v", 1, 2), *FOUND[found], files)
 
 
 def status(table):
@@ -103,7 +102,7 @@ def together(tally):
         tally.compare(f"judging: doubts of their own{name}", [bool(it.doubt) for it in table], [False] * 3 + [True])
     tally.compare("judging: the sentence of these", summary(judge(made)),
                   "3 assertions: 2 hold, 1 vacuous; 1 cover: 1 reached")
-    constraints = believed(-1, "constraints", "")
+    constraints = Row(-1, "constraints", "")
     waits = Judge([constraints, *made]).waits_for(made[2])
     tally.compare("judging: what a verdict waits for", waits, [made[2], constraints, made[3]])
     for found, wanted in ((("run", "proof"), "all checked by aig"), (("run", "open"), "1 of 2 checked by aig"),
@@ -161,7 +160,7 @@ def said_of_each(tally):
 
 def notes(tally):
     """A note of several rows comes once with their names. Rows that are good have none to read."""
-    made = [believed(-1, "constraints", "")]
+    made = [Row(-1, "constraints", "")]
     made += [_row(k, "assert", found) for k, found in enumerate(("open",) * 5 + ("proof",))]
     for k, row in enumerate(made[1:]):
         row.name, row.notes = f"n{k}", ["late"] + ["other"] * (k > 2)
@@ -197,7 +196,7 @@ def denied(tally):
 
 def texts(tally):
     """Names that would be orders to a terminal, or parts of XML, are text."""
-    made = [believed(-1, "constraints", ""), *(_row(k, kind, found) for k, (kind, found) in enumerate(ALONE))]
+    made = [Row(-1, "constraints", ""), *(_row(k, kind, found) for k, (kind, found) in enumerate(ALONE))]
     table = judge(made)
     tally.compare("judging: the sentence", summary(table),
                   "6 assertions: 1 fail, 2 hold, 1 hold for the frames searched, 1 undecided, 1 left out; "

@@ -14,7 +14,7 @@ import aig
 from aig.verdicts.folder import Folder
 from aig.verdicts.manifest import FORMAT, FORMULAS, rows_as_json
 from aig.verdicts.recheck import recheck
-from aig.verdicts.row import name_of
+from aig.verdicts.row import Row, name_of
 from believed import believed
 from bundles.common import SMALL_SOLVER, called, judged, manifest_of, tool, why_rejected, write_manifest
 from library import supervised
@@ -97,17 +97,17 @@ def made(path, *lies):
     shutil.rmtree(path, ignore_errors=True)
     folder = Folder(Path(path))
     folder.put("circuit.aig", circuit(*lies))
-    alive = believed(-1, "constraints", "", verdict="alive", by="kept", frames=3, files={"witness": "alive.wit"})
+    alive = believed(Row(-1, "constraints", ""), "alive", "kept", 3, {"witness": "alive.wit"})
     folder.put("alive.wit", b"1\nb0\n0000000\n1\n1\n%d\n.\n" % ("constraints" not in lies))
     rows = [alive]
     for number in range(COUNT):
         for name, kind in KINDS.items():
             at = position(name, number)
             files = files_of(kind, at)
-            rows.append(believed(at, {"cover": "cover", "condition": "condition"}.get(name, "assert"),
-                                 f"{kind.starts.split(':')[-1]}{number}", of=at - 1 if name == "condition" else None,
-                                 verdict=kind.verdict, by=kind.by, frames=kind.frames,
-                                 files={role: name_of(at, role) for role in files}))
+            row = Row(at, {"cover": "cover", "condition": "condition"}.get(name, "assert"),
+                      f"{kind.starts.split(':')[-1]}{number}", of=at - 1 if name == "condition" else None)
+            rows.append(believed(row, kind.verdict, kind.by, kind.frames,
+                                 {role: name_of(at, role) for role in files}))
             for role, data in files.items():
                 folder.put(name_of(at, role), data)
     folder.write({"format": FORMAT, "name": "many", "notes": [], "bounds": {}, "options": {}, "sources": [],

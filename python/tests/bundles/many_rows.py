@@ -13,7 +13,7 @@ from aig.verdicts import sent
 from aig.verdicts.decide import Bounds, Programs, Task, decide
 from aig.verdicts.design import read_aiger
 from aig.verdicts.sent import Sent
-from aig.verdicts.session import Session
+from aig.verdicts.session import Plan, Session
 from aig.verdicts.workers import Work
 from bundles.common import manifest_of, tool
 
@@ -38,8 +38,8 @@ def written_by(process="self"):
 def unpacked_once(_, tally, __):
     """A circuit is unpacked, summed and written once, whatever the number of its rows: in this process and another."""
     Path("large.aag").write_bytes(large())
-    session = Session(read_aiger(Path("large.aag")), Path("out"), Bounds(frames=2),
-                      Programs(tool("says", SOLVER), None))
+    plan = Plan(Bounds(frames=2), Programs(tool("says", SOLVER), None))
+    session = Session(read_aiger(Path("large.aag")), Path("out"), plan)
     session.open(1)
     before, unpack = written_by(), mock.patch.object(sent.zlib, "decompress", side_effect=AssertionError)
     with unpack, mock.patch.object(OftenRead, "of", side_effect=OftenRead.of) as made:

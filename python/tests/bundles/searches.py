@@ -12,7 +12,7 @@ from pathlib import Path
 from bundles.common import (
     FEW, HERE, SMALL_SOLVER, by_symbol, called, judged, manifest_of, rows_of, same_manifests, tool, write_manifest,
 )
-from library.runs import EXAMPLES, SECONDS
+from library.runs import EXAMPLES
 
 CIRCUIT = HERE / "every.verdicts" / "circuit.aig"
 # What is known of each property, by its symbol, which says its kind.
@@ -69,8 +69,9 @@ def found(_, tally, __):
     tally.check("found: another search is made again", log.exists())
 
 
-def undecided(tally, name, solver, word, *more, seconds=None, verdict="undecided"):
-    """Both rows have this verdict with a note, standard error has the note alone, and the folder re-checks."""
+def undecided(tally, name, solver, word, *more, verdict="undecided"):
+    """Both rows have this verdict with a note, standard error has the note alone, and the folder re-checks. Returns the
+    seconds that it took."""
     begin = time.monotonic()
     status, _, err = run(*more, "--only", "two", "--only", "three", solver=solver, out=f"of_{name}", frames=3,
                          circuit=FEW)
@@ -83,8 +84,7 @@ def undecided(tally, name, solver, word, *more, seconds=None, verdict="undecided
     missing = [it for it in rows if word not in " ".join(it.get("notes", []))]
     tally.check(f"tools: {name}: a note", not missing, missing[:1])
     tally.check(f"tools: {name}: re-checked", judged(f"of_{name}") is not None)
-    if seconds:
-        tally.check(f"tools: {name}: its time", time.monotonic() - begin < seconds, time.monotonic() - begin)
+    return time.monotonic() - begin
 
 
 PROOF = 'for last; do :; done; '
@@ -107,7 +107,8 @@ def tools(_, tally, __):
     undecided(tally, "folder", tool("folder", f'{PROOF}mkdir "$last"; exit 20'), "status 20")
     undecided(tally, "no_model", tool("no_model", "exit 10"), "AigError")
     undecided(tally, "wrong_model", tool("wrong_model", 'echo "s SATISFIABLE"; echo "v 1 2 3 0"; exit 10'), "AigError")
-    undecided(tally, "hang", tool("hang", "sleep 1000"), "did not end", "--seconds", "1", "-j", "8", seconds=60)
+    took = undecided(tally, "hang", tool("hang", "sleep 1000"), "did not end", "--seconds", "1", "-j", "8")
+    tally.check("tools: hang: its time", took < 60, took)
     asleep = Path("asleep").resolve()
     undecided(tally, "background", tool("background", f"sleep 1000 & echo $! >> {asleep}; exit 3"), "status 3")
     undecided(tally, "full", tool("full", f'{PROOF}exec cat /dev/zero > "$last"'), "larger than --proof-megabytes",

@@ -2,7 +2,8 @@
 
 import aig
 from aig.verdicts.decisions import judge
-from aig.verdicts.page import Page
+from aig.verdicts.page import Page, Results
+from aig.verdicts.row import Row
 from aig.verdicts.simulated import of_facts
 from believed import believed
 
@@ -48,7 +49,7 @@ class Bundle:
         """A row that was found by something."""
         at = len(self.rows)
         line = at % len(HOSTILE) + 1
-        row = believed(at, kind, name, "a.v", line, line, by=by, frames=len(HOSTILE) + 1, notes=[name],
+        row = believed(Row(at, kind, name, "a.v", line, line, notes=[name]), by=by, frames=len(HOSTILE) + 1,
                        files={role: f"{at}.{role}" for role in files})
         self.files.update({f"{at}.{role}": data for role, data in files.items()})
         self.rows.append(row)
@@ -74,4 +75,4 @@ class Bundle:
     def page(self, unfinished=True):
         times = {row.position: 1.25 for row in self.rows[::2]}
         table = of_facts(self.manifest.get("simulated", {})).beside(judge(self.rows))
-        return Page(self.manifest, self.rows, table, self.files.__getitem__, times, unfinished).html()
+        return Page(Results(self.manifest, self.rows, self.files.__getitem__, times), table, unfinished).html()

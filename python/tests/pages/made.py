@@ -94,13 +94,13 @@ def opened(tally, file, folder, page):
 
 def pictured(tally, file, folder):
     """Each run of a bundle beside the plain simulator."""
-    told = Told(aig.read(os.path.join(folder, "circuit.aig")))
+    circuit = aig.read(os.path.join(folder, "circuit.aig"))
     rows = json.loads(Path(folder, "MANIFEST.json").read_text())["rows"]
     shown = 0
     for row in rows:
         if "witness" in row.get("files", {}):
-            witness = aig.Witness(told.circuit, Path(folder, row["files"]["witness"]).read_bytes())
-            shown += compared(tally, f"{file} b{row['position']}", told, witness, "both n")
+            witness = aig.Witness(circuit, Path(folder, row["files"]["witness"]).read_bytes())
+            shown += compared(tally, f"{file} b{row['position']}", witness, "both n")
     tally.check(f"{file}: pictures", shown > 1, shown)
 
 

@@ -2,7 +2,8 @@
 
 from aig.verdicts.cycles import cycles_of
 from aig.verdicts.decisions import judge
-from aig.verdicts.page import Page
+from aig.verdicts.page import Page, Results
+from aig.verdicts.row import Row
 from aig.verdicts.runs import comes_back
 from aig.verdicts.table import junit, text
 from believed import believed
@@ -32,8 +33,7 @@ def circuit(an_input, latches, bad):
 
 
 def run_of(frames, kind="assert"):
-    return believed(0, kind, "name", "a.v", 1, 1, verdict="confirmed", by="run", frames=frames,
-                    files={"witness": "0.wit"})
+    return believed(Row(0, kind, "name", "a.v", 1, 1), "confirmed", "run", frames, {"witness": "0.wit"})
 
 
 def moments(_, tally, __):
@@ -51,8 +51,8 @@ def moments(_, tally, __):
 
 
 def tables(tally):
-    rows = [run_of(5), believed(0, "assert", "other", verdict="unreachable", by="induction", frames=2,
-                                files={"base": "0.base.drat", "step": "0.step.drat"})]
+    rows = [run_of(5), believed(Row(0, "assert", "other"), "unreachable", "induction", 2,
+                                {"base": "0.base.drat", "step": "0.step.drat"})]
     for bad, wanted in ((10, "run of 5, at cycle 3"), (8, "run of 5, at cycle 4"), (12, "run of 5  ")):
         table = judge(rows, cycles_of(circuit("a", ("value_6", "when_6", "n"), bad)).at)
         said = text(table).splitlines()
@@ -83,7 +83,7 @@ def pages(tally):
         files = {"circuit.aig": SHIFT % names, "0.wit": WITNESS}
         table = judge([row], cycles_of(files["circuit.aig"]).at)
         manifest = {"name": "moments", "notes": [], "versions": {}, "sums": {}}
-        page = Page(manifest, [row], table, files.__getitem__, {}).html()
+        page = Page(Results(manifest, [row], files.__getitem__), table).html()
         said, first, sentence, marked = wanted
         title = f"moments: {names}, {kind}"
         tally.compare(f"{title}: the words", page.count(f"</i>{said}</span>"), 2)

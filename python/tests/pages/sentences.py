@@ -7,7 +7,8 @@ from dataclasses import replace
 
 from aig.verdicts.cycles import cycles_of
 from aig.verdicts.decisions import judge
-from aig.verdicts.page import Page
+from aig.verdicts.page import Page, Results
+from aig.verdicts.row import Row
 from believed import believed
 
 LATCHES = 30
@@ -42,8 +43,8 @@ class Bundle:
     def add(self, kind, by="", frames=0, notes=(), of=None, **files):
         at = len(self.rows)
         verdict = {"run": "confirmed", "": "undecided", "bound": f"unreachable within {frames}"}.get(by, "unreachable")
-        row = believed(at, kind, f"n{at}", "b.v" if at % 2 else "a.v", 2 * at + 1, 2 * at + 2, of, verdict, by, frames,
-                       {role: f"{at}.{role}" for role in files}, notes)
+        row = Row(at, kind, f"n{at}", "b.v" if at % 2 else "a.v", 2 * at + 1, 2 * at + 2, of, notes=[*notes])
+        believed(row, verdict, by, frames, {role: f"{at}.{role}" for role in files})
         self.files.update({f"{at}.{role}": data for role, data in files.items()})
         self.rows.append(row)
         return row
@@ -51,7 +52,7 @@ class Bundle:
     def page(self, unfinished=False):
         seconds = {0: 1.5, 1: 2.5, 3: 4.5}
         table = judge(self.rows, cycles_of(self.files["circuit.aig"]).at)
-        return Page(self.manifest, self.rows, table, self.files.__getitem__, seconds, unfinished).html()
+        return Page(Results(self.manifest, self.rows, self.files.__getitem__, seconds), table, unfinished).html()
 
 
 def source(name):
@@ -79,7 +80,7 @@ def each_kind(constraints=1):
     for _ in range(5):
         made.add("assert", "induction", 1, base=proof, step=step)
     made.add("assert", "run", 1, witness=run_of(19, 1))
-    kept = believed(-1, "constraints", "", verdict="alive", by="kept", frames=3, files={"witness": "alive.wit"})
+    kept = believed(Row(-1, "constraints", ""), "alive", "kept", 3, {"witness": "alive.wit"})
     made.files["alive.wit"] = b"1\nb0\n" + b"0" * LATCHES + b"\n0\n0\n0\n.\n"
     made.rows.insert(0, kept)
     return made
@@ -231,7 +232,7 @@ def denied(tally):
     table = judge(made.rows, cycles_of(made.files["circuit.aig"]).at)
     table[0] = table[0].denied_by("at 30 the simulator has another value")
     table[3] = replace(table[3], denied="the circuit is not as in a simulator")
-    page = Page(made.manifest, made.rows, table, made.files.__getitem__, {}).html()
+    page = Page(Results(made.manifest, made.rows, made.files.__getitem__), table).html()
     sections = sections_of(page)
     for at, look, words, said in ((0, "warn", "≠disagrees", "at 30 the simulator has another value."),
                                   (3, "warn", "✓holds", "")):
@@ -282,8 +283,8 @@ def others(tally):
             made.add(kind, ways[at % len(ways)], 1, base=b"", step=b"")
         page = made.page()
         tally.compare(f"sentences: {count} rows", (page.count("<section id="), page.count("<tr><td>")), (count, count))
-    many = [believed(at, "assert", f"n{at}", "a.v", 1, 2, verdict="confirmed", by="run", frames=1,
-                files={"witness": f"{at}.wit"}) for at in range(4)]
+    many = [believed(Row(at, "assert", f"n{at}", "a.v", 1, 2), "confirmed", "run", 1, {"witness": f"{at}.wit"})
+            for at in range(4)]
     made = Bundle()
     made.rows, made.files = many, {**made.files, **{f"{at}.wit": run_of(at, 1) for at in range(4)}}
     tally.check("sentences: failures are not folded", "rows</summary>" not in made.page())

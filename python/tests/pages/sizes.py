@@ -5,7 +5,8 @@ import re
 import aig
 from aig.verdicts import sections
 from aig.verdicts.decisions import judge
-from aig.verdicts.page import Page
+from aig.verdicts.page import Page, Results
+from aig.verdicts.row import Row
 from aig.verdicts.svg import Lane, waveform
 from believed import believed
 from pages.tags import read
@@ -16,12 +17,12 @@ NO_ROOM = "The page has no picture of this run"
 def page_of(circuit, rows, files):
     held = {"circuit.aig": aig.Circuit(circuit).file, **files}
     manifest = {"name": "sizes", "notes": [], "versions": {}, "sums": {}}
-    return Page(manifest, rows, judge(rows), held.__getitem__, {}).html()
+    return Page(Results(manifest, rows, held.__getitem__), judge(rows)).html()
 
 
 def of_run(position, frames):
-    return believed(position, "assert", f"n{position}", "a.v", 1, 10**5, verdict="confirmed", by="run", frames=frames,
-               files={"witness": f"{position}.wit"})
+    row = Row(position, "assert", f"n{position}", "a.v", 1, 10**5)
+    return believed(row, "confirmed", "run", frames, {"witness": f"{position}.wit"})
 
 
 def all_of_all(count):
@@ -53,8 +54,8 @@ def sizes(_, tally, __):
     wide = waveform([Lane("wide", ["01" * 10_000, "10" * 10_000] * 20)], 40, 39)
     tally.check("sizes: a vector", len(wide) < 100_000, len(wide))
     many = 1000
-    rows = [believed(at, "assert", f"n{at}", "a.v", 1, 10**5, verdict="unreachable within 1", by="bound", frames=1,
-                files={"base": f"{at}.base.drat"}) for at in range(many)]
+    rows = [believed(Row(at, "assert", f"n{at}", "a.v", 1, 10**5), "unreachable within 1", "bound", 1,
+                     {"base": f"{at}.base.drat"}) for at in range(many)]
     files = {f"{at}.base.drat": b"0\n" for at in range(many)}
     text = "\n".join(["aag 1 1 0 0 0 %d" % many, "2", *["2"] * many, ""]).encode()
     page = page_of(text, rows, {**files, "sources/a.v": b"x" * 5000 + b"\n" + (b"x" * 150 + b"\n") * 10**5})

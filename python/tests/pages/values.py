@@ -66,9 +66,10 @@ def witness_of(circuit, chance):
     return witness.reduced() if chance.randrange(2) else witness
 
 
-def compared(tally, name, told, witness, text="", chance=None):
+def compared(tally, name, witness, text="", chance=None):
     """Compares the picture of a witness with what it has to show, with values for x by chance or 0. Returns how many
     lanes it has."""
+    told = Told(witness.circuit)
     first, name_of_property, rows = witness.text.split(b"\n", 2)
     rows = bytes(chance.choice(b"01") if chance and it == ord("x") else it for it in rows).replace(b"x", b"0")
     whole = b"\n".join([first, name_of_property, rows])
@@ -103,15 +104,13 @@ def compared(tally, name, told, witness, text="", chance=None):
 def values(_, tally, __):
     """Random circuits with odd names, and one with a latch that keeps its value."""
     kept = aig.Circuit("aag 4 1 2 0 1 1\n2\n4 4 1\n6 2\n8\n8 4 6\nl0 q\n")
-    compared(tally, "kept", Told(kept), kept.witness(["0", "0", "1", "0"]).reduced())
+    compared(tally, "kept", kept.witness(["0", "0", "1", "0"]).reduced())
     chance, seen = random.Random(11), 0
     for number in range(200):
-        circuit = aig.Circuit(circuit_of(chance))
-        told = Told(circuit)
-        witness = witness_of(circuit, chance)
+        witness = witness_of(aig.Circuit(circuit_of(chance)), chance)
         if witness is not None:
             text = f"assert ({chance.choice(BASES)} == count);"
-            seen += compared(tally, str(number), told, witness, text, chance if number % 2 else None)
+            seen += compared(tally, str(number), witness, text, chance if number % 2 else None)
     tally.check("pictures were drawn", seen > 200, seen)
 
 
@@ -193,7 +192,7 @@ def frames(_, tally, __):
     wide = aig.Circuit("aag 70 70 0 0 0 1\n" + "".join(f"{2 * at + 2}\n" for at in range(70)) + "2\n"
                        + "".join(f"i{at} d[{at}]\n" for at in range(70)))
     witness = wide.witness(["1" + "0" * 62 + "1x" + "10101"])
-    tally.compare("a wide vector", compared(tally, "wide", Told(wide), witness), 1)
+    tally.compare("a wide vector", compared(tally, "wide", witness), 1)
     text = wide.simulate([witness.rows[0]] * 3).svg()
     tally.check("of a trace", "70&#39;b10101x1" in text and ">2…<" not in text)
 

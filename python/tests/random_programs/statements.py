@@ -8,7 +8,7 @@ from typing import List, Sequence, Tuple
 
 from .expressions import Expressions
 from .scope import Argument, LoopVariable, Names, Routine, Scope, Target, Variable
-from .tree import Tree, body, expression, item, joined, statement, text
+from .tree import Part, Tree, body, expression, item, joined, statement, text
 from .types import loop_variable
 
 # How often a part with a variable index that is written goes downward: it is rejected if it may end below bit 0.
@@ -265,16 +265,16 @@ class Statements:
             inside.tasks, inside.result = [], name
         lines.append(self.body(inside, 2, random.choice([1, 1, 2])))
         locals_of = text(f"reg {local.declared};\n{counts.declared}")
-        head = "task " if is_task else "function "
-        head += "" if is_static else self.random.choice(["", "", "automatic "])
-        return Routine(name, arguments, result), self._written(head, is_task, arguments, result, locals_of, lines)
+        word = "task" if is_task else "function"
+        automatic = "" if is_static else self.random.choice(["", "", "automatic "])
+        head = f"{word} {automatic}{result.name if is_task else result.declared}"
+        whole = self._written(head, arguments, [locals_of, "begin\n", *lines, f"end\nend{word}"])
+        return Routine(name, arguments, result), whole
 
-    def _written(self, head: str, is_task: bool, arguments: Sequence[Argument], result: Variable, locals_of: Tree,
-                 lines: List[Tree]) -> Tree:
-        head += result.name if is_task else result.declared
-        end = "end\nendtask" if is_task else "end\nendfunction"
+    def _written(self, head: str, arguments: Sequence[Argument], body: Sequence[Part]) -> Tree:
+        """The text of a routine: its arguments are declared in its head, or after it."""
         if self.random.random() < 0.5 or not arguments:
             declared = [f"{it.way} {it.variable.declared};\n" for it in arguments]
-            return item(head, ";\n", *declared, locals_of, "begin\n", *lines, end)
+            return item(head, ";\n", *declared, *body)
         declared = [f"{it.way} {it.variable.declared}" for it in arguments]
-        return item(head, "(", ", ".join(declared), ");\n", locals_of, "begin\n", *lines, end)
+        return item(head, "(", ", ".join(declared), ");\n", *body)

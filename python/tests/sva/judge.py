@@ -28,15 +28,29 @@ SECONDS = 120
 
 @dataclass(frozen=True)
 class Property:
-    """A property in a module of its own; one that is bound is in a checker."""
+    """A property in a module of its own; one that is bound is in a checker.
+
+    form      what it means
+    words     the same as text
+    has_off   whether an input disables it
+    declared  the named properties and sequences that its words use
+    """
 
     label: str
     form: Tuple
-    is_cover: bool
-    has_off: bool
-    edge: str
-    is_bound: bool
-    text: str
+    words: str
+    edge: str = "posedge"
+    has_off: bool = False
+    is_cover: bool = False
+    is_bound: bool = False
+    declared: str = ""
+
+    @property
+    def text(self) -> str:
+        off = "disable iff (r) " if self.has_off else ""
+        kind = "cover" if self.is_cover else "assert"
+        stated = f"{self.label}: {kind} property (@({self.edge} clk) {off}{self.words});"
+        return f"{self.declared} {stated}" if self.declared else stated
 
     @property
     def source(self) -> str:
@@ -61,13 +75,6 @@ def texts_in(form: Tuple) -> Iterator[str]:
             yield from texts_in(part)
 
 
-def stated(label: str, form: Tuple, words: str, edge: str = "posedge", has_off: bool = False, is_cover: bool = False,
-           is_bound: bool = False) -> Property:
-    off = "disable iff (r) " if has_off else ""
-    kind = "cover" if is_cover else "assert"
-    return Property(label, form, is_cover, has_off, edge, is_bound, f"{label}: {kind} property (@({edge} clk) {off}{words});")
-
-
 def random_properties(rng: random.Random, count: int) -> Iterator[Tuple[Property, str]]:
     """Properties, and why each is rejected; empty where it is not."""
     taken = 0
@@ -76,7 +83,7 @@ def random_properties(rng: random.Random, count: int) -> Iterator[Tuple[Property
         maker = Maker(rng, rng.random() < 0.7, is_bound)
         form, words = maker.sequence(3, True) if is_cover else maker.property(2, rng.random() < 0.5)
         edge = rng.choice(["posedge", "posedge", "negedge"])
-        it = stated(f"p{taken}", form, words, edge, rng.random() < 0.5, is_cover, is_bound)
+        it = Property(f"p{taken}", form, words, edge, rng.random() < 0.5, is_cover, is_bound)
         try:
             translated({"x.sv": it.source}, ["x.sv"], [])
         except Untranslated as error:

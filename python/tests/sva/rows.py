@@ -2,10 +2,9 @@
 
 from __future__ import annotations
 
-from dataclasses import replace
 from typing import Iterator, List, Tuple
 
-from .judge import Property, stated
+from .judge import Property
 
 
 def e(text: str) -> Tuple:
@@ -87,19 +86,19 @@ NAMED = [
 def named() -> Iterator[Property]:
     """Named properties and sequences with arguments."""
     for at, (declared, form, words) in enumerate(NAMED):
-        it = stated(f"n{at}", form, words)
-        yield replace(it, text=f"{declared} {it.text}")
+        yield Property(f"n{at}", form, words, declared=declared)
 
 
 def operators() -> Iterator[Property]:
     """Each operator, in an assertion, under `disable iff`, in an antecedent, and in a cover."""
     for at, (form, words) in enumerate(SEQUENCES):
-        yield stated(f"s{at}", ("implication", form, False, seq(D)), f"({words}) |-> d", "negedge" if at % 5 == 0 else "posedge")
-        yield stated(f"t{at}", ("implication", A, at % 2 == 0, seq(form)), f"a {'|=>' if at % 2 == 0 else '|->'} {words}", has_off=True)
-        yield stated(f"c{at}", form, words, has_off=at % 2 == 0, is_cover=True)
+        before, after = ("implication", form, False, seq(D)), ("implication", A, at % 2 == 0, seq(form))
+        yield Property(f"s{at}", before, f"({words}) |-> d", "negedge" if at % 5 == 0 else "posedge")
+        yield Property(f"t{at}", after, f"a {'|=>' if at % 2 == 0 else '|->'} {words}", has_off=True)
+        yield Property(f"c{at}", form, words, has_off=at % 2 == 0, is_cover=True)
     yield from named()
     for at, (form, words) in enumerate(PROPERTIES):
-        yield stated(f"p{at}", form, words, has_off=at % 2 == 0)
+        yield Property(f"p{at}", form, words, has_off=at % 2 == 0)
 
 
 def first_edges() -> Iterator[Property]:
@@ -112,5 +111,5 @@ def first_edges() -> Iterator[Property]:
         ]
         for number, (form, text) in enumerate(forms):
             is_bound = words in PASTS and number == at % 4 and "q" not in words
-            yield stated(f"f{at}_{number}", form, text, "negedge" if number == 3 else "posedge", is_bound=is_bound)
+            yield Property(f"f{at}_{number}", form, text, "negedge" if number == 3 else "posedge", is_bound=is_bound)
         at += 1

@@ -150,8 +150,8 @@ class Bundle:
         expect(sum_of(data) == self.sums.get(name), f"{name} has another sum")
         return data
 
-    def circuit(self, sums: bool = True) -> bytes:
-        return OftenRead(self.summed(CIRCUIT) if sums else self.read(CIRCUIT))
+    def circuit(self) -> bytes:
+        return OftenRead(self.summed(CIRCUIT))
 
     def source(self, name: str) -> Optional[bytes]:
         """A source, if it is there."""

@@ -11,7 +11,7 @@ from .decide import Bounds, Programs
 from .design import Assertion, Design
 from .manifest import FORMULAS, SCRIPT_OF_YOSYS
 from .row import Row
-from .session import Session
+from .session import Plan, Session
 from .simulated import of_facts
 from .timing import of_facts as timing_of
 from .tools import Stop
@@ -26,7 +26,7 @@ def session_of(path: Path, programs: Programs, stop: Optional[Stop] = None) -> S
         raise Wrong("bounds of MANIFEST.json") from None
     left = {row.position for row in bundle.rows if row.is_left_out}
     only = {row.position for row in bundle.rows} - left if left else None
-    session = Session(design_of(bundle), path, bounds, programs, only, stop)
+    session = Session(design_of(bundle), path, Plan(bounds, programs, only), stop)
     session.versions = {**session.versions, **bundle.manifest["versions"], "formulas": FORMULAS}
     session.simulated = of_facts(bundle.manifest["simulated"])
     return session

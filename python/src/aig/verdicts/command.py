@@ -11,7 +11,7 @@ import signal
 import sys
 from dataclasses import replace
 from pathlib import Path
-from typing import Any, Callable, Collection, Dict, List, Optional, Sequence, Set
+from typing import Callable, Collection, List, Optional, Sequence, Set
 
 from .._program import program
 from ..errors import AigError, Crashed
@@ -21,7 +21,7 @@ from .bundle import Bundle
 from .bundled import session_of
 from .checked import CIRCUIT, Wrong
 from .compare import against, compare, last_line, write
-from .decide import Bounds, Hint, Narrow, Programs
+from .decide import Bounds, Hint, Narrow
 from .decisions import INTERRUPTED, OPEN, REJECTED, UNREADABLE, Judged, asked, compared, exit_status
 from .decisions import line_of_recheck, line_of_run
 from .demo import written
@@ -31,7 +31,7 @@ from .folder import PAGE, pack, write_whole
 from .made import made, reading_of
 from .manifest import as_json, rows_as_json
 from .matching import Version
-from .page import Page
+from .page import Page, Results
 from .programs import lost_without, programs_of, tracing
 from .progress import Progress, waiting
 from .recheck import Unanswered, is_kept, is_older, recheck, same_design, same_sources
@@ -42,7 +42,7 @@ from .runs import comes_back
 from .sections import Pictures
 from .needs_page import Proofs
 from .sentences import NOT_COMPARED, no_proof_needs, of_needs, short_runs
-from .session import STOPPED, Session
+from .session import STOPPED, Plan, Session
 from .sides import side_of, table_of
 from .since import Since, opened, since_of
 from .simulated import Simulated, of_facts
@@ -109,10 +109,9 @@ def _say_of_needs(table: Sequence[Judged], circuit: bytes) -> None:
         _said(said)
 
 
-def _page(to: Path, manifest: Dict[str, Any], rows: List[Row], read: Callable[[str], bytes], seconds: Dict[int, float],
-          is_unfinished: bool, pictures: Optional[Pictures] = None) -> None:
-    table = table_of(rows, read(CIRCUIT), of_facts(manifest.get("simulated", {})))
-    page = Page(manifest, rows, table, read, seconds, is_unfinished, pictures)
+def _page(to: Path, results: Results, is_unfinished: bool, pictures: Optional[Pictures] = None) -> None:
+    table = table_of(results.rows, results.read(CIRCUIT), of_facts(results.manifest.get("simulated", {})))
+    page = Page(results, table, is_unfinished, pictures)
     write_whole(to, page.html().encode("utf-8", "replace"))
 
 
@@ -138,8 +137,8 @@ def _run(words: argparse.Namespace, stop: Stop) -> int:
     path = words.out or Path(f"{design.name}.verdicts")
     bounds = Bounds(words.frames, words.conflicts, words.seconds, words.megabytes, words.proof_megabytes)
     named = opened(words.since, path)
-    session = Session(design, path, bounds, programs, only, stop)
-    session.depths = {it: frames for name, frames in words.depths for it in chosen(design, [name]) or ()}
+    depths = {it: frames for name, frames in words.depths for it in chosen(design, [name]) or ()}
+    session = Session(design, path, Plan(bounds, programs, only, depths), stop)
     with contextlib.closing(session):
         session.open(words.jobs)
         since = since_of(named, str(words.since), session)
@@ -160,9 +159,10 @@ def _renewing(session: Session) -> Callable[[bool], None]:
     pictures: Pictures = {}
 
     def renew(is_unfinished: bool = True) -> None:
-        folder, rows = session.folder, session.rows
+        folder = session.folder
         try:
-            _page(folder.path / PAGE, session.manifest(), rows, folder.read, session.seconds, is_unfinished, pictures)
+            results = Results(session.manifest(), session.rows, folder.read, session.seconds)
+            _page(folder.path / PAGE, results, is_unfinished, pictures)
         except (AigError, Crashed):
             folder.remove(PAGE)  # it is about what was known before
             if not is_unfinished:  # else the search goes on without a page
@@ -317,7 +317,7 @@ def again(words: argparse.Namespace, stop: Stop) -> int:
     if changed:
         write(changed, words.page, words.junit, {})
     elif words.page:
-        _page(words.page, shown.manifest, shown.rows, shown.read, {}, False)
+        _page(words.page, Results(shown.manifest, shown.rows, shown.read), False)
     if words.junit and not changed:
         write_whole(words.junit, junit(bundle.manifest["name"], table, {}).encode("utf-8", "replace"))
     if words.json:

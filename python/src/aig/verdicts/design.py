@@ -311,7 +311,8 @@ class _Made:
         properties = [(positions[cell], symbol(it.kind, it.name)) for cell, it in zip(self._cells, self.assertions)]
         assumptions = _assumptions(modules, flat, assumed)
         ranges = Ranges(module, ranges_of_words(runs.text("tree").splitlines()))
-        self.circuit = names.named((folder / "made.aig").read_bytes(), hidden, ports, properties, assumptions, ranges)
+        naming = names.Naming(hidden, ports, properties, assumptions, ranges)
+        self.circuit = names.named((folder / "made.aig").read_bytes(), naming)
 
     def _rows(self, found: Dict[str, _Check], order: Sequence[str], wanted: int) -> None:
         """A row for each assertion and cover, and after an assertion one for its condition, if it has any."""

@@ -4,6 +4,7 @@ from __future__ import annotations
 
 import re
 from collections import Counter
+from dataclasses import dataclass
 from typing import Any, Dict, Iterator, List, Mapping, Sequence, Set, Tuple
 
 from .._program import run as aig
@@ -243,15 +244,32 @@ def _natural(word: str) -> str:
     return re.sub(r"\d+", lambda it: it[0].zfill(9), word)
 
 
-def named(circuit: bytes, hidden: Dict[int, str], ports: Sequence[str], properties: Sequence[Tuple[int, str]],
-          assumptions: Sequence[str], ranges: Ranges) -> bytes:
-    """The circuit with a name for each signal, and without free values that nothing reads. `ports` are those of the design,
-    in its order. The properties are these, by their positions of now and their symbols. The outputs are the output ports of
-    the design, and then the named wires that are no inputs, latches or other wires. Bits are in the order of their weight,
-    so those of a vector [2:9] have falling indices, and are no vector for `aig`: it would show their value turned around."""
-    parts = _Parts(circuit)
+@dataclass(frozen=True)
+class Naming:
+    """What the entries of a circuit are to be called.
+
+    hidden       names of literals whose wires Yosys made
+    ports        those of the design, in its order
+    properties   their positions in the circuit and their symbols, in the order that they get
+    assumptions  their names, in the order of the circuit
+    ranges       those by which the sources declare wires
+    """
+
+    hidden: Mapping[int, str]
+    ports: Sequence[str]
+    properties: Sequence[Tuple[int, str]]
+    assumptions: Sequence[str]
+    ranges: Ranges
+
+
+def named(circuit: bytes, naming: Naming) -> bytes:
+    """The circuit with a name for each signal, and without free values that nothing reads. The outputs are the output
+    ports of the design, and then the named wires that are no inputs, latches or other wires. Bits are in the order of
+    their weight, so those of a vector [2:9] have falling indices, and are no vector for `aig`: it would show their
+    value turned around."""
+    parts, hidden = _Parts(circuit), naming.hidden
     parts.hash()
-    rank = {port: k for k, port in enumerate(ports)}
+    rank = {port: k for k, port in enumerate(naming.ports)}
     known: Dict[str, bytes] = {}
     read, widths = parts.read(), Counter(_wire(word)[0] for (letter, _), word in parts.words() if letter == "o")
     wires: Dict[bytes, List[str]] = {}
@@ -282,13 +300,13 @@ def named(circuit: bytes, hidden: Dict[int, str], ports: Sequence[str], properti
         for k, row in enumerate(rows):
             parts.symbols[letter, k] = " ".join(row[-1]).encode("latin-1", "replace")
     _outputs(parts, known, rank)
-    parts.sections["b"] = [parts.sections["b"][position] for position, _ in properties]
-    for k, (_, text) in enumerate(properties):
+    parts.sections["b"] = [parts.sections["b"][position] for position, _ in naming.properties]
+    for k, (_, text) in enumerate(naming.properties):
         parts.symbols["b", k] = text.encode()
     for entry, symbol in parts.symbols.items():
         if entry[0] in "ilo":
-            parts.symbols[entry] = " ".join(map(ranges.declared, _words(symbol))).encode("latin-1", "replace")
-    for k, name in enumerate(assumptions):
+            parts.symbols[entry] = " ".join(map(naming.ranges.declared, _words(symbol))).encode("latin-1", "replace")
+    for k, name in enumerate(naming.assumptions):
         parts.symbols["c", k] = name.encode()
     return parts.file()
 

@@ -72,7 +72,7 @@ class Narrowing:
     def __init__(self, task: Task, circuit: bytes, folder: Path, stop: Stop, found: Found):
         self.task, self.found = task, found
         self.narrow: Narrow = task.narrow or Narrow(Hint("", 0))
-        self.ask = Questions(circuit, task.bounds, task.programs, folder, stop, found.notes)
+        self.ask = Questions(circuit, task, folder, stop, found.notes)
         self.pieces = pieces_of(circuit)
         self.core: Optional[Core] = None  # the smallest one so far
         self.runs: Dict[Piece, Tuple[int, bytes]] = {}  # frames and witnesses where a piece is cut alone

@@ -2,7 +2,8 @@
 
 from __future__ import annotations
 
-from typing import Any, Callable, Dict, List, Optional, Sequence
+from dataclasses import dataclass, field
+from typing import Any, Callable, Dict, List, Mapping, Optional, Sequence
 
 import aig
 
@@ -28,27 +29,42 @@ FOLDED = ("holds", "reached")
 POLICY = "default-src 'none'; style-src 'unsafe-inline'; base-uri 'none'; form-action 'none'"
 
 
-class Page:
-    """The page of some rows.
+@dataclass(frozen=True)
+class Results:
+    """What a folder of results has.
 
-    read     the bytes of a file of the bundle
-    seconds  how long the search for each row took, by position
-    pictures those of earlier pages of the same circuit, to which this page adds its own
+    manifest  what MANIFEST.json says
+    rows      its rows, with their verdicts
+    read      the bytes of one of its files
+    seconds   how long the search for each row took, by position, if that is known
     """
 
-    def __init__(self, manifest: Dict[str, Any], rows: Sequence[Row], table: Sequence[Judged],
-                 read: Callable[[str], bytes], seconds: Dict[int, float], unfinished: bool = False,
+    manifest: Dict[str, Any]
+    rows: Sequence[Row]
+    read: Callable[[str], bytes]
+    seconds: Mapping[int, float] = field(default_factory=dict)
+
+
+class Page:
+    """The page of results.
+
+    table       what their rows mean
+    unfinished  whether a search was stopped, or goes on
+    pictures    those of earlier pages of the same circuit, to which this page adds its own
+    """
+
+    def __init__(self, results: Results, table: Sequence[Judged], unfinished: bool = False,
                  pictures: Optional[Pictures] = None):
-        self.manifest, self.rows, self.read = manifest, rows, read
-        self.seconds, self.unfinished, self.pictures = seconds, unfinished, pictures
+        self.manifest, self.rows, self.read = results.manifest, results.rows, results.read
+        self.seconds, self.unfinished, self.pictures = results.seconds, unfinished, pictures
         groups = list(GROUPS)
         self.summary = summary(table)
         shown = [it for it in table if it.result in groups]  # the summary alone counts what was left out
         self.proofs = Proofs.of(table)
         self.table = sorted(shown, key=lambda it: (groups.index(it.result), not it.doubt))
-        self.circuit = aig.Circuit(OftenRead(read("circuit.aig")))
+        self.circuit = aig.Circuit(OftenRead(self.read("circuit.aig")))
         self.facts = self.circuit.info()
-        self.sources = Sources(read)
+        self.sources = Sources(self.read)
 
     def html(self) -> str:
         name = escape(self.manifest["name"])

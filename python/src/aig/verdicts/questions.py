@@ -12,9 +12,9 @@ from typing import Dict, List, Mapping, NamedTuple, Optional, Sequence, Tuple
 from ..errors import AigError
 from . import solvers
 from .checked import Checked, Claim, Rejected, check, parts_of
-from .decide import Bounds, Programs
+from .decide import Task
 from .hints import by_name, claim_of, has_hints
-from .tools import Clock, Ran, Stop, ToolFailed, ask, run
+from .tools import Clock, Limits, Ran, Stop, ToolFailed, ask, run
 
 # All questions of a property together get so many times the seconds of one.
 SEARCH_FACTOR = 5
@@ -40,10 +40,10 @@ class Confirmed(NamedTuple):
 
 
 class Questions:
-    """All questions of one task. Notes say what went wrong with one."""
+    """All questions of one task about a circuit. Notes say what went wrong with one."""
 
-    def __init__(self, circuit: bytes, bounds: Bounds, programs: Programs, folder: Path, stop: Stop, notes: List[str]):
-        self.circuit, self._bounds, self._programs = circuit, bounds, programs
+    def __init__(self, circuit: bytes, task: Task, folder: Path, stop: Stop, notes: List[str]):
+        self.circuit, self._bounds, self._programs = circuit, task.bounds, task.programs
         self._folder, self.stop, self._notes = folder, stop, notes
         self._clock = Clock()
 
@@ -167,7 +167,8 @@ class Questions:
             for file, data in files.items():
                 (folder / file).write_bytes(data)
             bounds = self._bounds
-            ran = run(words, folder, seconds, self.stop, bounds.megabytes, bounds.proof_megabytes)
+            limits = Limits(seconds, megabytes=bounds.megabytes, file_megabytes=bounds.proof_megabytes)
+            ran = run(words, folder, limits, self.stop)
             paths = [folder / name for name in made]
             return ran, [path.read_bytes() if path.is_file() else None for path in paths]
 

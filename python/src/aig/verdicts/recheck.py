@@ -9,7 +9,6 @@ from concurrent.futures import ThreadPoolExecutor
 from pathlib import Path
 from typing import Callable, List, Optional, Sequence, Tuple
 
-from .._program import program
 from ..entries import listed, readable
 from ..errors import AigError, Crashed
 from .bundle import MOST_BYTES, Bundle
@@ -93,15 +92,15 @@ def meant(error: Rejected, label: str, is_older: bool) -> Wrong:
     return error
 
 
-def recheck(path: Path, sums: bool = True, say: Callable[[Row], None] = lambda _: None, jobs: int = 0,
-            stop: Stop = Stop(), most_bytes: int = MOST_BYTES) -> Bundle:
+def recheck(path: Path, say: Callable[[Row], None] = lambda _: None, jobs: int = 0, stop: Stop = Stop(),
+            most_bytes: int = MOST_BYTES) -> Bundle:
     """Checks a bundle, or raises a Wrong."""
     bundle = Bundle(path, most_bytes)
-    circuit = bundle.circuit(sums)
+    circuit = bundle.circuit()
     check_names(bundle.rows, _properties(circuit, stop), bool(bundle.manifest["options"]))
     if not is_older(bundle):
         expect(is_kept(bundle.rows[0], circuit, stop), "no run shows that the assumptions can be kept")
-    read = bundle.summed if sums else bundle.read
+    read = bundle.summed
     for name in bundle.sums:
         if name.startswith(("sources/", "translated/")) or name == SCRIPT_OF_YOSYS:
             read(name)

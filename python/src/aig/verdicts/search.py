@@ -61,7 +61,7 @@ class Search:
 
     def __init__(self, task: Task, circuit: bytes, folder: Path, stop: Stop, found: Found):
         self.task, self.found, self.engines = task, found, {*task.programs.engines}
-        self.ask = Questions(circuit, task.bounds, task.programs, folder, stop, found.notes)
+        self.ask = Questions(circuit, task, folder, stop, found.notes)
         self.known = 0  # there is no run of so many frames
         self.base = b""  # the proof of that
         self.gave_up = False  # the solver had no answer

@@ -9,10 +9,10 @@ import sys
 import tempfile
 from concurrent.futures import Future, ThreadPoolExecutor, wait
 from contextlib import nullcontext
-from dataclasses import asdict, replace
+from dataclasses import asdict, dataclass, field, replace
 from pathlib import Path
 from queue import SimpleQueue
-from typing import Any, Callable, Collection, Dict, List, Optional, Sequence, Tuple, Union
+from typing import Any, Callable, Collection, Dict, List, Mapping, Optional, Sequence, Tuple, Union
 
 from .._program import OftenRead, program
 from .bundle import MOST_BYTES, Bundle
@@ -42,24 +42,38 @@ MOST_PROOFS = 64
 MOST_SECONDS = 10.0**9
 
 
+@dataclass(frozen=True)
+class Plan:
+    """What a session searches, and how.
+
+    bounds    of the search for a row
+    programs  that it may run
+    only      the positions of the rows that are searched; None for all
+    depths    the frames of some rows, by position, which have bounds of their own
+    """
+
+    bounds: Bounds = Bounds()
+    programs: Programs = Programs()
+    only: Optional[Collection[int]] = None
+    depths: Mapping[int, int] = field(default_factory=dict)
+
+
 class Session:
     """The verdicts of a design, in a folder that is always a bundle."""
 
-    def __init__(self, design: Design, path: Path, bounds: Bounds = Bounds(), programs: Programs = Programs(),
-                 only: Optional[Collection[int]] = None, stop: Optional[Stop] = None):
+    def __init__(self, design: Design, path: Path, plan: Plan = Plan(), stop: Optional[Stop] = None):
         self.design = replace(design, circuit=OftenRead.of(design.circuit))
-        self.bounds, self.programs, self.only = bounds, programs, only
+        self.bounds, self.programs, self.only, self.depths = plan.bounds, plan.programs, plan.only, plan.depths
         self.stop = stop or Stop()
         self.rows = [Row(CONSTRAINTS, "constraints", "")]
         self.rows += [Row(it.position, it.kind, it.name, it.file, it.first, it.last, it.of,
-                          only is not None and it.position not in only) for it in design.assertions]
+                          self.only is not None and it.position not in self.only) for it in design.assertions]
         self.seconds: Dict[int, float] = {}
         self.hints: Dict[int, Hint] = {}  # what is known of an earlier version, by position
-        self.depths: Dict[int, int] = {}  # the frames of some rows, which have bounds of their own
         self.rejected: List[str] = []
         self.older = 0  # earlier rows whose proofs are about formulas of an older `aig`
         self.versions = self._versions()
-        self.folder = Folder(path, max(MOST_BYTES, bounds.proof_megabytes << 20 or sys.maxsize))
+        self.folder = Folder(path, max(MOST_BYTES, self.bounds.proof_megabytes << 20 or sys.maxsize))
         self.simulated = Simulated()
         self._sum = sum_of(self.design.circuit)
         self._goes_further = True  # than an earlier run
@@ -188,7 +202,8 @@ class Session:
     def _with_hints(self, checked: Checked, files: Dict[str, bytes], notes: List[str]) -> Checked:
         """The check of the same with hints in its proofs, if a program for that was named."""
         with tempfile.TemporaryDirectory(prefix="aig-verdicts-") as folder:
-            ask = Questions(self.design.circuit, self.bounds, self.programs, Path(folder), self.stop, notes)
+            task = Task(None, checked.claim.position, self.bounds, self.programs)
+            ask = Questions(self.design.circuit, task, Path(folder), self.stop, notes)
             hinted = ask.hinted(checked.claim, files)
         if hinted is None:
             return checked

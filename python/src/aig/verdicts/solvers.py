@@ -7,7 +7,7 @@ from functools import lru_cache
 from pathlib import Path
 from typing import List
 
-from .tools import Stop, ToolFailed, found, run
+from .tools import Limits, Stop, ToolFailed, found, run
 
 HELP_SECONDS = 4.0
 
@@ -32,6 +32,6 @@ def writes_hints(program: str) -> bool:
 def _help(path: str) -> bytes:
     with tempfile.TemporaryDirectory(prefix="aig-verdicts-") as folder:
         try:
-            return run([path, "--help"], Path(folder), HELP_SECONDS, Stop(), file_megabytes=1).out
+            return run([path, "--help"], Path(folder), Limits(HELP_SECONDS, file_megabytes=1), Stop()).out
         except (ToolFailed, OSError):
             return b""

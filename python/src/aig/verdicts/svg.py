@@ -259,19 +259,21 @@ class _Picture:
         before: Optional[Tuple[int, str]] = None
         edges = () if self.failing is None else (self.failing, self.failing + 1)
         for begin, end, value, filled, key in _spans(lane, self.shown, edges):
+            box = Box(self.x(begin), self.x(end), y, key)
             if set(value) == {"x"}:
-                yield self._unknown(self.x(begin), self.x(end), y, len(value), key)
+                yield self._unknown(box, len(value))
             elif len(value) == 1:
                 turns = before is not None and before[0] == begin and before[1] not in ("x", value)
-                yield _level(self.x(begin), self.x(end), y, value, turns, key)
+                yield _level(box, value, turns)
             else:
-                yield _vector(self.x(begin), self.x(end), y, value, key)
+                yield _vector(box, value)
             if len(value) > 1 or filled:
-                yield _number_of(self.x(begin), self.x(end), y, digits(value, filled), key)
+                yield _number_of(box, digits(value, filled))
             before = end, value
 
-    def _unknown(self, x: int, to: int, y: int, bits: int, key: bool) -> str:
-        return (f'<rect class="xb{" k" if key else ""}" x="{x + 1}" y="{y + 2}" width="{to - x - 2}" '
+    def _unknown(self, box: Box, bits: int) -> str:
+        x, width = box.x + 1, box.to - box.x - 2
+        return (f'<rect class="xb{" k" if box.key else ""}" x="{x}" y="{box.y + 2}" width="{width}" '
                 f'height="{LANE - 4}" fill="url(#{self.ident})"><title>{_start("x" * bits)}: any value</title></rect>')
 
 
@@ -297,22 +299,47 @@ def _start(bits: str) -> str:
     return bits if len(bits) <= MOST_BITS else f"{bits[:MOST_BITS]}…"
 
 
-def _level(x: int, to: int, y: int, value: str, turns: bool, key: bool) -> str:
-    high, low = y + 2, y + LANE - 2
-    level, other = (high, low) if value == "1" else (low, high)
-    step = f"M{x} {other}V{level}" if turns else f"M{x} {level}"
-    return f'<path class="{"k" if key else "l"}" d="{step}H{to}"/>'
+@dataclass(frozen=True)
+class Box:
+    """Where a value is drawn.
+
+    x, to  where it begins and ends
+    y      the top of its lane
+    key    whether it is a cause
+    """
+
+    x: int
+    to: int
+    y: int
+    key: bool
+
+    @property
+    def high(self) -> int:
+        return self.y + 2
+
+    @property
+    def low(self) -> int:
+        return self.y + LANE - 2
 
 
-def _vector(x: int, to: int, y: int, value: str, key: bool) -> str:
-    high, low, middle = y + 2, y + LANE - 2, y + LANE // 2
+def _level(box: Box, value: str, turns: bool) -> str:
+    """The line of a bit, which begins at its other level if it turns."""
+    level, other = (box.high, box.low) if value == "1" else (box.low, box.high)
+    step = f"M{box.x} {other}V{level}" if turns else f"M{box.x} {level}"
+    return f'<path class="{"k" if box.key else "l"}" d="{step}H{box.to}"/>'
+
+
+def _vector(box: Box, value: str) -> str:
+    """The outline of a value of several bits."""
+    x, to, high, low, middle = box.x, box.to, box.high, box.low, box.y + LANE // 2
     outline = f"M{x + 1} {middle}L{x + 5} {high}H{to - 5}L{to - 1} {middle}L{to - 5} {low}H{x + 5}Z"
-    return f'<path class="b{" k" if key else ""}" d="{outline}"><title>{len(value)}&#39;b{_start(value)}</title></path>'
+    title = f"<title>{len(value)}&#39;b{_start(value)}</title>"
+    return f'<path class="b{" k" if box.key else ""}" d="{outline}">{title}</path>'
 
 
-def _number_of(x: int, to: int, y: int, parts_of_it: Sequence[Digits], key: bool) -> str:
+def _number_of(box: Box, parts_of_it: Sequence[Digits]) -> str:
     """The digits of a value, as many as there is room for."""
-    room = int((to - x - 8) / LETTER)
+    room = int((box.to - box.x - 8) / LETTER)
     is_cut = sum(len(it.text) for it in parts_of_it) > room
     left = max(room - 1, 0) if is_cut else room
     shown = []
@@ -320,5 +347,6 @@ def _number_of(x: int, to: int, y: int, parts_of_it: Sequence[Digits], key: bool
         text, left = text[:left], left - len(text[:left])
         shown.append(f'<tspan class="f">{text}</tspan>' if are_free and text else text)
     said = "".join(shown) + "…" * is_cut
-    return (f'<text class="{"v" if key else "pale"}" x="{(x + to) / 2:g}" y="{y + LANE - 6}" text-anchor="middle">'
-            f"{said}</text>" if said else "")
+    kind, middle = "v" if box.key else "pale", (box.x + box.to) / 2
+    return (f'<text class="{kind}" x="{middle:g}" y="{box.y + LANE - 6}" text-anchor="middle">{said}</text>'
+            if said else "")

@@ -140,18 +140,32 @@ def soon(seconds: float) -> Iterator[Stop]:
         timer.cancel()
 
 
-def run(words: Sequence[str], folder: Path, seconds: float, stop: Stop, megabytes: int = 0,
-        file_megabytes: int = 0, processor_seconds: int = 0) -> Ran:
-    """Runs a program in a folder, with limits on its memory, on each file that it writes and on its processor time (0 is
-    none). Its output goes to files there, so no pipe fills up."""
+@dataclass(frozen=True)
+class Limits:
+    """How much a program may take before it is ended. Where a limit is 0, there is none; seconds have to be given.
+
+    seconds            from its start
+    megabytes          of memory
+    file_megabytes     of each file that it writes
+    processor_seconds  of a processor
+    """
+
+    seconds: float
+    megabytes: int = 0
+    file_megabytes: int = 0
+    processor_seconds: int = 0
+
+
+def run(words: Sequence[str], folder: Path, limits: Limits, stop: Stop) -> Ran:
+    """Runs a program in a folder, within its limits. Its output goes to files there, so no pipe fills up."""
     stop.look()
     out, err = folder / "out", folder / "err"
     with out.open("wb") as to, err.open("wb") as wrong:
-        process = subprocess.Popen(_bounded(words, megabytes, file_megabytes, processor_seconds), cwd=folder,
-                                   stdin=subprocess.DEVNULL, stdout=to, stderr=wrong, start_new_session=True)
+        process = subprocess.Popen(_bounded(words, limits), cwd=folder, stdin=subprocess.DEVNULL, stdout=to,
+                                   stderr=wrong, start_new_session=True)
         stop.begin(process)
         try:
-            status: Optional[int] = process.wait(seconds + GRACE)
+            status: Optional[int] = process.wait(limits.seconds + GRACE)
         except subprocess.TimeoutExpired:
             status = None
         finally:
@@ -161,12 +175,12 @@ def run(words: Sequence[str], folder: Path, seconds: float, stop: Stop, megabyte
     return Ran(status, _start_of(out, MOST_OUTPUT), _start_of(err, MOST_ERROR))
 
 
-def _bounded(words: Sequence[str], megabytes: int, file_megabytes: int, processor_seconds: int) -> List[str]:
+def _bounded(words: Sequence[str], limits: Limits) -> List[str]:
     """A shell that sets the limits before the program begins: what the program starts has them too."""
-    bounds = [f"ulimit -f {file_megabytes * 2048}"] * (file_megabytes > 0)
-    bounds += [f"ulimit -v {megabytes * 1024}"] * (megabytes > 0)
-    bounds += [f"ulimit -t {processor_seconds}"] * (processor_seconds > 0)
-    return ["/bin/sh", "-c", "; ".join([*bounds, 'exec "$@"']), "sh", found(words[0]), *words[1:]]
+    orders = [f"ulimit -f {limits.file_megabytes * 2048}"] * (limits.file_megabytes > 0)
+    orders += [f"ulimit -v {limits.megabytes * 1024}"] * (limits.megabytes > 0)
+    orders += [f"ulimit -t {limits.processor_seconds}"] * (limits.processor_seconds > 0)
+    return ["/bin/sh", "-c", "; ".join([*orders, 'exec "$@"']), "sh", found(words[0]), *words[1:]]
 
 
 def _end(process: subprocess.Popen[bytes]) -> None:
@@ -217,7 +231,7 @@ def version(name: str, stop: Stop) -> str:
     words = {"yosys": ["-V"]}.get(short, ["-q", "version"] if "abc" in short else ["--version"])
     with tempfile.TemporaryDirectory(prefix="aig-verdicts-") as folder:
         try:
-            ran = run([name, *words], Path(folder), VERSION_SECONDS, stop, file_megabytes=1)
+            ran = run([name, *words], Path(folder), Limits(VERSION_SECONDS, file_megabytes=1), stop)
         except (ToolFailed, OSError) as error:
             return f"{short}: {error}"
     lines = (ran.out or ran.err)[:4000].decode("utf-8", "replace").strip().splitlines()

@@ -17,7 +17,7 @@ from .places import with_place
 from .registers import with_even_lines
 from .script import DIRECTED, FREED, reading
 from .sources import places
-from .tools import Stop, ToolFailed, run, version
+from .tools import Limits, Stop, ToolFailed, run, version
 from .warnings import differing
 from .wiring import driven_inouts, free_z, has_loop, has_z, loops
 
@@ -39,7 +39,7 @@ class Yosys:
 
     def run(self, commands: Sequence[str]) -> None:
         (self.folder / "script.ys").write_text("\n".join(commands) + "\n", encoding="latin-1")
-        ran = run([self._program, "-q", "-s", "script.ys"], self.folder, self._seconds, self._stop)
+        ran = run([self._program, "-q", "-s", "script.ys"], self.folder, Limits(self._seconds), self._stop)
         if ran.status is None:
             raise ToolFailed(f"yosys did not end in {self._seconds:g} s")
         self.warnings += _warnings((ran.err + ran.out).decode("utf-8", "replace").splitlines())

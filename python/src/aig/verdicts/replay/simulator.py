@@ -10,7 +10,7 @@ from functools import cached_property
 from pathlib import Path
 from typing import Dict, Sequence
 
-from ..tools import Ran, Stop, found, run
+from ..tools import Limits, Ran, Stop, found, run
 from .words import NotReplayed
 from .lines import numbered
 
@@ -70,7 +70,7 @@ class Simulator:
     def name(self) -> str:
         """What it is called in messages, as in `Icarus Verilog 11.0`."""
         with tempfile.TemporaryDirectory(prefix="aig-verdicts-") as name:
-            ran = run([self.program, "-V"], Path(name), MOST_SECONDS, self.stop, processor_seconds=SECONDS)
+            ran = run([self.program, "-V"], Path(name), Limits(MOST_SECONDS, processor_seconds=SECONDS), self.stop)
         words = re.match(r"Icarus Verilog version ([\w.]+)", ran.out.decode("utf-8", "replace"))
         return f"Icarus Verilog {words[1]}" if words else Path(self.program).name
 
@@ -94,7 +94,8 @@ class Simulator:
     def _ran(self, words: Sequence[str], folder: Path) -> Ran:
         """How a program ended."""
         if not self.is_endless:
-            ran = run(words, folder, MOST_SECONDS, self.stop, file_megabytes=MEGABYTES, processor_seconds=SECONDS)
+            limits = Limits(MOST_SECONDS, file_megabytes=MEGABYTES, processor_seconds=SECONDS)
+            ran = run(words, folder, limits, self.stop)
             self.is_endless = ran.status in (None, -signal.SIGXCPU, -signal.SIGXFSZ, -signal.SIGKILL)
         if self.is_endless:
             raise NotReplayed(ENDLESS)
