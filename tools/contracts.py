@@ -21,7 +21,7 @@ import sys
 import textwrap
 
 from definitions import Promises
-from sources.specs import ROOT
+from sources.specs import ROOT, outside
 
 PAGE = ROOT / "docs" / "CONTRACTS.md"
 README = ROOT / "README.md"
@@ -45,7 +45,8 @@ shows which public clauses a change touches.
 
 An installed copy of this page has them all in full. [PROVED.md](PROVED.md) says the same in prose, and
 [DEFINITIONS.md](DEFINITIONS.md) explains the definitions. A call without a clause is proved to be safe and to return,
-like all others; `requires` is what it asks of its caller. A clause without a name is listed as `ensures`.
+like all others; `requires` is what it asks of its caller. A clause without a name is listed as `ensures`. The facts of
+a clause that is a record are in parentheses.
 """
 
 PAGE_HEAD = """# The contracts
@@ -106,9 +107,18 @@ def lines_to_believe(promises, export):
     return promises.specs.lines(promises.specs.reached(promises.cited(export)))
 
 
+def named(promises, export, head, text):
+    """Returns the name of a clause, and in parentheses the fields of the record that it is."""
+    name, says = re.sub(r"^ensures (?=\w)|[ :=]+$", "", head), text.strip("{} \n").split()
+    is_fact = head.startswith("ensures") and not {"×", "→", "≡"} & outside(says)
+    cited = promises.specs.cited(says[:1], export.known) if is_fact else ()
+    fields = promises.specs.parts(*cited) if len(cited) == 1 else []
+    return f"{name} ({', '.join(fields)})" if fields else name
+
+
 def row(promises, export):
     """Returns an export's line of the list."""
-    names = [re.sub(r"^ensures (?=\w)|[ :=]+$", "", head) for head, _ in export.clauses]
+    names = [named(promises, export, *it) for it in export.clauses]
     total = hashlib.sha256("\n".join(signature(export)).encode()).hexdigest()[:8]
     cells = [f"`{export.name}`", ", ".join(names), str(lines_to_believe(promises, export) or ""), total]
     return "|" + "|".join(f" {it} " if it else " " for it in cells) + "|"

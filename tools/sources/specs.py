@@ -42,6 +42,16 @@ def words(text: str) -> Set[str]:
     return set(re.findall(r"[^\s(){}\[\],;:`\"|]+", text))
 
 
+def outside(said: List[str]) -> Set[str]:
+    """Returns the words of a term that are in no parentheses or braces."""
+    found, depth = set(), 0
+    for word in said:
+        if not depth:
+            found.add(word)
+        depth += sum(word.count(it) for it in "({") - sum(word.count(it) for it in ")}")
+    return found
+
+
 def imports(text: str) -> Known:
     """Returns which definition (crate, module, name) each word stands for, by a file's imports."""
     found = {}
@@ -144,6 +154,19 @@ class Specs:
                 it = self.table[key]
                 waiting += self.cited(it.words, it.known, key[:2])
         return found
+
+    def parts(self, key: Key) -> List[str]:
+        """Returns the fields of a record, in order, or those of the record that an abbreviation is; else none."""
+        it = self.table[key]
+        kind, lines = items(without_comments(it.path.read_text(encoding="utf-8")))[it.name]
+        if kind == "record":
+            return [at[1] for at in (re.match(rf"\s+pub ({NAME})\s*:", line) for line in lines[1:]) if at]
+        equations = [line for line in lines if re.match(rf"{re.escape(it.name)}\b.*=", line)]
+        if kind or len(equations) != 1:
+            return []
+        says = " ".join(lines[lines.index(equations[0]):]).partition("=")[2].split()
+        cited = self.cited(says[:1], it.known, key[:2])
+        return self.parts(*cited) if len(cited) == 1 and not {"×", "→", "≡"} & outside(says) else []
 
     def lines(self, keys: Iterable[Key]) -> int:
         """Returns how many lines some definitions have."""
