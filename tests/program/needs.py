@@ -12,7 +12,7 @@ from library import supervised
 from library.circuits import write_all
 from library.runs import EXAMPLES, REPOSITORY, Ended, LeftOut, contents, input_or_output, leave_out, write
 
-STACK = 320 * 1024
+STACK = 384 * 1024
 GLIBC = (2, 34)
 
 RUNS = (
