@@ -44,7 +44,7 @@ enum aig_status { AIG_DONE = 0, AIG_REFUSED = 1, AIG_NO_ROOM = 2, AIG_NO_MEMORY 
 enum { AIG_HELD = 4 };
 
 /* The version of this header. */
-#define AIG_VERSION "0.3.0"
+#define AIG_VERSION "0.4.0"
 
 /* The version of the library. It is AIG_VERSION if this header belongs to the library that runs. */
 uint8_t aig_version(uint8_t *room, size_t room_length, size_t *length);

@@ -19,7 +19,7 @@ import zipfile
 from pathlib import Path
 
 HERE = Path(__file__).resolve().parent
-VERSION = "0.3.0"
+VERSION = "0.4.0"
 METADATA = """\
 Metadata-Version: 2.1
 Name: aig

@@ -11,7 +11,7 @@ from library.helptext import commands, examples, grouped
 from library.roff import Markdown, code_block, filled, lines, literal, prose, sections
 from library.runs import REPOSITORY, contents
 
-DATE = "2026-11-29"
+DATE = "2026-12-01"
 SEE_ALSO = ("abc", "gtkwave", "yosys")
 FILES = {
     "share/doc/aig/examples":

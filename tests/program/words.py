@@ -120,4 +120,4 @@ def version(program):
     """What the version has to be. The program that the gate built says that it is proved; one that was named may say
     that it is not (tools/build_unproved.sh)."""
     is_unproved = program.is_named and b"not proved" in program.run("--version").err
-    return b"aig 0.3.0 (built by rt try, not proved)\n" if is_unproved else b"aig 0.3.0 (proved where rt ci built it)\n"
+    return b"aig 0.4.0 (built by rt try, not proved)\n" if is_unproved else b"aig 0.4.0 (proved where rt ci built it)\n"

@@ -15,7 +15,7 @@ use std::fmt;
 
 /// The program's version. A program does not know how it was built: `rt ci` proves what it builds, and
 /// `tools/build_unproved.sh` replaces this text in a program that was not proved.
-static VERSION: &str = "0.3.0 (proved where rt ci built it)";
+static VERSION: &str = "0.4.0 (proved where rt ci built it)";
 
 fn program<'a>(alloc: Global) -> Command<'a>
     ensures app { app_of result ≡ program_of [] }

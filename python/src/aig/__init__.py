@@ -25,7 +25,7 @@ if TYPE_CHECKING:
     from .verdict import Verdict
     from .verdicts.tools import Stop, Stopped
 
-__version__ = "0.3.0"
+__version__ = "0.4.0"
 
 __all__ = [
     "AigError", "Bench", "Certified", "Circuit", "Crashed", "EditError", "Entry", "Formula", "OutOfMemory", "Solved",
