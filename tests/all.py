@@ -2,8 +2,8 @@
 """Runs every test script on a program, and counts all checks in the last line. The lines before it say what was left
 out, and why.
 
-The script with the large files takes most of the time, so it runs beside all others. Of a script that fails, all output
-is shown. A script that does not end in its time fails, and is ended."""
+Three scripts run at once, the longest first. Of a script that fails, all output is shown. A script that does not end in
+its time fails, and is ended."""
 
 import argparse
 import collections
@@ -17,26 +17,25 @@ import tempfile
 import time
 
 from library import supervised
-from library.runs import REPOSITORY, TESTS
+from library.runs import REPOSITORY
 from library.supervised import SECONDS
 
 # How long a script may take: half an hour, where a run may take two minutes.
 WHOLE_SECONDS = 15 * SECONDS
-LARGE = "run_large.py"
-SCRIPTS = ("run_bounds.py", "run_gate.py", "run_program.py", "run_faults.py", "run_random.py", "run_library.py",
-           "run_dist.py", "run_hints.py", "tour.py")
-# this runs aig_tests
-STEPS = "run_steps.py"
-# these run the package of Python, and aig-verdicts as far as it needs no other program
-PACKAGES = ("python/tests/run_package.py", "python/tests/run_explain.py", "python/tests/run_pages.py",
-            "python/tests/run_bundles.py", "python/tests/run_circuit.py", "python/tests/run_replay.py",
-            "python/tests/run_netlists.py", "python/tests/run_versions.py", "python/tests/run_sva.py",
-            "python/tests/run_reading.py", "python/tests/run_cores.py", "python/tests/run_options.py",
-            "python/tests/run_dask.py")
-# this compares a few random designs with a simulator
-RANDOM = "python/tests/random_verilog.py"
+# How many scripts run at once: each waits for programs now and then, also where there are two processors.
+AT_ONCE = 3
+# These take the program as their argument. The longest come first, so that none runs alone at the end.
+SCRIPTS = ("python/tests/run_bundles.py", "python/tests/run_options.py", "tests/run_random.py", "tests/run_program.py",
+           "tests/run_large.py", "tests/run_dist.py", "python/tests/run_explain.py", "tests/run_faults.py",
+           "python/tests/run_versions.py", "python/tests/run_dask.py", "python/tests/run_replay.py",
+           "python/tests/run_package.py", "python/tests/run_cores.py", "python/tests/run_pages.py",
+           "tests/run_bounds.py", "tests/run_hints.py", "python/tests/random_verilog.py", "tests/run_library.py",
+           "python/tests/run_circuit.py", "tests/run_gate.py", "python/tests/run_sva.py", "tests/tour.py",
+           "python/tests/run_netlists.py", "python/tests/run_reading.py")
 # this tries some of the planted bugs of the package
 PLANTED = ("tools/planted_python.py", "--sample", "40")
+# this runs aig_tests
+STEPS = "tests/run_steps.py"
 # this compares with the C++ program of the benchmarks on broken files
 COMPARED = ("benchmarks/measure.py", "compare", "--count", "40")
 NO_COMPILER = ("echo", "compare: left out: there is no c++")
@@ -53,31 +52,33 @@ Ended = collections.namedtuple("Ended", "passed failed left")
 
 
 def ran(name, words, folder, seconds):
-    """The exit status of a script and its output; no status where it was ended or not started. A file has the output,
-    as a pipe would wait for all that have it."""
-    status, why = None, ""
+    """The exit status of a script, its output, and the processor seconds that it took; no status where it was ended or
+    not started. A file has the output, as a pipe would wait for all that have it."""
+    status, why, used = None, "", 0.0
     with tempfile.TemporaryFile() as output:
         try:
-            status = supervised.run(words, timeout=seconds, cwd=folder, stdin=subprocess.DEVNULL, stdout=output,
-                                    stderr=subprocess.STDOUT).returncode
+            with supervised.Popen(words, seconds, cwd=folder, stdin=subprocess.DEVNULL, stdout=output,
+                                  stderr=subprocess.STDOUT) as script:
+                usage = script.usage()
+            status, used = script.returncode, usage.ru_utime + usage.ru_stime
         except subprocess.TimeoutExpired:
             why = f"\nSTOPPED: {name}: it does not end within {seconds} seconds\n"
         except OSError as error:
             why = f"FAILED: {name}: it does not start: {error}\n"
         output.seek(0)
-        return status, output.read().decode(errors="replace") + why
+        return status, output.read().decode(errors="replace") + why, used
 
 
 def ended(name, words, folder, seconds=WHOLE_SECONDS):
     """Runs a script, prints what it says, and returns how it ended. One that counts no checks is one check."""
     began = time.monotonic()
-    status, said = ran(name, words, folder, seconds)
+    status, said, used = ran(name, words, folder, seconds)
     counts = [(int(passed), int(failed)) for passed, failed in COUNTS.findall(said)]
     left = LEFT_OUT.findall(said)
     passed, failed = (sum(column) for column in zip(*counts)) if counts else (int(status == 0 and not left), 0)
     failed += status != 0 and failed == 0
     shown = said if failed else "".join(SHOWN.findall(said))
-    print(f"== {name}: {time.monotonic() - began:.0f} s\n{shown}", end="", flush=True)
+    print(f"== {name}: {time.monotonic() - began:.0f} s, {used:.0f} of processors\n{shown}", end="", flush=True)
     return Ended(passed, failed, [f"{name}: {part}: {why}" for part, why in left])
 
 
@@ -88,24 +89,25 @@ def last_lines(scripts):
     return [*left, f"{passed} passed, {failed} failed, {len(left)} left out"]
 
 
+def commands(program):
+    """The words of each script by its name, in the order in which they begin. A program that is named has aig_tests
+    beside it."""
+    steps = [f"{os.path.dirname(it)}/aig_tests" for it in program]
+    comparing = (*COMPARED, *(word for it in program for word in ("--aig", it)))
+    scripts = [(*PLANTED, *program), (STEPS, *steps), *((name, *program) for name in SCRIPTS), comparing,
+               *((name,) for name in READERS)]
+    words = {name: [f"{REPOSITORY}/{name}", *rest] for name, *rest in scripts}
+    return words if shutil.which("c++") else {**words, COMPARED[0]: NO_COMPILER}
+
+
 def main():
     parser = argparse.ArgumentParser(description=__doc__, formatter_class=argparse.RawDescriptionHelpFormatter)
     parser.add_argument("program", nargs="?", help="the program that is tested, with aig_tests beside it (else "
                                                    "those that the gate built)")
     chosen = parser.parse_args()
-    program = [os.path.abspath(chosen.program)] if chosen.program else []
-    lanes = [[(name, [f"{TESTS}/{name}", *program], REPOSITORY) for name in names] for names in ([LARGE], SCRIPTS)]
-    steps = [f"{os.path.dirname(program[0])}/aig_tests"] if program else []
-    lanes[1] += [(STEPS, [f"{TESTS}/{STEPS}", *steps], REPOSITORY)]
-    lanes[0] += [(RANDOM, [f"{REPOSITORY}/{RANDOM}", *program], REPOSITORY)]
-    named = [word for it in program for word in ("--aig", it)]
-    comparing = [f"{REPOSITORY}/{COMPARED[0]}", *COMPARED[1:], *named] if shutil.which("c++") else NO_COMPILER
-    lanes[1] += [("compare", comparing, REPOSITORY)]
-    lanes[1] += [(name, [f"{REPOSITORY}/{name}"], REPOSITORY) for name in READERS]
-    packages = [(name, [f"{REPOSITORY}/{name}", *program], REPOSITORY) for name in PACKAGES]
-    lanes.append([*packages, (PLANTED[0], [f"{REPOSITORY}/{PLANTED[0]}", *PLANTED[1:], *program], REPOSITORY)])
-    with concurrent.futures.ThreadPoolExecutor() as pool:
-        scripts = [each for lane in pool.map(lambda lane: [ended(*task) for task in lane], lanes) for each in lane]
+    words = commands([os.path.abspath(chosen.program)] if chosen.program else [])
+    with concurrent.futures.ThreadPoolExecutor(AT_ONCE) as pool:
+        scripts = list(pool.map(lambda script: ended(*script, REPOSITORY), words.items()))
     print("\n".join(last_lines(scripts)))
     return 1 if any(script.failed for script in scripts) else 0
 

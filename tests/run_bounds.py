@@ -116,7 +116,7 @@ def scripts(program, tally, _):
     """A script that does not end fails, and its output so far is there; what it started is ended."""
     write("waits.py", WAITS)
     words = [sys.executable, "waits.py", "--part", "passes", "--part", "runs_it", program.path]
-    status, said = every.ran("waits", words, ".", 5)
+    status, said, _ = every.ran("waits", words, ".", 5)
     tally.compare("bounds: a script: its status", status, None)
     tally.check("bounds: a script: its output",
                 said.startswith("passes: 1 passed, 0 failed\n") and "\nSTOPPED: waits: " in said, said)

@@ -125,8 +125,6 @@ def places(_, tally, __):
         Path("m.sv").write_text(head + BODY)
         lines = {word: (head + BODY)[:(head + BODY).index(f"{word}:")].count("\n") + 1 for word in ("at_most", "soon")}
         all_given = {**GIVEN, **(OF_OLD_PORTS if name == "old_ports" else {})}
-        if name == "package":  # ranges of a property that a package gives are not known
-            all_given = {given: wanted for given, wanted in all_given.items() if "LIMIT=6" in given}
         for given, wanted in all_given.items():
             status, _, said = ran("m.sv", "--top", "m", *(word for it in given for word in ("-P", it)))
             of_kept = {"kept": "holds"} if name == "others" else {}
