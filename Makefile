@@ -30,7 +30,7 @@ aig: build/aig
 
 build/aig: $(SOURCES)
 	@for tool in rt cc python3; do command -v $$tool > /dev/null || { echo "make: there is no $$tool" >&2; exit 1; }; done
-	@echo "Building build/aig without its proofs: about three minutes."
+	@echo "Building build/aig without its proofs: three or four minutes."
 	@mkdir -p build
 	@tools/build_unproved.sh "$(CURDIR)" aig build/aig
 
@@ -50,7 +50,7 @@ build/lib/libaig.a: $(SOURCES) $(LIBRARY_SOURCES)
 	@tools/unproved_library.py build/lib
 
 test: build/aig build/aig_tests build/lib/libaig.a
-	@echo "Running all tests on build/aig: about ten minutes on two processors."
+	@echo "Running all tests on build/aig: about a quarter of an hour on two processors."
 	@tests/all.py build/aig
 
 prove:
