@@ -339,8 +339,16 @@ def side_by_side(_, tally, __):
     tally.check("lanes: of this machine", processors > 0 and memory > 0)
 
 
+# These are not in the gate: docs/TESTING.md has what they need.
+APART = {"tests/run_tools.py", "python/tests/run_designs.py", "python/tests/run_probes.py"}
+
+
 def scripts(_, tally, __):
-    """Each file that names its interpreter can be run by its name, as `tests/all.py` and pages do."""
+    """Each file that names its interpreter can be run by its name, as `tests/all.py` and pages do. All scripts of tests
+    are in the gate, but for those that are known."""
+    there = {str(path.relative_to(REPOSITORY)) for name in ("tests", "python/tests")
+             for path in pathlib.Path(REPOSITORY, name).glob("run_*.py")}
+    tally.compare("scripts: those that are not in the gate", there - {*every.commands([])}, APART)
     folders = ("tests", "tools", "benchmarks", "python", ".ci")
     for path in sorted(each for name in folders for each in pathlib.Path(REPOSITORY, name).rglob("*")):
         if path.is_file() and path.suffix in (".py", ".sh", "") and "verdicts" not in path.parent.suffix:
