@@ -1,8 +1,11 @@
 """Rows as if `aig` had confirmed their verdicts, for tests of what checks mean. Of the package, checked.py alone makes
 a check."""
 
+from dataclasses import replace
+
 from aig.verdicts import checked
 from aig.verdicts.checked import Checked, Claim
+from aig.verdicts.decisions import Judge
 from aig.verdicts.row import LEFT_OUT
 
 # That of the circuit which these rows are about.
@@ -24,3 +27,11 @@ def believed(row, verdict="undecided", by="", frames=0, files=()):
 def check_of(position, by, frames, files=(), circuit=SUM):
     """A check that nobody made."""
     return Checked(Claim(position, by, frames, tuple(dict(files).items())), circuit, {}, checked._KEY)
+
+
+def judge_some(rows, moment=lambda _: None):
+    """What some rows of a circuit mean beside each other, where the others are not there."""
+    known = Judge(rows)
+    table = [known.of(row) for row in rows if row.kind in ("assert", "cover")]
+    table = [replace(it, moment=moment(it.row)) if it.row.by == "run" else it for it in table]
+    return sorted(table, key=lambda it: it.row.position)

@@ -159,7 +159,8 @@ def made(text, *words):
     """The bundle of a design in the current folder."""
     Path("m.v").write_text(re.sub(r"(?m)^ {8}", "", text) + "\n")
     shutil.rmtree("out", ignore_errors=True)
-    return called("run", "m.v", "--top", "m", "--out", "out", *SHORT, *words)
+    short = [it for it in SHORT if it != "--no-conditions" or "--conditions" not in words]
+    return called("run", "m.v", "--top", "m", "--out", "out", *short, *(it for it in words if it != "--conditions"))
 
 
 def replayed(*words):
@@ -211,8 +212,10 @@ def simulators(_, tally, __):
         status, out, err = called("run", "m.v", "--out", name, *shown, "--simulator", program)
         tally.compare(f"simulator: {name}", (status, out), plain[:2])
         said = json.loads(Path(name, "MANIFEST.json").read_text())["simulated"]
-        is_open = said.get("agrees") and "cannot play" in said["circuit"]
+        is_open = said["agrees"] is None and "cannot play" in said["circuit"]
         tally.check(f"simulator: {name}: what it says", is_open, f"{said} {err}")
+        last = err.rstrip().split("\n")[-1]
+        tally.check(f"simulator: {name}: the last line", f"; not compared with a simulator: {name}/index.html" in last, last)
     right = called("run", "m.v", "--out", "right", *shown)
     tally.compare("simulator: one that works", (right[0], right[1]), plain[:2])
     said = json.loads(Path("right/MANIFEST.json").read_text())["simulated"]
@@ -220,6 +223,37 @@ def simulators(_, tally, __):
     tally.check("simulator: values", count is not None, said)
     words = {word for word, _ in said["rows"].values()}
     tally.compare("simulator: rows", words, {"agrees"} if words else set())
+
+
+BESIDE = """module m(input clk, d, output reg q); always @(posedge clk) q <= d;
+        ok: assert property (@(posedge clk) d |=> q); endmodule
+        (* keep_hierarchy *) module beside #(parameter N = 2)(clk, d); input clk; input [N-1:0] d;
+        typedef struct packed {logic v; logic [3:0] d;} e_t; e_t e;
+        no: assert property (@(posedge clk) $stable(e.d)); endmodule"""
+# A run of the cover, in which this simulator reads a constant in another way: an assertion fails that holds in the circuit.
+BURIED = """module m(input clk, input [17:0] k, output reg [2:0] y, output reg t = 0); localparam ODD = 0; initial y = 0;
+        always @(posedge clk) begin t <= k == 18'h29c41; y <= k == 18'h29c41 ? ODD : 0; end
+        always @(posedge clk) begin zero: assert (y == 0); rare: cover (t); end endmodule"""
+
+
+def hidden(_, tally, __):
+    """A module that is not below the top one is no reason not to play the design. What the run of a row shows of another
+    row counts."""
+    needs("yosys", "iverilog")
+    shown = ("--frames", "4", "--abc", "", "--jobs", "1", "--seconds", "5")
+    Path("beside.sv").write_text(re.sub(r"(?m)^ {8}", "", BESIDE) + "\n")  # a file with the name of a module in it
+    status, out, err = called("run", "beside.sv", "--top", "m", "--out", "beside", *shown)
+    said = json.loads(Path("beside/MANIFEST.json").read_text())["simulated"]
+    tally.check("hidden: beside the top module", said["agrees"] is True and ": as in Icarus" in said["circuit"], said)
+    Path("m.v").write_text(re.sub(r"(?m)^ {8}", "", BURIED) + "\n")
+    program = tool("other.sh", '[ -f aig_tb.v ] && sed -i "s/ODD = 0/ODD = 5/" aig_tb.v\nexec iverilog "$@"')
+    tally.compare("hidden: the same", called("run", "m.v", "--out", "same", *shown)[0], 0)
+    status, out, err = called("run", "m.v", "--out", "other", "--simulator", program, *shown)
+    tally.check("hidden: a row is denied by the run of another one", status == 4 and re.search("zero +disagrees", out), out)
+    said = json.loads(Path("other/MANIFEST.json").read_text())["simulated"]
+    tally.check("hidden: MANIFEST.json", said["agrees"] is False and "disagrees with the circuit" in said["circuit"], said)
+    status, _, err = called("recheck", "other", "-q", "--simulate", "--simulator", program)
+    tally.check("hidden: recheck", status == 4 and "ALARM" in err, err)
 
 
 def denied(_, tally, __):
@@ -285,7 +319,7 @@ def senders(_, tally, __):
     """What `recheck` shows is its own: no notes, versions or lines of the sender; the macros are named. A source that is
     named as a file of the testbench is not run. A seed plays the same runs."""
     needs("yosys", "iverilog")
-    made(ADDS.replace("module m", "`ifdef LESS\nmodule m").replace("endmodule", "endmodule\n`endif"), "-D", "LESS")
+    made(ADDS.replace("module m", "`ifdef LESS\nmodule m").replace("endmodule", "endmodule\n`endif"), "-D", "LESS", "--conditions")
     manifest = manifest_of("out")
     manifest["notes"] = ["proved by foreigners"]
     manifest["versions"]["yosys"] = "foreign 1"
@@ -299,8 +333,11 @@ def senders(_, tally, __):
         tally.check(f"senders: nothing foreign {words}", status == 0 and "foreign" not in said, f"{status} {err}")
         tally.compare(f"senders: lines of the sources {words}", "ok: assert (q != 16 + d)" in said, has_text)
         tally.check(f"senders: macros {words}", "the sources are read as module m, with the macros LESS" in said)
-    line = "aig-verdicts: the sources are read as module m, with the macros LESS\n"
+    line = "aig-verdicts: the bundle says that the sources are read as module m, with the macros LESS\n"
     tally.check("senders: macros, on the terminal", line in err, err)
+    remade = called("recheck", "out", "--yosys")[2]
+    said = "aig-verdicts: the sources are read as module m, with the macros LESS"
+    tally.check("senders: macros, where Yosys made the circuit again", said in remade and "the bundle says that the sources" not in remade, remade)
     one, other = (called("recheck", "out", "-q", "--simulate", "--seed", "7")[2] for _ in range(2))
     tally.check("senders: a seed", one == other and "(seed 7), which is no proof" in one, one + other)
     manifest["sources"].append("aig_tb.v")
@@ -312,6 +349,19 @@ def senders(_, tally, __):
     Path("n.v").write_text("")
     status, _, err = called("recheck", "out", "-q", "--sources", "n.v", "m.v")
     tally.check("senders: files", status == 1 and "not in the bundle" in err or "none of your files" in err, err)
+
+
+def nothing(_, tally, __):
+    """Where nothing was played, the status is not 0."""
+    needs("yosys", "iverilog")
+    Path("m.v").write_text("module m(input clk, go, output reg [2:0] n = 0); always @(posedge clk) if (go) n <= n + 1;\n"
+                           "always @* begin low: assert (n < 2); all: assert (n < 8); end endmodule\n")
+    called("run", "m.v", "--out", "out", "--frames", "4", "--abc", "", "--jobs", "1", "-q")
+    for words, wanted, text in ((("--only", "low"), 0, "1 runs in"), (("--only", "nosuch"), 1, "there is no assertion nosuch"),
+                                (("--only", "low", "--only", "b7"), 1, "there is no assertion b7"), (("--only", "all"), 4, "0 runs in"),
+                                (("--only", "b0"), 4, "0 runs in"), (("--only", "all", "--only", "low"), 0, "1 runs in"), ((), 0, "1 runs in")):
+        status, out, err = called("replay", "out", *words)
+        tally.check(f"nothing: replay {words}", status == wanted and text in err, (status, out, err))
 
 
 def in_folder(part):
@@ -332,4 +382,4 @@ def in_folder(part):
 
 if __name__ == "__main__":
     runs.main(__doc__, {part.__name__: in_folder(part) for part in (
-        alike, unlike, testbenches, simulators, denied, auditors, forged, senders)})
+        alike, unlike, testbenches, simulators, hidden, denied, auditors, forged, senders, nothing)})

@@ -10,7 +10,7 @@ from dataclasses import replace
 
 from aig.verdicts.changes import Beside, Known, Pairs, changes, status_of, summary
 from aig.verdicts.checked import Wrong
-from aig.verdicts.decisions import judge
+from aig.verdicts.decisions import Judge, judge
 from aig.verdicts.difference import difference
 from aig.verdicts.matching import Lines, Version
 from aig.verdicts.row import Row
@@ -36,7 +36,7 @@ P: N weaker 4
 B: F broken 5, P stronger 0, B same 0, S weaker 4, U weaker 4, V weaker 4, D stronger 0
 S: F broken 5, P stronger 0, B stronger 0, S same 0, U weaker 4
 U: F broken 5, P stronger 0, S stronger 0, U same 0, - same 0, V stronger 0, N same 0
-V: F broken 5, P stronger 0, B stronger 0, U weaker 4, V same 0
+V: F broken 5, P stronger 0, B stronger 0, U weaker 4, V same 0, D weaker 4
 D: F broken 5, P stronger 0, B weaker 4, D same 0, V weaker 4
 N: F broken 5, P stronger 0, N same 0, U same 0
 """
@@ -57,7 +57,7 @@ def known(letter, kind="assert", position=0, name="name"):
     if letter in "VD":
         asked = FOUND["P" if letter == "V" else "U"]
         rows.append(believed(Row(position + 1, "condition", name, of=position), *asked))
-    judged, = judge(rows)
+    judged = Judge(rows).of(rows[0])
     return Known.of(judged.denied_by("the simulator") if letter == "N" else judged)
 
 

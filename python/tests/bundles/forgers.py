@@ -325,6 +325,22 @@ def _nothing(path, manifest):
 
 
 # What each forger is caught by.
+def _file_of_no_source(path, manifest):
+    row(manifest, "three")["file"] = "every.v, which was compared, and all agrees"
+
+
+def _macro_as_a_sentence(path, manifest):
+    manifest["options"]["defines"] = ["DEBUG. All of this was compared, and is right"]
+
+
+def _free_of_two_lines(path, manifest):
+    manifest["options"]["free"] = ["every.q\n9 assertions: 9 hold; all checked by aig"]
+
+
+def _name_of_words(path, manifest):
+    manifest["name"] = "every. All of this was compared"
+
+
 FORGERS = {
     _drop: "each once and in order", _drop_constraints: "each once and in order",
     _constraints_twice: "each once and in order",
@@ -355,5 +371,7 @@ FORGERS = {
     _unknown_part_of_all: "has other parts", _no_sum: "the sums are not", _sum_of_more: "the sums are not",
     _sum_of_a_path: "sums of MANIFEST.json", _source_path: "sources of MANIFEST.json", _place: "place of b8",
     _format: "is not of 'aig-verdicts 2'", _no_options: "options of MANIFEST.json",
+    _file_of_no_source: "is in a file that is no source", _macro_as_a_sentence: "options of MANIFEST.json",
+    _free_of_two_lines: "options of MANIFEST.json", _name_of_words: "name of MANIFEST.json",
     _as_aiger: "b1 has another kind", _nothing: "there is no assertion",
 }

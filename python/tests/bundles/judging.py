@@ -6,10 +6,13 @@ import xml.etree.ElementTree as tree
 from dataclasses import replace
 from pathlib import Path
 
-from aig.verdicts.decisions import Judge, checked, exit_status, judge, summary
+from aig.verdicts import checked as checked_module
+from aig.verdicts.checked import Wrong
+from aig.verdicts.decisions import Asked, Judge, checked, exit_status, summary
+from aig.verdicts.decisions import judge as judge_all
 from aig.verdicts.row import Row
 from aig.verdicts.table import junit, next_command, open_notes, plain, text
-from believed import believed
+from believed import SUM, believed, check_of
 
 # How a row was decided: the verdict, by what, the frames.
 FOUND = {
@@ -44,6 +47,12 @@ def _row(position, kind, found, files=()):
     return believed(Row(position, kind, "name", "file.v", 1, 2), *FOUND[found], files)
 
 
+def judge(rows, asked=Asked()):
+    """What some rows of a circuit mean beside each other, where the others are not there."""
+    known = Judge(rows, asked)
+    return sorted(map(known.of, (row for row in rows if row.kind in ("assert", "cover"))), key=lambda it: it.row.position)
+
+
 def status(table):
     """The exit status of a whole table."""
     return exit_status(table, len(table))
@@ -57,6 +66,7 @@ def judging(_, tally, __):
         table = judge(rows(kind, found, alive="no run of 4 frames"))
         vacuous = wanted if found in ("run", "open", "left") else ("vacuous", 4)
         tally.compare(f"judging: {kind}, {found}, contradiction", (table[0].words, status(table)), vacuous)
+    assumptions(tally)
     for found, wanted in GUARDED.items():
         table = judge(rows("assert", "proof", found))
         tally.compare(f"judging: under {found}", (table[0].words, status(table)), wanted)
@@ -67,11 +77,63 @@ def judging(_, tally, __):
         table = judge([_row(0, "assert", missing)])
         tally.compare(f"judging: a row that has no answer beside {missing}", (exit_status(table, 2), checked(table, 2)),
                       (wanted, "1 of 2 checked by aig"))
+    whole(tally)
     notes(tally)
     following(tally)
     together(tally)
     said_of_each(tally)
     texts(tally)
+
+
+# Rows of which it counts whether any run keeps the assumptions.
+ASSUMED = [("assert", "proof"), ("assert", "invariant"), ("assert", "bound"), ("cover", "proof"), ("cover", "invariant"), ("cover", "bound")]
+
+
+def assumptions(tally):
+    """Where it is open whether a run keeps the assumptions, or one keeps them for fewer frames than were searched and comes
+    back to no state, each row that counts on it is in doubt."""
+    open_one, none = Row(-1, "constraints", ""), believed(Row(-1, "constraints", ""), "alive", frames=4)
+    left_out = believed(Row(-1, "constraints", ""), "left out")
+    for kind, found in ALONE:
+        made = _row(0, kind, found)
+        for name, first in (("open", open_one), ("left out", left_out)):
+            it, = judge([first, made])
+            words, wanted = ALONE[kind, found]
+            is_doubted = (kind, found) in ASSUMED
+            tally.compare(f"judging: assumptions {name}: {kind}, {found}", (it.words, it.status, bool(it.doubt), it.look == "good"),
+                          (words, max(wanted, 4) if is_doubted else wanted, is_doubted, wanted == 0 and not is_doubted))
+        it, = judge([none, made])
+        tally.check(f"judging: no assumptions: {kind}, {found}", not it.doubt)
+    for frames, is_lasting, asked, found, is_doubted in (
+            (3, False, 4, "proof", True), (4, False, 4, "proof", False), (3, True, 4, "proof", False), (9, False, 4, "proof", False),
+            (3, False, 0, "bound", True), (4, False, 0, "bound", False), (3, False, 0, "proof", False), (1, False, 20, "bound", True),
+            (19, False, 20, "invariant", True), (20, False, 20, "invariant", False), (1, True, 20, "bound", False)):
+        first = Row(-1, "constraints", "")
+        first.take(replace(check_of(-1, "kept", frames), is_lasting=is_lasting, key=checked_module._KEY), SUM)
+        it, = judge([first, _row(0, "assert", found)], asked=Asked(asked))
+        tally.compare(f"judging: kept for {frames}, {asked} asked, lasting {is_lasting}, {found}", (bool(it.doubt), it.status),
+                      (is_doubted, max(ALONE["assert", found][1], 4 if is_doubted else 0)))
+    for kind, found in ALONE:
+        it, = judge([none, _row(0, kind, found)], asked=Asked(0, False))
+        is_doubted = kind == "assert" and found in ("proof", "invariant", "bound")
+        tally.compare(f"judging: conditions not asked: {kind}, {found}", ("condition" in it.doubt, it.status),
+                      (is_doubted, max(ALONE[kind, found][1], 4 if is_doubted else 0)))
+    it, = judge([open_one, _row(0, "assert", "proof"), *rows("assert", "proof", "open")[2:]])
+    tally.check("judging: both doubts are said", "assumptions" in it.doubt and "condition" in it.doubt, it.doubt)
+
+
+def whole(tally):
+    """A table has all rows of the circuit, or there is none."""
+    made = rows("assert", "proof", "proof", alive="no run of 4 frames")
+    tally.compare("judging: all rows", [it.words for it in judge_all(made)], ["vacuous"])
+    for name, some in (("without the assumptions", made[1:]), ("without the condition", [made[0], *made[2:]]), ("in another order", made[::-1]),
+                       ("the first ones alone", made[2:]), ("one twice", [*made, made[-1]]), ("none", [])):
+        try:
+            judge_all(some)
+            said = "a table"
+        except Wrong as error:
+            said = str(error)
+        tally.compare(f"judging: {name}", said, "a row is missing where rows are judged")
 
 
 def together(tally):
@@ -160,7 +222,7 @@ def said_of_each(tally):
 
 def notes(tally):
     """A note of several rows comes once with their names. Rows that are good have none to read."""
-    made = [Row(-1, "constraints", "")]
+    made = [believed(Row(-1, "constraints", ""), "alive", frames=4)]
     made += [_row(k, "assert", found) for k, found in enumerate(("open",) * 5 + ("proof",))]
     for k, row in enumerate(made[1:]):
         row.name, row.notes = f"n{k}", ["late"] + ["other"] * (k > 2)

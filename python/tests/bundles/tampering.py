@@ -147,6 +147,19 @@ def alive(_, tally, __):
     write_manifest(path, manifest)
     status, _, err = called("recheck", path)
     tally.check("alive: an older bundle", status == 5 and "is a solver's word" in err, (status, err))
+    Path("holds.aag").write_text("aag 2 2 0 0 0 1 1\n2\n4\n0\n2\n")
+    tally.compare("alive: one that holds", called("run", "holds.aag", "--abc", "", "--solver", SMALL_SOLVER, "--frames", 4, "-q")[0], 0)
+    path = Path("holds.verdicts")
+    manifest = manifest_of(path)
+    manifest["rows"][0].update(by="")
+    del manifest["rows"][0]["files"], manifest["sums"]["alive.wit"]
+    for name, form, row in (("a solver's word", OLDER, {}), ("open", manifest["format"], {"verdict": "undecided", "frames": 0})):
+        manifest["format"] = form
+        manifest["rows"][0].update(row)
+        write_manifest(path, manifest)
+        status, _, err = called("recheck", path, "--page", "page.html", "--junit", "j.xml")
+        is_said = all("keeps the assumptions is not decided" in Path(it).read_text() for it in ("page.html", "j.xml"))
+        tally.check(f"alive: {name}: no row is good", status == 4 and is_said, (status, err))
 
 
 def harmless(_, tally, __):

@@ -1,7 +1,7 @@
 """Bundles that no tool made: each kind of row, and hostile text wherever a text may stand."""
 
 import aig
-from aig.verdicts.decisions import judge
+from believed import judge_some as judge
 from aig.verdicts.page import Page, Results
 from aig.verdicts.row import Row
 from aig.verdicts.simulated import of_facts

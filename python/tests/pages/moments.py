@@ -1,7 +1,7 @@
 """When a run violates its assertion: at the cycle whose edge samples the values, which is not always the last frame."""
 
 from aig.verdicts.cycles import cycles_of
-from aig.verdicts.decisions import judge
+from believed import judge_some as judge
 from aig.verdicts.page import Page, Results
 from aig.verdicts.row import Row
 from aig.verdicts.runs import comes_back

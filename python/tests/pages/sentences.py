@@ -6,7 +6,7 @@ import re
 from dataclasses import replace
 
 from aig.verdicts.cycles import cycles_of
-from aig.verdicts.decisions import judge
+from believed import judge_some as judge
 from aig.verdicts.page import Page, Results
 from aig.verdicts.row import Row
 from believed import believed

@@ -4,7 +4,7 @@ import re
 
 import aig
 from aig.verdicts import sections
-from aig.verdicts.decisions import judge
+from believed import judge_some as judge
 from aig.verdicts.page import Page, Results
 from aig.verdicts.row import Row
 from aig.verdicts.svg import Lane, waveform

@@ -32,16 +32,18 @@ class Audited(NamedTuple):
         return self.bundle.summed(name)
 
 
-def audited(bundle: Bundle, aig: str, said: Simulated, is_own: bool) -> Audited:
-    """What is shown of a bundle that `aig`, in this version, has checked."""
-    has_choice = any(bundle.manifest["options"].get(it) for it in ("defines", "free", "parameters", "asserts"))
-    manifest = {**bundle.manifest, "versions": {"aig": aig}, "notes": [options_of(bundle)] if has_choice else [],
+def audited(bundle: Bundle, aig: str, said: Simulated, is_own: bool, is_made_again: bool) -> Audited:
+    """What is shown of a bundle that `aig`, in this version, has checked, and of which Yosys perhaps made the circuit again."""
+    options = bundle.manifest["options"]
+    has_choice = any(options.get(it) for it in ("defines", "free", "parameters", "asserts"))
+    has_choice |= options.get("conditions") is False
+    manifest = {**bundle.manifest, "versions": {"aig": aig}, "notes": [options_of(bundle, is_made_again)] if has_choice else [],
                 "simulated": said.facts()}
     return Audited(bundle, manifest, [replace(row, notes=[], origin="") for row in bundle.rows], is_own)
 
 
-def options_of(bundle: Bundle) -> str:
-    """How the sources are read: the sender says it."""
+def options_of(bundle: Bundle, is_made_again: bool) -> str:
+    """How the sources are read: the sender says it, and it is so where Yosys made the circuit again in that way."""
     options = bundle.manifest["options"]
     macros, parameters = (", ".join(options.get(it, [])) for it in ("defines", "parameters"))
     free, signals = map(", ".join, modules_and_signals(options.get("free", [])))
@@ -49,5 +51,7 @@ def options_of(bundle: Bundle) -> str:
             f"with the parameters {parameters}" if parameters else "",
             f"without the bodies of the modules {free}" if free else "",
             f"with any value of {signals}" if signals else "",
+            "without asking whether the conditions of assertions are ever true" if options.get("conditions") is False else "",
             f"with {', '.join(options['asserts'])} in module {options['module']}" if options.get("asserts") else ""]
-    return f"the sources are read {', '.join(filter(None, said))}"
+    begin = "" if is_made_again else "the bundle says that "
+    return f"{begin}the sources are read {', '.join(filter(None, said))}"

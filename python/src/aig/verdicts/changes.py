@@ -113,6 +113,8 @@ def word_of(before: Known, after: Known) -> str:
         return "still" if before.fails else "broken"
     if before.fails:
         return "mended" if _is_mended(before, after) else "weaker"
+    if before.result == "vacuous" and not after.is_sure:
+        return "weaker"  # what was known of its assumptions or of its condition is not known any more
     if before.rank == after.rank:
         return "same"
     return "stronger" if before.rank < after.rank else "weaker"

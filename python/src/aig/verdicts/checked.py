@@ -10,6 +10,7 @@ from typing import Callable, Dict, List, Mapping, NamedTuple, Optional, Tuple
 from .._program import sum_of as sum_of
 from ..errors import AigError
 from .concrete import fits
+from .runs import comes_back
 from .tools import Stop, answer
 
 CIRCUIT = "circuit.aig"
@@ -185,6 +186,7 @@ class Checked:
     sums: Mapping[str, str]
     key: InitVar[object]
     cuts: Optional[bytes] = None
+    is_lasting: bool = False
 
     def __post_init__(self, key: object) -> None:
         if key is not _KEY:
@@ -231,7 +233,8 @@ def check(claim: Claim, circuit: bytes, read: Callable[[str], bytes], stop: Stop
     for command in commands:
         _ask(claim, command, left, text, stop)
     cuts = text(claim.files["cuts"]) if claim.cut else None
-    return Checked(claim, sum_of(circuit), {role: sum_of(text(name)) for role, name in claim.named}, _KEY, cuts)
+    is_lasting = claim.by == "kept" and comes_back(circuit, text(claim.files["witness"]))
+    return Checked(claim, sum_of(circuit), {role: sum_of(text(name)) for role, name in claim.named}, _KEY, cuts, is_lasting)
 
 
 def _left(claim: Claim, circuit: bytes, text: Callable[[str], bytes], stop: Stop) -> bytes:

@@ -29,12 +29,12 @@ from .design import Design, read_aiger
 from .file_lists import listed
 from .folder import PAGE, pack, write_whole
 from .made import made, reading_of
-from .manifest import as_json, rows_as_json
+from .manifest import as_json, asked_of, rows_as_json
 from .matching import Version
 from .page import Page, Results
 from .programs import lost_without, programs_of, tracing
 from .progress import Progress, waiting
-from .recheck import Unanswered, is_kept, is_older, recheck, same_design, same_sources
+from .recheck import Unanswered, is_older, recheck, same_design, same_sources
 from .replay.command import replay
 from .replay.run import Bounds as PlayBounds, simulated
 from .row import Row
@@ -110,7 +110,8 @@ def _say_of_needs(table: Sequence[Judged], circuit: bytes) -> None:
 
 
 def _page(to: Path, results: Results, is_unfinished: bool, pictures: Optional[Pictures] = None) -> None:
-    table = table_of(results.rows, results.read(CIRCUIT), of_facts(results.manifest.get("simulated", {})))
+    said = of_facts(results.manifest.get("simulated", {}))
+    table = table_of(results.rows, results.read(CIRCUIT), asked_of(results.manifest), said)
     page = Page(results, table, is_unfinished, pictures)
     write_whole(to, page.html().encode("utf-8", "replace"))
 
@@ -129,7 +130,7 @@ def _run(words: argparse.Namespace, stop: Stop) -> int:
     for said, what in lost.items():
         _said(f"{said}: {what}")
     hinting = tracing(words, _said) if words.cores else None
-    with waiting("yosys makes the circuit", words.verbose, words.quiet):
+    with waiting("yosys makes the circuit", words.verbose, words.quiet), stop.at_once():
         design = _design(words, stop)
     if design.was_made_before and not words.quiet:
         _said("an earlier run made the circuit, of the same sources, options and programs; --fresh makes it again")
@@ -252,7 +253,7 @@ def _results(words: argparse.Namespace, session: Session, is_complete: bool, sai
     if not is_complete:  # what was done is written, whatever else the user presses
         for number in _SIGNALS:
             signal.signal(number, signal.SIG_IGN)
-    table = table_of(session.rows, session.design.circuit, session.simulated)
+    table = table_of(session.rows, session.design.circuit, session.asked_of, session.simulated)
     if session.only is not None:
         table = [it for it in table if it.row.position in session.only]
     changed = since.difference(table, session.only) if since and (since.is_asked or is_complete) else None
@@ -275,7 +276,7 @@ def _results(words: argparse.Namespace, session: Session, is_complete: bool, sai
         _say_notes(table, said)
         _say_of_assumptions(session.rows[0], session.design.circuit, session.folder.read)
         _say_of_needs(table, session.design.circuit)
-        if not session.simulated.agrees:
+        if session.simulated.circuit and not session.simulated.agrees:
             _said(session.simulated.circuit)
         if not is_complete:
             _said(f"{TOTAL if session.stop.is_late else 'stopped'}; the same command goes on")
@@ -311,8 +312,8 @@ def again(words: argparse.Namespace, stop: Stop) -> int:
     of_yosys = same_design(bundle, stop) if words.yosys else ""
     said = _simulated_again(words, bundle, stop)
     on_page = said if said.by else Simulated(circuit=of_yosys or NOT_COMPARED)
-    shown = audited(bundle, version(program(), stop), on_page, bool(words.sources))
-    table = table_of(shown.rows, bundle.circuit(), said)
+    shown = audited(bundle, version(program(), stop), on_page, bool(words.sources), bool(of_yosys))
+    table = table_of(shown.rows, bundle.circuit(), asked_of(bundle.manifest), said)
     changed = against(words, side_of(Version.of(bundle), table, shown.read), of_yosys, stop) if words.since else None
     if changed:
         write(changed, words.page, words.junit, {})
@@ -326,13 +327,13 @@ def again(words: argparse.Namespace, stop: Stop) -> int:
         sys.stdout.write(changed.text())
     sys.stdout.flush()
     if bundle.manifest["sources"] and (words.sources or words.yosys or words.simulate):
-        _said(options_of(bundle))
-    if is_older(bundle) and not is_kept(bundle.rows[0], bundle.circuit(), stop):
+        _said(options_of(bundle, bool(of_yosys)))
+    if is_older(bundle) and bundle.rows[0].claim is None:
         _said("that some run keeps the assumptions is a solver's word, as the bundle is of an older version")
     if not words.quiet:
         _say_of_assumptions(bundle.rows[0], bundle.circuit(), bundle.summed)
         _say_of_needs(table, bundle.circuit())
-    if not said.agrees:
+    if said.agrees is False:
         _said(said.circuit)
     of_sources, count = compared(bool(bundle.manifest["sources"]), of_yosys, said), asked(bundle.manifest)
     print(plain(line_of_recheck(table, count, of_sources, bool(words.sources))), file=sys.stderr)
@@ -367,8 +368,10 @@ def _ended(call: Callable[[argparse.Namespace, Stop], int], words: argparse.Name
         _said("stopped" if stop.stopped else str(error))
         return INTERRUPTED if stop.stopped else OPEN
     except (ToolFailed, Wrong, AigError) as error:
-        for line in str(error).split("\n"):
-            _said(line)
+        first, *others = str(error).split("\n")
+        _said(first)
+        for line in others:  # it may be the sender's: it does not look as a line of this program
+            print(f"    {plain(line)}", file=sys.stderr)
         return REJECTED
 
 

@@ -8,7 +8,7 @@ from dataclasses import dataclass, replace
 from typing import TYPE_CHECKING, Any, Callable, Dict, List, Literal, NamedTuple, Optional, Sequence, Union
 
 from . import sentences
-from .checked import CONFIRMED, UNREACHABLE, Checked, Wrong, expect
+from .checked import CONFIRMED, CONSTRAINTS, UNREACHABLE, Checked, Wrong, expect
 from .cycles import Moment
 from .pieces import Needs
 from .row import LEFT_OUT, UNDECIDED, Row
@@ -147,10 +147,20 @@ class Judged:
         return replace(self, said=Undecided(DISAGREES), simulated=said)
 
 
+class Asked(NamedTuple):
+    """What was asked of a design: runs of so many frames, whether the conditions of assertions are ever true, and how many
+    properties its circuit has, if that is known."""
+
+    frames: int = 0
+    conditions: bool = True
+    properties: Optional[int] = None
+
+
 class Judge:
     """Judges rows by each other: the rows of conditions and of the constraints say what is vacuous."""
 
-    def __init__(self, rows: Sequence[Row]):
+    def __init__(self, rows: Sequence[Row], asked: Asked = Asked()):
+        self._asked = asked
         self._alive = next((row for row in rows if row.kind == "constraints"), None)
         self._conditions: Dict[Optional[int], Row] = {row.of: row for row in rows if row.kind == "condition"}
         circuits = {row.checked.circuit for row in rows if row.checked is not None}
@@ -164,14 +174,28 @@ class Judge:
         alive = self._alive.checked if self._alive is not None else None
         if alive is not None and alive.by == "alive" and result in ("holds", "never", "bounded"):
             return Judged(row, Decided("vacuous", alive), sentences.never_kept(alive.frames), self._alive)
+        doubt = self._doubt_of_assumptions(own) if result in ("holds", "never", "bounded") else ""
         condition = self._conditions.get(row.position)
+        if not self._asked.conditions and condition is None and result in ("holds", "bounded") and row.kind == "assert":
+            doubt = "; ".join(filter(None, (doubt, sentences.CONDITION_NOT_ASKED)))
         if condition is not None and result in ("holds", "bounded"):
             asked = condition.checked
             if asked is not None and asked.line == UNREACHABLE:
                 return Judged(row, Decided("vacuous", asked), sentences.NEVER_ASKED, condition)
             if asked is None or asked.line != CONFIRMED:
-                return Judged(row, Decided(result, own), doubt=sentences.PERHAPS_ASKED)
-        return Judged(row, Decided(result, own))
+                doubt = "; ".join(filter(None, (doubt, sentences.PERHAPS_ASKED)))
+        return Judged(row, Decided(result, own), doubt=doubt)
+
+    def _doubt_of_assumptions(self, own: Checked) -> str:
+        """Why it is not known that any run keeps the assumptions: that is open, or they are kept for fewer frames than were
+        asked for, by a run that comes back to no state."""
+        if self._alive is None or self._alive.claim is not None and self._alive.claim.by == "":
+            return ""
+        kept = self._alive.checked
+        if kept is None:
+            return sentences.PERHAPS_KEPT
+        is_short = kept.frames < max(self._asked.frames, own.frames if own.by == "bound" else 0)
+        return sentences.kept_for(kept.frames) if is_short and not kept.is_lasting else ""
 
     def waits_for(self, row: Row) -> List[Row]:
         """The rows that have a say in what this one means."""
@@ -190,9 +214,13 @@ def _alone(row: Row, own: Checked) -> Found:
     raise Wrong(f"{row.label} has the verdict of another kind of row")
 
 
-def judge(rows: Sequence[Row], moment: Callable[[Row], Optional[Moment]] = lambda _: None) -> List[Judged]:
-    """The table, in the order of the properties, which is that of the sources. `moment` has that of a row's run."""
-    judged = Judge(rows)
+def judge(rows: Sequence[Row], moment: Callable[[Row], Optional[Moment]] = lambda _: None,
+          asked: Asked = Asked()) -> List[Judged]:
+    """The table, in the order of the properties, which is that of the sources. `moment` has that of a row's run. All rows of
+    a circuit are judged: without that of the assumptions, or of a condition, a vacuous one would hold."""
+    count = len(rows) - 1 if asked.properties is None else asked.properties
+    expect([row.position for row in rows] == [CONSTRAINTS, *range(count)], "a row is missing where rows are judged")
+    judged = Judge(rows, asked)
     table = [judged.of(row) for row in rows if row.kind in ("assert", "cover")]
     table = [replace(it, moment=moment(it.row)) if it.row.by == "run" else it for it in table]
     return sorted(table, key=lambda it: it.row.position)
@@ -234,7 +262,7 @@ def compared(has_sources: bool, made: str, said: Simulated) -> str:
     yosys = f", and {made}" if made else ""
     if not said.by:
         return yosys or f"; {_inside(NOT_COMPARED)}"
-    if not said.agrees or DISAGREES in (it.word for it in said.rows.values()):
+    if said.agrees is False or DISAGREES in (it.word for it in said.rows.values()):
         return f"{yosys}; ALARM: {said.by} disagrees, so the circuit may not be that of the sources"
     means = "which is no proof" if said.is_compared else "so nothing is said of the sources"
     return f"{yosys}; {said.circuit}, {means}"
@@ -248,7 +276,7 @@ def line_of_recheck(table: Sequence[Judged], count: int, of_sources: str, are_ow
 
 def line_of_run(table: Sequence[Judged], has_sources: bool, said: Simulated) -> str:
     """The last line of `run`, without the page."""
-    return summary(table) + (f"; {_inside(NOT_SIMULATED)}" if has_sources and not said.by else "")
+    return summary(table) + (f"; {_inside(NOT_SIMULATED)}" if has_sources and said.agrees is None else "")
 
 
 def _inside(sentence: str) -> str:

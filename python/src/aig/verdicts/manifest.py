@@ -7,10 +7,13 @@ import re
 from dataclasses import dataclass, field
 from typing import Any, Callable, Dict, List, Optional, Tuple
 
+from ..sva.parameters import Unusable, values_of
 from . import needed, simulated, timing
 from .checked import ALIVE, CIRCUIT, CONSTRAINTS, CUT, WAYS, Claim, Command, Wrong, expect
-from .decisions import judge
+from .decisions import Asked, judge
 from .row import KINDS, LEFT_OUT, MOST_FRAMES, ORIGINS, UNDECIDED, Row, name_of
+from .sources import look_at_words
+from .tools import ToolFailed
 
 __all__ = ["Wrong", "expect"]
 
@@ -67,6 +70,12 @@ def results(rows: List[Row]) -> Dict[int, str]:
     return {it.row.position: it.words for it in judge(rows)}
 
 
+def asked_of(manifest: Dict[str, Any]) -> Asked:
+    """What was asked of the design."""
+    has_conditions = manifest["options"].get("conditions") is not False
+    return Asked(int(manifest["bounds"].get("frames", 0)), has_conditions, len(manifest["rows"]) - 1)
+
+
 def is_of_older_formulas(manifest: Dict[str, Any]) -> bool:
     """Whether proofs of a bundle may be about formulas that `aig` does not make any more."""
     return bool(manifest["versions"].get("formulas") != FORMULAS)
@@ -121,8 +130,33 @@ def parsed(data: bytes) -> Dict[str, Any]:
         expect(is_right(made[name]), f"{name} of MANIFEST.json")
     expect(bool(made["options"]) == bool(made["sources"]), "options of MANIFEST.json")
     expect(set(made["translated"]) <= set(made["sources"]), "translated of MANIFEST.json")
+    _names(made)
     manifest: Dict[str, Any] = made
     return manifest
+
+
+def is_name(value: object) -> bool:
+    """Whether it has the form of a name of the sources, perhaps with instances before it: no blank, and nothing that a
+    terminal obeys."""
+    return type(value) is str and value.isprintable() and re.fullmatch(r"\S+", value) is not None
+
+
+def _names(made: Dict[str, Any]) -> None:
+    """That what is printed of the options has the form of a name, a definition or a value: nothing there is a sentence."""
+    options = made["options"]
+    expect(not options or is_name(made["name"]), "name of MANIFEST.json")
+    for name in ("defines", "free", "parameters", "asserts"):
+        expect(_texts(options.get(name, [])), "options of MANIFEST.json")
+    try:
+        values_of(options.get("parameters", []))
+        look_at_words(None, options.get("defines", []))
+    except Unusable as error:
+        raise Wrong(str(error)) from None
+    except ToolFailed:
+        raise Wrong("options of MANIFEST.json") from None
+    named = [options.get("top") or "top", options.get("module") or "module", *options.get("free", [])]
+    expect(all(map(is_name, named)), "options of MANIFEST.json")
+    expect(set(options.get("asserts", [])) <= set(made["sources"]), "options of MANIFEST.json")
 
 
 def _texts(value: Any) -> bool:

@@ -114,7 +114,8 @@ class Page:
         if not self.manifest.get("sources"):
             return ""
         text = said.circuit or NOT_SIMULATED
-        return f"<p class={'sub' if said.agrees else 'warn'}>{escape(text)}.</p>"
+        is_open = said.agrees is None and bool(said.by)
+        return f"<p class={'warn' if is_open or said.agrees is False else 'sub'}>{escape(text)}.</p>"
 
     def _comes_back(self, row: Row) -> bool:
         return comes_back(self.circuit.file, self.read(row.files["witness"]))

@@ -16,7 +16,7 @@ from .checked import CIRCUIT, CONSTRAINTS, Checked, Claim, Rejected, Wrong, chec
 from .design import Design, properties, symbol
 from .equal import do_the_same
 from .made import made, reading_of
-from .manifest import OLDER, SCRIPT_OF_YOSYS, check_results, is_of_older_formulas
+from .manifest import OLDER, SCRIPT_OF_YOSYS, check_results, is_name, is_of_older_formulas
 from .needed import pieces_that
 from .pieces import needs_of
 from .row import Row, has_constraints
@@ -74,6 +74,13 @@ def check_names(rows: List[Row], names: List[str], is_of_yosys: bool) -> None:
         expect(row.of == of, f"{row.label} is of another row")
 
 
+def look_at_places(bundle: Bundle) -> None:
+    """That each row is in a source, if it is in a file, and has a name that could be one of the sources, if there are any."""
+    for row in bundle.rows[1:]:
+        expect(row.file in ("", *bundle.manifest["sources"]), f"{row.label} is in a file that is no source")
+        expect(not bundle.manifest["options"] or is_name(row.name), f"{row.label} has a name that is none")
+
+
 def is_older(bundle: Bundle) -> bool:
     """Whether the bundle is of a version whose bundles had no run that keeps the assumptions."""
     return bool(bundle.manifest["format"] == OLDER)
@@ -98,8 +105,10 @@ def recheck(path: Path, say: Callable[[Row], None] = lambda _: None, jobs: int =
     bundle = Bundle(path, most_bytes)
     circuit = bundle.circuit()
     check_names(bundle.rows, _properties(circuit, stop), bool(bundle.manifest["options"]))
-    if not is_older(bundle):
-        expect(is_kept(bundle.rows[0], circuit, stop), "no run shows that the assumptions can be kept")
+    look_at_places(bundle)
+    if not is_kept(bundle.rows[0], circuit, stop):
+        expect(is_older(bundle), "no run shows that the assumptions can be kept")
+        bundle.rows[0].claim = None  # it is a solver's word, so it is open
     read = bundle.summed
     for name in bundle.sums:
         if name.startswith(("sources/", "translated/")) or name == SCRIPT_OF_YOSYS:
@@ -145,13 +154,16 @@ def same_sources(bundle: Bundle, files: Sequence[Path], include: Sequence[Path])
 def same_design(bundle: Bundle, stop: Stop = Stop()) -> str:
     """That Yosys makes the same circuit of the sources again, or one that does the same: what is said of it. Its rows are
     at the same places. Another version of Yosys may say that an assertion begins on another line."""
-    again, circuit = _made_again(bundle, stop), bundle.circuit()
+    with stop.at_once():
+        again, circuit = _made_again(bundle, stop), bundle.circuit()
     old, new = (yosys_of(it) for it in (bundle.manifest["versions"].get("yosys", ""), version("yosys", stop)))
     other = "" if old == new else f"; the bundle says that {old} made it, and this is {new}"
     is_same = again.circuit == circuit
     if not is_same and not do_the_same(circuit, again.circuit, stop):
         difference = _difference(circuit, again.circuit, stop)
         raise Wrong(f"Yosys makes another circuit of the sources: {difference}{other}")
+    expect(again.name == bundle.manifest["name"],
+           f"the top module of the sources is {again.name}, and {bundle.manifest['name']!r} in the bundle")
     translated = {name: bundle.summed(f"translated/{name}") for name in bundle.manifest["translated"]}
     expect(again.translated == translated, "the translation of the assertions is another one")
     places = {it.position: it for it in again.assertions}

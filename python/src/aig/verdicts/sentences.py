@@ -20,6 +20,8 @@ NOT_SIMULATED = "Not compared with a simulator"
 # Why a row is vacuous, or may be.
 NEVER_ASKED = "its condition is never true: nothing is asserted in any run"
 PERHAPS_ASKED = "whether its condition is ever true is not decided"
+CONDITION_NOT_ASKED = "whether it has a condition that is never true was not asked"
+PERHAPS_KEPT = "whether some run keeps the assumptions is not decided"
 
 
 class Group(NamedTuple):
@@ -219,6 +221,12 @@ def no_proof_needs(found: Needs, proofs: int, others: int) -> str:
 def never_kept(frames: int) -> str:
     """Why a row is vacuous: the assumptions contradict each other."""
     return f"no run keeps the assumptions for {frames} frames"
+
+
+def kept_for(frames: int) -> str:
+    """Why a row may be vacuous: the run that keeps the assumptions is shorter than what was searched, and it comes back to
+    no state."""
+    return f"the assumptions are known to be kept for {counted(frames, 'frame')}, which is less than was searched"
 
 
 def of_assumptions(rows: Sequence[Row], comes_back: Callable[[Row], bool]) -> List[str]:

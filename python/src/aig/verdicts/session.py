@@ -18,6 +18,7 @@ from .._program import OftenRead, program
 from .bundle import MOST_BYTES, Bundle
 from .checked import ALIVE, CIRCUIT, CONSTRAINTS, WAYS, Checked, Claim, Rejected, Wrong, sum_of
 from .decide import ENGINES, Bounds, Found, Hint, Narrow, Programs, Task
+from .decisions import Asked
 from .design import Design
 from .folder import TIMES, Folder
 from .hints import by_name
@@ -307,6 +308,12 @@ class Session:
     def search(self, work: Work = Work()) -> bool:
         """Finds what is not known yet. It is false if the user stopped it; what was found until then is kept."""
         return self._work([(row, self._task(row)) for row in self.waiting()], self.take, work)
+
+    @property
+    def asked_of(self) -> Asked:
+        """What was asked of the design."""
+        has_conditions = self.design.options.get("conditions") is not False
+        return Asked(self.bounds.frames, has_conditions, len(self.design.assertions))
 
     def _frames(self, row: Row) -> int:
         """How far the search for a row goes. Assumptions have to be kept as long as the longest search goes."""

@@ -10,8 +10,8 @@ from .bundle import Bundle
 from .changes import Known
 from .checked import CIRCUIT, CONFIRMED, Checked, Rejected, Wrong, expect, sum_of
 from .cycles import cycles_of
-from .decisions import BAD, MEANINGS, Judge, Judged, judge
-from .manifest import is_of_older_formulas
+from .decisions import BAD, MEANINGS, Asked, Judge, Judged, judge
+from .manifest import asked_of, is_of_older_formulas
 from .matching import Version
 from .recheck import check_row, meant
 from .row import Row
@@ -35,15 +35,16 @@ class Side(NamedTuple):
     read: Callable[[str], bytes]
 
 
-def table_of(rows: Sequence[Row], circuit: bytes, simulated: Simulated = Simulated()) -> List[Judged]:
+def table_of(rows: Sequence[Row], circuit: bytes, asked: Asked, simulated: Simulated = Simulated()) -> List[Judged]:
     """The table, with the moments of runs where there are any."""
-    table = judge(rows, cycles_of(circuit).at) if any(row.by == "run" for row in rows) else judge(rows)
+    has_runs = any(row.by == "run" for row in rows)
+    table = judge(rows, cycles_of(circuit).at, asked) if has_runs else judge(rows, asked=asked)
     return simulated.beside(table)
 
 
 def checked_side(bundle: Bundle, simulated: Simulated) -> Side:
     """A bundle whose rows `aig` has checked."""
-    return side_of(Version.of(bundle), table_of(bundle.rows, bundle.circuit(), simulated), bundle.summed)
+    return side_of(Version.of(bundle), table_of(bundle.rows, bundle.circuit(), asked_of(bundle.manifest), simulated), bundle.summed)
 
 
 def side_of(version: Version, table: Sequence[Judged], read: Callable[[str], bytes]) -> Side:
@@ -96,6 +97,7 @@ def _believed(bundle: Bundle, row: Row, words: str) -> Known:
     condition = next((it for it in bundle.rows if it.of == row.position), None)
     asked = condition.claim if condition is not None else None
     is_sure = condition is None or result not in ("holds", "bounded") or asked is not None and asked.line == CONFIRMED
+    is_sure &= bundle.rows[0].claim is not None or result not in ("holds", "never", "bounded")
     frames = row.claim.frames if row.claim is not None else 0
     simulated = of_facts(bundle.manifest["simulated"])
-    return Known(row, result, words, frames, is_sure and simulated.agrees)
+    return Known(row, result, words, frames, is_sure and simulated.agrees is not False)

@@ -4,7 +4,7 @@ disagrees, somebody has to look."""
 from __future__ import annotations
 
 from dataclasses import replace
-from typing import Any, Dict, List, NamedTuple, Sequence
+from typing import Any, Dict, List, NamedTuple, Optional, Sequence
 
 from .decisions import Judged
 from .sentences import DISAGREES
@@ -30,13 +30,13 @@ class Simulated(NamedTuple):
 
     by       the simulator, as in `Icarus Verilog 11.0`; empty if none was asked
     circuit  what it says of the whole circuit, as a sentence, or that nobody says anything
-    agrees   whether it says nothing against the circuit
+    agrees   whether it says the same as the circuit; None if nothing could be compared, or no simulator was asked
     rows     what it says of rows, by position
     """
 
     by: str = ""
     circuit: str = ""
-    agrees: bool = True
+    agrees: Optional[bool] = None
     rows: Dict[int, Said] = {}
 
     @property
@@ -59,7 +59,7 @@ class Simulated(NamedTuple):
         said = self.rows.get(it.row.position)
         if said is not None and said.word == DISAGREES:
             return it.denied_by(said.text)
-        is_denied = not self.agrees and (said is None or said.word != AGREES)
+        is_denied = self.agrees is False and (said is None or said.word != AGREES)
         return replace(it, simulated=said.text if said else "",
                        denied=f"the circuit is not as in {self.by}" if is_denied else "")
 
@@ -75,7 +75,7 @@ def are_facts(value: Any) -> bool:
     """Whether MANIFEST.json can have this."""
     return value == {} or (
         type(value) is dict and set(value) == set(Simulated(circuit="any").facts())
-        and type(value["by"]) is str and type(value["circuit"]) is str and type(value["agrees"]) is bool
+        and type(value["by"]) is str and type(value["circuit"]) is str and type(value["agrees"]) in (bool, type(None))
         and type(value["rows"]) is dict and all(_is_row(at, said) for at, said in value["rows"].items()))
 
 

@@ -61,6 +61,7 @@ class Stop:
         self._running: Set[subprocess.Popen[bytes]] = set()
         self.stopped = False
         self.is_late = False  # stopped, as the time of the whole run is over
+        self._raises = False
 
     def begin(self, process: subprocess.Popen[bytes]) -> None:
         with self._lock:
@@ -73,11 +74,25 @@ class Stop:
             self._running.discard(process)
 
     def __call__(self, *_: object) -> None:
-        """Also the handler of a signal. It raises nothing, so no write is left half done."""
+        """Also the handler of a signal. It raises nothing, so no write is left half done, but in what may be left at once."""
         with self._lock:
             self.stopped = True
             for process in list(self._running):
                 _kill(process)
+            raises = self._raises and not self._running and threading.current_thread() is threading.main_thread()
+        if raises:
+            raise Stopped
+
+    @contextmanager
+    def at_once(self) -> Iterator[None]:
+        """What runs inside may be left anywhere, as it writes nothing that stays: a signal ends it, even if it calls no
+        program for long."""
+        self.look()
+        before, self._raises = self._raises, True
+        try:
+            yield
+        finally:
+            self._raises = before
 
     def late(self) -> None:
         """The time of the whole run is over."""

@@ -12,7 +12,7 @@ _LOSES_NONE = (0, 52)
 
 def yosys_of(said: str) -> str:
     """The name and the version in what Yosys says of itself."""
-    match = re.search(r"Yosys (\d[^ ]*)", said)
+    match = re.search(r"Yosys (\d[\w.+-]*)", said)
     return f"Yosys {match[1]}" if match else "another Yosys"
 
 

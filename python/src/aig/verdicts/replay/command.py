@@ -5,9 +5,11 @@ from __future__ import annotations
 import argparse
 import sys
 from pathlib import Path
-from typing import List
+from typing import List, Sequence
 
+from ..decisions import OPEN
 from ..recheck import recheck
+from ..row import Row
 from ..table import plain
 from ..tools import Stop, ToolFailed
 from .words import NotReplayed
@@ -20,12 +22,13 @@ RANDOM_RUNS = 3
 
 
 def replay(words: argparse.Namespace, stop: Stop) -> int:
-    """Plays the runs of a bundle. Its status is 0 if each agrees, 5 if one disagrees, else 4."""
+    """Plays the runs of a bundle. Its status is 0 if each agrees and there are some, 5 if one disagrees, else 4."""
     if not words.bundle.exists():
         raise FileNotFoundError(f"there is no bundle {words.bundle}")
     bundle = recheck(words.bundle, stop=stop)
     if not bundle.manifest["sources"]:
         raise ToolFailed("the bundle has no sources")
+    rows = _chosen(bundle.rows, words.only)
     simulator, name = Simulator(words.simulator, stop), Path(words.simulator).name
     try:
         playing = Replay(bundle, simulator, stop, words.hold)
@@ -41,10 +44,7 @@ def replay(words: argparse.Namespace, stop: Stop) -> int:
         told = playing.random(words.random, seed)
         outcomes.append(told)
         print(plain(f"random run {seed} of {words.random} frames: {told.said_of_random(name)}"), flush=True)
-    rows = [row for row in bundle.rows if row.by == "run" and row.kind in ("assert", "cover")]
     for row in rows:
-        if words.only and row.name not in words.only and row.label not in words.only:
-            continue
         told = playing.row(row, words.to)
         outcomes.append(told)
         print(plain(f"{row.label}  {row.name}  {told.said(name)}"), flush=True)
@@ -53,4 +53,13 @@ def replay(words: argparse.Namespace, stop: Stop) -> int:
             print(plain(f"not compared: {signal}"))
     left = f"; {len(playing.left_out)} signals were not compared" if playing.left_out else ""
     print(f"{len(outcomes)} runs in {simulator.name}{left}", file=sys.stderr)
-    return max((it.word.status for it in outcomes), default=0)
+    return max((it.word.status for it in outcomes), default=OPEN)
+
+
+def _chosen(rows: Sequence[Row], names: Sequence[str]) -> List[Row]:
+    """The rows with a run, of these names or labels if there are any."""
+    rows = [row for row in rows if row.kind in ("assert", "cover")]
+    for name in names:
+        if not any(name in (row.name, row.label) for row in rows):
+            raise ToolFailed(f"there is no assertion {name}")
+    return [row for row in rows if row.by == "run" and (not names or {row.name, row.label} & {*names})]

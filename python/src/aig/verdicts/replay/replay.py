@@ -23,7 +23,7 @@ from ..timing import Timing, of_facts
 from ..tools import Stop, ToolFailed
 from .adapted import BEFORE, Adapted
 from .allowed import look_at_files, read_by_themselves
-from .boxes import without_bodies
+from .boxes import below, without_bodies
 from .compared import ALWAYS, Comparison, Difference, Property, assumptions, properties
 from .log import Log
 from .older import timing_of_older
@@ -70,7 +70,7 @@ class Replay:
         text = simulator.preprocessed(sources, names, defines)
         modules, signals = modules_and_signals(bundle.manifest["options"].get("free", []))
         self._freed = {it.partition(".")[2] for it in signals}
-        text = without_bodies(text, modules)
+        text = below(without_bodies(text, modules), top)
         adapted = Adapted(text)
         self._checks, self._places = adapted.checks, Places(text, top)
         inputs, both = (adapted.ports_of(top, [it]) for it in ("input", "inout"))

@@ -41,7 +41,9 @@ def simulated(bundle: Bundle, rows: Sequence[Row], program: str, bounds: Bounds,
     against = next((it for it in outcomes if it.word is Word.DISAGREES), None)
     played = [row for row in rows if row.by == "run" and row.kind in ("assert", "cover")]
     with ThreadPoolExecutor(bounds.jobs or os.cpu_count() or 1) as pool:
-        outcomes_of_rows = zip(played, pool.map(replay.row, played))
+        outcomes_of_rows = list(zip(played, pool.map(replay.row, played)))
+        if against is None:
+            against = next((told for _, told in outcomes_of_rows if told.word is Word.BY_OTHER_VALUES and told.differences), None)
         said = {row.position: _said(told, row, simulator.name) for row, told in outcomes_of_rows}
     if against is not None:
         for row in rows:
@@ -50,7 +52,8 @@ def simulated(bundle: Bundle, rows: Sequence[Row], program: str, bounds: Bounds,
                 said[row.position] = Said(DISAGREES, f"{simulator.name}: {named(differences)}")
     circuit = _of_circuit(outcomes, against, simulator.name, replay)
     seed = f" (seed {bounds.seed})" if bounds.seed else ""
-    return Simulated(simulator.name, f"{circuit}{seed}", against is None, said)
+    made = Simulated(simulator.name, f"{circuit}{seed}", None, said)
+    return made._replace(agrees=False if against is not None else made.is_compared or None)
 
 
 def _random(replay: Replay, seconds: float) -> List[Outcome]:
