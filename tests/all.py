@@ -40,8 +40,8 @@ STEPS = "tests/run_steps.py"
 COMPARED = ("benchmarks/measure.py", "compare", "--count", "40")
 NO_COMPILER = ("echo", "compare: left out: there is no c++")
 # these read the sources and pages alone
-READERS = ("tools/definitions.py", "tools/contracts.py", "tools/edges.py", "tools/named_crates.py", "tools/unused.py",
-           "tools/pages.py", "tools/pictures.py", "tools/version.py")
+READERS = ("tools/definitions.py", "tools/contracts.py", "tools/theorems.py", "tools/edges.py",
+           "tools/named_crates.py", "tools/unused.py", "tools/pages.py", "tools/pictures.py", "tools/version.py")
 COUNTS = re.compile(r"(\d+) passed[,;] (\d+) failed")
 # what a script left out: its name, and why
 LEFT_OUT = re.compile(r"(?m)^(.*?): left out: (.*)$")

@@ -14,11 +14,15 @@ who has read that. As in
 
     tools/definitions.py --of refute --clause unreachable --given check.confirmed
 
-`--code` prints the bodies between the proved clauses and the system: those that say which file, which arguments and
-which stream a command gets. No clause can say that, because std does not say which bytes these have. README.md has the
-count of their lines, which is compared.
+With `--text` it prints the definitions themselves and the clause, as they are on the pages of docs/theorems/
+(tools/theorems.py).
 
-What public modules show counts as exported too: crates above use it.
+`--code` prints the bodies between the proved clauses and the system: those that say which file, which arguments and
+which stream a command gets (sources/between.py says how they are found). No clause can say that, because std does not
+say which bytes these have. README.md has the count of their lines, which is compared.
+
+What public modules show counts as exported too: crates above use it. `--of` knows the program's own functions, too, as
+`run_given`.
 
 It reads text and proves nothing: library/specs.py says how it goes by names. Not counted are types and functions of std
 and of the toolchain's crates, and the structs and enums of the sources, which contracts cite as they are."""
@@ -29,7 +33,9 @@ import re
 import sys
 import textwrap
 
-from sources.exports import Crate, crates
+from sources import shown
+from sources.between import PROGRAM, code
+from sources.exports import Crate, Program, crates
 from sources.specs import ROOT, Specs, head, words
 
 LIST = re.compile(r"(?ms)^## Definitions\n\n(.*?)(?=^## |\Z)")
@@ -41,9 +47,6 @@ EXAMPLES = re.compile(r"\d+ of \d+(?=\s+files\s+have\s+an\s+example\b)")
 POINTER = re.compile(r"`(\w+)/(\w+)`")
 README = ROOT / "README.md"
 CODE = re.compile(r"\d+(?=\s+lines\s+of\s+code\b)")
-# The functions between the clauses and the system, each with its file.
-BETWEEN = (("aig/src/main.rt", "main"), ("aig/src/main.rt", "run"), ("aig/src/main.rt", "run_command"),
-           ("aig_files/src/files.rt", "open"))
 WIDTH = 120
 
 
@@ -59,6 +62,7 @@ class Promises:
         self.specs = Specs()
         self.crates = [Crate(name) for name in crates()]
         self.exports = [it for crate in self.crates for it in crate.exports()]
+        self.of_program = [*Program(PROGRAM).exports()]
         # the definitions that a type is seen as
         self.values = collections.defaultdict(set)
         for it in self.exports:
@@ -68,7 +72,7 @@ class Promises:
 
     def named(self, name):
         """Returns the exports of a name, before which its crate may be: `aig_refute::check`."""
-        return [it for it in self.exports if name in (it.name, f"{it.crate}::{it.name}")]
+        return [it for it in self.exports + self.of_program if name in (it.name, f"{it.crate}::{it.name}")]
 
     def having(self, name, clause):
         """Returns the exports of a name that have a clause, or all of them where no clause is asked for."""
@@ -86,6 +90,12 @@ class Promises:
     def believed(self, export, clause=None):
         """Returns the definitions that a contract reaches, or one clause of it."""
         return self.specs.reached(self.cited(export, clause))
+
+
+    def given(self, named):
+        """Returns the definitions that a call or a clause reaches, as `check.printed`."""
+        name, _, clause = named.partition(".")
+        return set().union(*(self.believed(it, clause or None) for it in with_clause(self, name, clause or None)))
 
 
 def by_file(specs, keys):
@@ -159,18 +169,6 @@ def compare_lists(specs, reached, write):
     return wrong
 
 
-def code():
-    """Returns the functions between the clauses and the system, each with the lines of its body."""
-    found = []
-    for file, name in BETWEEN:
-        text = (ROOT / "crates" / file).read_text(encoding="utf-8")
-        body = re.search(rf"(?ms)^( *)(?:pub )?fn {name}\b[^{{]*(?:\{{[^\n]*\}}\n[^{{]*)*?\{{\n(.*?)^\1\}}$", text)
-        if not body:
-            sys.exit(f"{file} has no function {name}")
-        found.append((file, name, body[2].rstrip("\n").split("\n")))
-    return found
-
-
 def print_code():
     """Prints these functions and the count of their lines."""
     bodies = code()
@@ -226,9 +224,7 @@ def print_of(promises, name, clause, given):
     """Prints the definitions that the calls of a name reach, or one clause of them, without those that are given."""
     known, beside = set(), ""
     if given:
-        other, _, its_clause = given.partition(".")
-        known = set().union(*(promises.believed(it, its_clause or None)
-                              for it in with_clause(promises, other, its_clause or None)))
+        known = promises.given(given)
         beside = f" beside the {promises.specs.lines(known)} of {given}"
     for export in with_clause(promises, name, clause):
         reached = promises.believed(export, clause) - known
@@ -238,6 +234,16 @@ def print_of(promises, name, clause, given):
         print(f"{whose}: {promises.specs.lines(reached)} lines to believe{beside}, of {len(reached)} definitions")
 
 
+def print_text(promises, name, clause, given):
+    """Prints the definitions that the calls of a name reach, or one clause of them, each after those that it cites, and
+    then the clauses."""
+    known = promises.given(given) if given else set()
+    for export in with_clause(promises, name, clause):
+        for line in shown.page(promises.specs, promises.believed(export, clause) - known):
+            print(line)
+        print("\n".join(shown.clauses(export, [clause] if clause else None)))
+
+
 def main():
     reader = argparse.ArgumentParser(description=__doc__, formatter_class=argparse.RawDescriptionHelpFormatter)
     reader.add_argument("--names", action="store_true", help="list the definitions")
@@ -245,16 +251,17 @@ def main():
     reader.add_argument("--of", metavar="NAME", help="one call, as `convert`, `Bench::rewire` or `aig_refute::check`")
     reader.add_argument("--clause", help="with --of: one clause of the call")
     reader.add_argument("--given", metavar="NAME[.CLAUSE]", help="with --of: without what this call or clause rests on")
+    reader.add_argument("--text", action="store_true", help="with --of: the definitions and clauses themselves")
     reader.add_argument("--code", action="store_true", help="print the code between the clauses and the system")
     chosen = reader.parse_args()
     if chosen.code:
         print_code()
         return 0
-    if not chosen.of and (chosen.clause or chosen.given):
-        reader.error("--clause and --given are for one call: --of NAME")
+    if not chosen.of and (chosen.clause or chosen.given or chosen.text):
+        reader.error("--clause, --given and --text are for one call: --of NAME")
     promises = Promises()
     if chosen.of:
-        print_of(promises, chosen.of, chosen.clause, chosen.given)
+        (print_text if chosen.text else print_of)(promises, chosen.of, chosen.clause, chosen.given)
         return 0
     specs = promises.specs
     reached = set().union(*(promises.believed(it) for it in promises.exports))

@@ -18,7 +18,7 @@ import re
 import sys
 
 ROOT = pathlib.Path(__file__).resolve().parent.parent
-PATTERNS = ("*.md", "docs/*.md", "examples/*.md", "python/*.md", "crates/*/README.md")
+PATTERNS = ("*.md", "docs/*.md", "docs/theorems/*.md", "examples/*.md", "python/*.md", "crates/*/README.md")
 # tools/contracts.py writes the lines of the one, and the tables of the other are as they were measured.
 LONG_LINES = ("docs/CONTRACTS.md", "docs/PERFORMANCE.md")
 COLUMNS = 120

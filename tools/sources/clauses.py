@@ -28,6 +28,12 @@ def stripped(text: str) -> str:
 
 def signature(text: str, start: int) -> Tuple[str, List[Clause]]:
     """Returns the head of the function that begins at a place, and its clauses."""
+    head, clauses, _ = parts(text, start)
+    return head, clauses
+
+
+def parts(text: str, start: int) -> Tuple[str, List[Clause], str]:
+    """Returns the head of the function that begins at a place, its clauses, and its body, which is empty in a trait."""
     depth, at = 0, start
     stop = re.compile(r"\s*(?:[{;]|\b(?:requires|ensures)\b)")
     while depth or not stop.match(text, at):
@@ -38,7 +44,8 @@ def signature(text: str, start: int) -> Tuple[str, List[Clause]]:
     while True:
         found = CLAUSE.match(text, at)
         if not found:
-            return head, clauses
+            at += len(text[at:]) - len(text[at:].lstrip())
+            return head, clauses, braces(text, at) if text[at : at + 1] == "{" else ""
         clause = braces(text, found.end() - 1)
         clauses.append((found[1], stripped(clause)))
         at = found.end() - 1 + len(clause)

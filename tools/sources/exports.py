@@ -3,12 +3,12 @@
 A crate exports what `pub use` in its lib.rt names, and the type that an exported alias names. A module of a folder may
 export a name again in the same way. With a type come its public methods, and the implementations of traits for it,
 where they have clauses or say what contracts see. What a public module shows beside these is marked: its `listed` is
-false."""
+false. A program exports nothing: of it, all functions with clauses count."""
 
 from __future__ import annotations
 
 import re
-from typing import Iterator, List, NamedTuple, Optional, Set, Tuple
+from typing import Dict, Iterator, List, NamedTuple, Optional, Set, Tuple
 
 from sources.clauses import Clause, braces, signature, stripped
 from sources.specs import ROOT, Known, imports
@@ -98,14 +98,21 @@ def block_at(text: str, start: int) -> Optional[Block]:
     return Block(head, kind, owner[1] if owner else None, trait[1] if trait else None)
 
 
+def modules(crate: str) -> Dict[str, str]:
+    """Returns the text of each module of a crate, by a path as `checker::refutation`."""
+    folder = ROOT / "crates" / crate / "src"
+    paths = {"::".join(it.relative_to(folder).with_suffix("").parts): it for it in sorted(folder.rglob("*.rt"))}
+    return {module: path.read_text(encoding="utf-8") for module, path in paths.items()}
+
+
 class Crate:
-    """What the sources of a crate say: the text of each module, by a path as `checker::refutation`."""
+    """What the sources of a crate say: the text of each module."""
+
+    shows_private = False
 
     def __init__(self, name: str):
         self.name = name
-        folder = ROOT / "crates" / name / "src"
-        paths = {"::".join(it.relative_to(folder).with_suffix("").parts): it for it in sorted(folder.rglob("*.rt"))}
-        self.texts = {module: path.read_text(encoding="utf-8") for module, path in paths.items()}
+        self.texts = modules(name)
         self.doc = sentence([line[3:].strip() for line in self.texts["lib"].split("\n") if line.startswith("//!")])
         self.public_modules = set(self.public_below("lib"))
         self.passed_on = {}
@@ -190,8 +197,22 @@ class Crate:
                 continue
             inside, public, name = found.groups()
             by_trait = block is not None and (block.kind == "pub trait" or block.trait is not None)
-            if not (public or by_trait):
+            if not (public or by_trait or self.shows_private):
                 continue
             head, clauses = signature(text, at.start() + len(inside))
             if clauses or not (block and block.trait):
                 yield export(f"{block.owner}::{name}" if block else name, head, clauses, block, number)
+
+
+class Program(Crate):
+    """The same of a program: its own functions, none of which is public."""
+
+    shows_private = True
+
+    def __init__(self, name: str):
+        self.name = name
+        self.texts = modules(name)
+        self.homes = {(module, it[3]) for module, text in self.texts.items() for line in text.split("\n")
+                      for it in [FUNCTION.match(line)] if it and not it[1]}
+        self.names = {it for _, it in self.homes}
+        self.public_modules = set()
