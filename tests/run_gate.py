@@ -371,7 +371,7 @@ def with_kit(part):
 PARTS = {"cited": cited, "sums": with_kit(sums), "again": with_kit(again), "wrong": wrong, "left_out": left_out,
          "planted": planted_of_python, "scripts": scripts, "lanes": side_by_side, "report": costing.report,
          "functions": costing.of_functions, "theorems": theorems.pages, "between": theorems.between,
-         "shown": theorems.shown_text}
+         "shown": theorems.shown_text, "names": theorems.names}
 
 if __name__ == "__main__":
     runs.main(__doc__, PARTS)

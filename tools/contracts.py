@@ -8,9 +8,9 @@ place of the list.
 
 README.md and docs/PROVED.md are compared too. The last column of each table that ends with the column `lines to
 believe` has the lines of the call, or of its clause, in the column `call, clause`; a row that says `more` has only
-those that are not of what a circuit file is. docs/PROVED.md says how many calls have no clause. Each clause that it
-shows has to be in the sources. --write writes the list and these numbers. The script reads text and proves nothing. The
-texts of definitions are on neither page."""
+those that are not of what a circuit file is. docs/PROVED.md says how many calls have no clause, and names each or its
+type. It names all laws and no other. Each clause that it shows has to be in the sources. --write writes the list and
+these numbers. The script reads text and proves nothing. The texts of definitions are on neither page."""
 
 import argparse
 import difflib
@@ -171,9 +171,9 @@ def lines_of(promises, name, clause, known=frozenset()):
     return [promises.specs.lines(promises.believed(it, clause) - known) for it in promises.having(name, clause)]
 
 
-def without_clause(promises):
-    """Returns how many exported functions have no clause."""
-    return sum(not it.clauses and re.search(r"\bfn\b", it.head) is not None for it in promises.exports)
+def unclaimed(promises):
+    """Returns the exported functions that have no clause."""
+    return [it for it in promises.exports if not it.clauses and re.search(r"\bfn\b", it.head)]
 
 
 def counted(promises, path):
@@ -182,7 +182,7 @@ def counted(promises, path):
     name, clause = CIRCUIT_FILE
     circuit_file = set().union(*(promises.believed(it, clause) for it in promises.having(name, clause)))
     found, column = [], None
-    text = UNCLAIMED.sub(str(without_clause(promises)), path.read_text(encoding="utf-8"))
+    text = UNCLAIMED.sub(str(len(unclaimed(promises))), path.read_text(encoding="utf-8"))
     for line in text.split("\n"):
         cells = [it.strip() for it in line.split("|")[1:-1]] if line.startswith("|") else []
         if cells and cells[-1] == BELIEVED:
@@ -208,10 +208,23 @@ def wrong_quotes(promises):
             yield f"docs/PROVED.md shows a clause that no call has: {' '.join(shown.split())}"
 
 
+def wrong_names(promises):
+    """Yields which laws and calls without a clause docs/PROVED.md does not name, and which laws no crate has."""
+    text = PROVED.read_text(encoding="utf-8")
+    named, laws = {*re.findall(r"`([\w:]+)`", text)}, {it.name for it in promises.exports if it.name.startswith("law_")}
+    said = {name for name in named if name.startswith("law_")}
+    yield from (f"docs/PROVED.md does not name {name}" for name in sorted(laws - said))
+    yield from (f"docs/PROVED.md names {name}, which no crate exports" for name in sorted(said - laws))
+    for it in unclaimed(promises):
+        if not {it.name, it.name.partition("::")[0]} & named:
+            yield f"docs/PROVED.md does not name {it.name}, which has no clause"
+
+
 def wrong_pages(promises, new):
     """Yields how the list and the numbers of README.md and docs/PROVED.md differ from the sources."""
     yield from wrong_numbers(promises)
     yield from wrong_quotes(promises)
+    yield from wrong_names(promises)
     pages = [(PAGE, read_page(), new)]
     pages += [(it, it.read_text(encoding="utf-8").split("\n"), counted(promises, it)) for it in (README, PROVED)]
     for path, old, sources in pages:

@@ -5,7 +5,7 @@ It compares the lists under "Definitions" in the READMEs of the crates with the 
 numbers of docs/DEFINITIONS.md with the sources. It fails where they differ; --write writes them. It also fails where
 "Where to begin" of that page names a file that is not there. Each file of a crate's specs/ has a line: how many of its
 lines are reached, and of how many. With --names the definitions themselves are listed. It fails where one that is
-reached is in specs/state/, which is for what proofs alone need.
+reached is in specs/state/, which is for what proofs alone need, and where a source could tell types apart.
 
 `--of NAME` prints the definitions of one call, as `convert`, `Bench::rewire` or `aig_refute::check`, and their lines.
 With `--clause CLAUSE` it prints those of one clause. A clause without a name is called `ensures` or `requires`. With
@@ -34,7 +34,7 @@ import sys
 import textwrap
 
 from sources import shown
-from sources.between import PROGRAM, code
+from sources.between import PROGRAM, code, telling
 from sources.exports import Crate, Program, crates
 from sources.specs import ROOT, Specs, head, words
 
@@ -266,7 +266,10 @@ def main():
     specs = promises.specs
     reached = set().union(*(promises.believed(it) for it in promises.exports))
     wrong = print_files(specs, reached, chosen.names)
-    differ = compare_lists(specs, reached, chosen.write) + compare_pages(specs, reached, chosen.write)
+    told = telling()
+    for line in told:
+        print(f"code can tell its reader from others: {line}")
+    differ = len(told) + compare_lists(specs, reached, chosen.write) + compare_pages(specs, reached, chosen.write)
     print(f"{specs.lines(reached)} lines of {specs.lines(specs.table)} to believe, of {len(reached)} definitions; "
           f"{wrong} in the wrong folder")
     return 1 if wrong or differ else 0

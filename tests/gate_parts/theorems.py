@@ -1,13 +1,16 @@
 """The pages of theorems: a page that differs from the sources is seen, whatever of it differs. Beside them, how the
-functions between the clauses and the system are found, and how definitions are shown."""
+functions between the clauses and the system are found, and how definitions are shown; and that docs/PROVED.md names all
+laws, and all calls without a clause."""
 
 import pathlib
+import re
 import shutil
 import sys
 
 from library.runs import REPOSITORY, write
 
 sys.path.insert(0, REPOSITORY + "/tools")
+import contracts  # noqa: E402
 import definitions  # noqa: E402
 import theorems  # noqa: E402
 from sources import between as found_between  # noqa: E402
@@ -45,8 +48,8 @@ def pages(_, tally, __):
     """Each page is as the sources are. A page that differs is seen, and `--write` writes what is in its blocks."""
     promises, usual = definitions.Promises(), theorems.FOLDER
     tally.compare("theorems: as they are", said(promises)[0], [])
-    tally.check("theorems: all are there", {"bench.md", "check.md", "circuit.md", "notation.md", "refute.md", "shell.md",
-                                            "sim.md", "toaig.md"} <= {path.name for path in usual.glob("*.md")})
+    wanted = {"bench", "check", "circuit", "notation", "refute", "shell", "sim", "toaig"}
+    tally.compare("theorems: all are there", {path.stem for path in usual.glob("*.md")}, wanted)
     theorems.FOLDER = pathlib.Path("theorems").absolute()
     try:
         for name, old, new, line, is_mended in WRONG:
@@ -104,7 +107,8 @@ trait Two {
 
 def between(_, tally, __):
     """The functions between the clauses and the system are found with their lines."""
-    bodies = dict(found_between.bodies(MODULE))
+    text = "\n".join(re.sub("//.*", "", line) for line in MODULE.split("\n"))
+    bodies = dict(found_between.bodies(text))
     tally.compare("between: functions", [*bodies], ["main", "opens", "idle", "reads", "neither", "three"])
     tally.compare("between: lines", [len(lines) for lines in bodies.values()], [1, 4, 1, 1, 0, 0])
     asks = [name for name, lines in bodies.items() if found_between.ASKS.search("\n".join(lines))]
@@ -112,6 +116,13 @@ def between(_, tally, __):
     files = {(file, name) for file, name, _ in found_between.code()}
     tally.check("between: of this program", {("aig/src/main.rt", "main"), ("aig_files/src/files.rt", "open")} <= files,
                 files)
+
+
+    tally.compare("between: code that tells types apart", found_between.telling(), [])
+    lines = {"if size_of::<R>() == 0 {": True, "mem::size_of_val(&reader)": True, "any::type_name::<W>()": True,
+             "TypeId::of::<R>()": True, "default fn read(&mut self) {": True, "(bit_in run) (size_of run)": False,
+             "reader.type_identity()": False}
+    tally.compare("between: such lines", {line: bool(found_between.TELLS.search(line)) for line in lines}, lines)
 
 
 # Lines of code, and the lines that they become at a width of 40.
@@ -131,8 +142,8 @@ def shown_text(_, tally, __):
         for line, wanted in LINES:
             tally.compare(f"shown: {line}", [*shown.narrow(line)], wanted)
         comment = ["-- " + "word " * 9 + "end", "-- more", "f = 1"]
-        tally.compare("shown: a comment", shown.narrowed(comment), ["-- " + "word " * 6 + "word", "-- word word end more",
-                                                                    "f = 1"])
+        wanted = ["-- " + "word " * 6 + "word", "-- word word end more", "f = 1"]
+        tally.compare("shown: a comment", shown.narrowed(comment), wanted)
     finally:
         shown.WIDTH = usual
     specs = Specs()
@@ -146,7 +157,32 @@ def shown_text(_, tally, __):
                 len(shown.source(specs, ordered[0])) > 1)
     missing = [key for key in specs.table if key[2] not in shown.commented(specs.table[key].path)]
     tally.compare("shown: all definitions have lines", missing, [])
-    write("one.antt", "-- head\nuse Rattle.a.specs.B.{\n  c,\n  d}\n\n-- e\n-- f\nabbrev pub g : h\ng = 1\n\ndata I where\n"
-                      "  -- j\n  k : I\n")
+    write("one.antt", "-- head\nuse Rattle.a.specs.B.{\n  c,\n  d}\n\n-- e\n-- f\nabbrev pub g : h\ng = 1\n\n"
+                      "data I where\n  -- j\n  k : I\n")
     tally.compare("shown: comments", shown.commented(pathlib.Path("one.antt")), {
         "g": ["-- e", "-- f", "abbrev pub g : h", "g = 1"], "I": ["data I where", "  -- j", "  k : I"]})
+
+
+# What is changed in docs/PROVED.md, how, and what is printed then.
+NAMES = (
+    ("`law_of_read_map`", "`law_of_dimacs`", "docs/PROVED.md does not name law_of_read_map"),
+    ("`law_of_cut`", "`law_of_cuts`", "docs/PROVED.md names law_of_cuts, which no crate exports"),
+    ("`Near`", "`Nearest`", "docs/PROVED.md does not name Near::name, which has no clause"),
+    ("`FileSource::none`", "`none`", "docs/PROVED.md does not name FileSource::none, which has no clause"),
+)
+
+
+def names(_, tally, __):
+    """docs/PROVED.md names each law and each call without a clause."""
+    promises, usual = definitions.Promises(), contracts.PROVED
+    tally.compare("names: as they are", [*contracts.wrong_names(promises)], [])
+    contracts.PROVED = pathlib.Path("PROVED.md")
+    try:
+        for old, new, line in NAMES:
+            text = usual.read_text(encoding="utf-8")
+            tally.check(f"names: {old}", old in text)
+            write("PROVED.md", text.replace(old, new).encode())
+            found = [*contracts.wrong_names(promises)]
+            tally.check(f"names: {new}", line in found, found)
+    finally:
+        contracts.PROVED = usual
