@@ -148,11 +148,11 @@ def narrow(line: str) -> Iterator[str]:
     # the line goes on a place further in, unless it goes on with another line itself
     goes_on = indent if indent > 3 and not re.match(r" *(?:pub )?\w+ :|    \w+ \w+ \{", line) else indent + 4
     while len(line) > WIDTH:
-        places = [(depth(line[: at.start()]), at[1] in LESSER, -at.start())
-                  for at in BREAKS.finditer(line, goes_on + 20, WIDTH)]
-        place = -min(places)[2] if places else line.rfind(" ", goes_on + 1, WIDTH)
-        if place < 0:
+        found = [*BREAKS.finditer(line, goes_on + 20, WIDTH)] or [*re.finditer(r" ()", line[:WIDTH])]
+        places = [(depth(line[: at.start()]), at[1] in LESSER, -at.start()) for at in found if at.start() > goes_on]
+        if not places:
             break
+        place = -min(places)[2]
         yield line[:place]
         line = " " * goes_on + line[place + 1 :]
     yield line
@@ -225,5 +225,8 @@ def clauses(export: Export, names: Optional[Collection[str]]) -> Iterator[str]:
     yield from dict.fromkeys(line for head_ in heads for line in head_.split("\n"))
     for head_, text in export.clauses:
         if names is None or head_.split()[-1] in names:
-            yield from narrow(f"    {head_} {' '.join(text.split())}")
+            one = f"    {head_} {' '.join(text.split())}"
+            first, *others = f"    {head_} {text}".split("\n")
+            for line in [one] if len(one) <= WIDTH else [first, *(f"        {line}" for line in others)]:
+                yield from narrow(line)
     yield "```"
