@@ -7,9 +7,7 @@ proved. The same commit, program and library give the same files, byte for byte.
 
 import collections
 import gzip
-import itertools
 import os
-import pathlib
 import re
 import shutil
 import subprocess
@@ -18,6 +16,7 @@ import tempfile
 import textwrap
 
 import gate
+from judge.bugs import bugs_of, crates_with_bugs
 
 sys.path.insert(0, gate.ROOT + "/python")
 import make_wheel  # noqa: E402
@@ -162,8 +161,7 @@ def filled(entry):
 
 def planted():
     """Returns the names of the gate's planted bugs by the names of their crates."""
-    paths = sorted(pathlib.Path(gate.ROOT, "crates").glob("*/planted/*.edit"))
-    return {name: [path.stem for path in of] for name, of in itertools.groupby(paths, lambda it: it.parts[-3])}
+    return {name: [bug.name for bug in bugs_of(name, with_more=False)] for name in crates_with_bugs()}
 
 
 def main():
