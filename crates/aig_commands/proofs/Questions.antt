@@ -1,5 +1,8 @@
 -- From what a command means for the circuit that a question is about to what it means for the files.
 use Rattle.std.proofs.Common.{◌≡◌, ◌≢◌, ◌+◌, inl, inr, ℕ, List, [], Result, Ok, Err, OnOk, refl, sym, ap, ap₂, ◌∙◌, subst, arith}
+use Rattle.std.proofs.Common.{◌⊎◌, OnErr}
+use Rattle.std.proofs.lemmas.List.{append-nil}
+use Rattle.aig_bytes.specs.Bytes.{IsBeginning, after}
 use Rattle.std.specs.Prelude.{IfOk, Option, None, Some, option_map}
 use Rattle.std.specs.Borrow.{Bor}
 use Rattle.std.specs.Result.{IsErrAnd}
@@ -31,6 +34,7 @@ use Rattle.aig_commands.specs.AliveWitness.{WritesAliveModel}
 use Rattle.aig_commands.specs.Certified.{IsCertified, RefusesCertified, apart, no_certificate, no_circuit, strengthening_fault}
 use Rattle.aig_commands.specs.Questions.{Asked, ChecksFor, NamesFor, OfSubject, RefutesFor, RefutesQuestion, Says, WritesFor}
 use Rattle.aig_commands.specs.Questions.{asked_of, certificate_of, heading_of, query_of, question_map}
+use Rattle.aig_commands.specs.Questions.{PrintsAnswer, line_for}
 use Rattle.aig_commands.specs.Refute.{ChecksStep, answer_line, answer_text, proof_reads_failed, step_reads_failed}
 use Rattle.aig_commands.specs.declared.certified.Purpose.TheVariants.{Formula}
 use Rattle.aig_commands.specs.declared.refute.Proofs.{Proofs}
@@ -312,3 +316,32 @@ module _ (asked : Asked) (file : List ℕ) where
       ends_map out run_faults.Output (Answers (line_of (query_of asked)) checked) (RefutesQuestion asked file)
       (λ answer text means. of_answer checked answer text is_checked means) result
       (subst (λ (q : Query). CommandEnds out run_faults.Output (Answers (line_of q) checked) result) query_is ends)
+
+-- ---- what is printed
+
+line_is : (asked : Asked) → line_of (query_of asked) ≡ line_for asked
+line_is (questions.Within k p) = refl
+line_is (questions.Step k p) = refl
+line_is (questions.Alive k) = refl
+line_is (questions.Certified claims p) = refl
+
+-- nothing of a check that fails, and of one that goes well its line, or a beginning where a write fails
+part_printed : {X : Type 0} (written : X → Option (List ℕ)) (failures : X → ℕ) (old new : X) (line : List ℕ)
+    (checked result : Result (Unit {0}) RunFault) (P : Type 0) → OnOk checked P → OnErr checked (written new ≡ written old)
+    → CommandEnds (flow written failures old new) run_faults.Output (Answers line checked) result
+    → (written new ≡ written old) ⊎ (P × ((done : List ℕ) × IsBeginning done line × (written new ≡ after (written old) done)))
+part_printed written failures old new line (Err fault) result P p none ends = inl none
+part_printed written failures old new line (Ok done) result P p none (CommandEnds.writes_all bytes (same, is) got) =
+    inr (p, (line, ([], sym (append-nil line)), subst (λ (text : List ℕ). written new ≡ after (written old) text) is got.got))
+part_printed written failures old new line (Ok done) result P p none (CommandEnds.breaks_off answer bytes (same, is) breaks) =
+    inr (p, (breaks.done, subst (IsBeginning breaks.done) is breaks.beginning, breaks.got))
+
+pub answer_printed : {X : Type 0} (written : X → Option (List ℕ)) (failures : X → ℕ) (old new : X) (asked : Asked)
+    (file : List ℕ) (query : Query) → query ≡ query_of asked → (checked result : Result (Unit {0}) RunFault)
+    → OnOk checked (Says asked file) → OnErr checked (written new ≡ written old)
+    → CommandEnds (flow written failures old new) run_faults.Output (Answers (line_of query) checked) result
+    → PrintsAnswer (written old) (written new) asked file
+answer_printed written failures old new asked file query is checked result says none ends =
+    part_printed written failures old new (line_for asked) checked result (Says asked file) says none
+    (subst (λ (line : List ℕ). CommandEnds (flow written failures old new) run_faults.Output (Answers line checked) result)
+    (ap line_of is ∙ line_is asked) ends)

@@ -1,7 +1,9 @@
 -- What the commands with a SAT solver say of each question about a circuit's file: the formula that `cnf` writes, the
 -- witness that `witness` writes for a model of it, and what `refute` answers.
 -- Example: whether a run reaches property 0 within 3 frames: `refute` answers `unreachable within 3/`.
-use Rattle.std.specs.Prelude.{◌≡◌, ℕ, List, [], Option, None, Some, Result, Err}
+use Rattle.std.specs.Prelude.{◌≡◌, ◌⊎◌, ℕ, List, [], Option, None, Some, Result, Err}
+use Rattle.aig_bytes.specs.Bytes.{IsBeginning, after}
+use Rattle.aig_cnf.specs.declared.query.Goal.TheVariants as goals
 use Rattle.std.specs.Borrow.{Bor}
 use Rattle.aig_parts.specs.declared.raw.Raw.{Raw}
 use Rattle.aig_cnf.specs.Query.{induction, last, step, within}
@@ -16,7 +18,7 @@ use Rattle.aig_commands.specs.Certified.{OfCertified}
 use Rattle.aig_commands.specs.Cnf.{WritesCertified, WritesFormula}
 use Rattle.aig_commands.specs.ModelWitness.{WritesModel}
 use Rattle.aig_commands.specs.Refute.{ChecksInduction, ChecksStep, ChecksWithin, IsFileNeverReached, IsFileUnreachable}
-use Rattle.aig_commands.specs.Refute.{Refutes, RefutesInduction, RefutesStep}
+use Rattle.aig_commands.specs.Refute.{Refutes, RefutesInduction, RefutesStep, answer_line}
 use Rattle.aig_commands.specs.declared.certified.Purpose.TheVariants.{Formula}
 use Rattle.aig_commands.specs.declared.question.Question.{Question}
 use Rattle.aig_commands.specs.declared.question.Question.TheVariants as questions
@@ -104,3 +106,15 @@ Says (questions.Within k p) file = IsFileUnreachable file k p
 Says (questions.Step k p) file = IsFileNeverReached file p
 Says (questions.Alive k) file = IsFileWithoutRun file k
 Says (questions.Certified claims p) file = IsFileNeverReached file p
+
+-- the line that answers
+abbrev pub line_for : Asked → List ℕ
+line_for (questions.Within k p) = answer_line goals.Within k
+line_for (questions.Step k p) = answer_line goals.Step k
+line_for (questions.Alive k) = answer_line goals.Last k
+line_for (questions.Certified claims p) = answer_line goals.Induction 1
+
+-- nothing was written; or what was asked is true of the file, and a beginning of the line that says so was written
+abbrev pub PrintsAnswer : Option (List ℕ) → Option (List ℕ) → Asked → List ℕ → Type 0
+PrintsAnswer old new asked file =
+    (new ≡ old) ⊎ (Says asked file × ((done : List ℕ) × IsBeginning done (line_for asked) × (new ≡ after old done)))

@@ -1,12 +1,12 @@
 //! `refute`: what a solver's proof says of a circuit's file: that no run reaches a bad state within some frames, or
 //! none of any length does, or that no run keeps all constraints.
-ghost use Rattle.std.specs.Prelude.{◌≡◌, ◌≢◌, ◌⊎◌, ◌+◌, ◌^◌, ◌<◌, ℕ, Err, IfErr, IfSome, OnErr, OnOk};
+ghost use Rattle.std.specs.Prelude.{◌≡◌, ◌≢◌, ◌+◌, ◌^◌, ◌<◌, ℕ, Err, IfErr, IfSome, OnErr, OnOk};
 ghost use Rattle.aig_bytes.specs.Bytes.{Writes};
 ghost use Rattle.aig_bytes.specs.Flow.{flow};
 ghost use Rattle.aig_sat.specs.checker.Consequence.{IsUnsatisfiable};
 ghost use Rattle.aig_sat.specs.proof.Proofs.{HasAddition, IsProof};
 ghost use Rattle.aig_command.specs.Command.{CommandEnds};
-ghost use Rattle.aig_commands.specs.Questions.{ChecksFor, RefutesQuestion, Says, asked_of, heading_of};
+ghost use Rattle.aig_commands.specs.Questions.{ChecksFor, PrintsAnswer, RefutesQuestion, Says, asked_of, heading_of};
 ghost use Rattle.aig_commands.specs.Refute.{ChecksStep, answer_line, proof_reads_failed, step_reads_failed};
 ghost use Rattle.aig_commands.specs.state.About.{Answers, ChecksFormula, IsChecked, IsOfStepProof, ReadsProofs};
 
@@ -188,7 +188,7 @@ pub fn refute<R: Read, S: Read, W: Write>(
     out: &mut W,
 ) -> Result<(), RunFault>
     ensures says { OnOk result (Says (asked_of question.entry) file.now) }
-    ensures printed { (W.written out.new ≡ W.written out.old) ⊎ Says (asked_of question.entry) file.now }
+    ensures printed { PrintsAnswer (W.written out.old) (W.written out.new) (asked_of question.entry) file.now }
     ensures ends { CommandEnds (flow W.written W.failures out.old out.new) RunFault.Output
         (RefutesQuestion (asked_of question.entry) file.now) result }
     ensures reads { result ≢ Err RunFault.Output →

@@ -1,6 +1,6 @@
 -- What a line does to a session, what is answered, and which files are written or refused (our own choice).
 -- Example: after `no: ` all is as before.
-use Rattle.std.specs.Prelude.{◌≡◌, ◌≢◌, ◌⊎◌, ◌+◌, ◌-◌, ◌*◌, ◌≤◌, ℕ, nat_eq, max, if◌then◌else◌, Bool, true, false, IsTrue, List}
+use Rattle.std.specs.Prelude.{◌≡◌, ◌≢◌, ◌⊎◌, ◌+◌, ◌-◌, ◌*◌, ◌≤◌, ℕ, nat_eq, max, min, if◌then◌else◌, Bool, true, false, IsTrue, List}
 use Rattle.std.specs.Prelude.{[], ◌∷◌, ◌++◌, length, map, codes, decimal, Option, None, Some, slice_get}
 use Rattle.std.specs.List.{starts_with}
 use Rattle.std.specs.Str.{bytes_eq}
@@ -38,11 +38,38 @@ abbrev pub ShowsFrames : Option (List ℕ) → ℕ → ℕ → ℕ → Type 0
 ShowsFrames None count first last = (last + 1 ≡ count) × (first ≡ count - 64)
 ShowsFrames (Some word) count first last = AreFrames word count first last
 
--- so many frames in a row from the first: those that are named; without a name some of all, and all where there are 64
--- at most
-abbrev pub DiffersFrames : Option (List ℕ) → ℕ → ℕ → ℕ → Type 0
-DiffersFrames None count first n = (first + n ≤ count) × (count ≤ 64 → (first ≡ 0) × (n ≡ count))
-DiffersFrames (Some word) count first n = (last : ℕ) × AreFrames word count first last × (n ≡ last + 1 - first)
+-- what is said above a table that begins with this frame: that frames before it are left out, where none are named
+abbrev pub left_out : Option (List ℕ) → ℕ → List ℕ
+left_out None first =
+    if nat_eq first 0 then []
+    else codes "frames 0 to " ++ (decimal (first - 1) ++ codes " are left out; @A-B names frames\n")
+left_out (Some word) first = []
+
+-- So many frames in a row from the first: those that are named; without a name all of 64 at most, and 64 of more. Before
+-- these nothing differs, and something does at the first of them, unless they are the last.
+abbrev pub DiffersFrames : Option (List ℕ) → CircuitAndRows → CircuitAndRows → ℕ → ℕ → ℕ → Type 0
+DiffersFrames None now was count first n =
+    (n ≡ min count 64) × (first ≤ count - 64) × IsDifference now was 0 first []
+    × ((first ≡ count - 64) ⊎ (IsDifference now was first 1 [] → ⊥))
+DiffersFrames (Some word) now was count first n = (last : ℕ) × AreFrames word count first last × (n ≡ last + 1 - first)
+
+-- what is said above a table of so many frames from the first: which of all they are, where none are named and some are
+-- left out
+abbrev pub some_shown : Option (List ℕ) → ℕ → ℕ → ℕ → List ℕ
+some_shown None count first n =
+    if nat_eq n count then []
+    else
+    codes "frames "
+    ++ (decimal first
+    ++ (codes " to "
+    ++ (decimal (first + n - 1) ++ (codes " of 0 to " ++ (decimal (count - 1) ++ codes "; @A-B names frames\n")))))
+some_shown (Some word) count first n = []
+
+-- the text of rows that differ: a table and what is said above it; or that there are none
+abbrev pub ShowsDifference : List ℕ → ℕ → ℕ → List TableRow → List ℕ → Type 0
+ShowsDifference note first n rows text =
+    ((rows ≡ []) × (text ≡ codes "no difference\n"))
+    ⊎ ((rows ≢ []) × (table : List ℕ) × IsTable first n rows table × (text ≡ note ++ table))
 
 -- where no frames are named, no difference in those that are shown means none at all
 abbrev pub NoneElsewhere : Option (List ℕ) → SessionState → ℕ → List TableRow → Type 0
@@ -125,12 +152,13 @@ AnswersSave s (Some stimulus) text after =
     × (after ≡ record s { has_edited_circuit = false; has_warned = false }))
 
 -- What a request answers, which files it writes at once, and what it leaves. Only tested are the texts after `names` and
--- `help`, and the notes above a table.
+-- `help`.
 abbrev pub Answers : SessionState → Request → List ℕ → List KeptText → SessionState → Type 0
 Answers s (show names frames) text texts after =
-    (first : ℕ) × (last : ℕ) × (rows : List TableRow) × (note : List ℕ) × (table : List ℕ)
+    (first : ℕ) × (last : ℕ) × (rows : List TableRow) × (table : List ℕ)
     × ShowsFrames frames (length s.pair.rows) first last × IsShown s.pair first (last + 1 - first) names rows
-    × IsTable first (last + 1 - first) rows table × (text ≡ note ++ table) × (texts ≡ []) × (after ≡ calm s)
+    × IsTable first (last + 1 - first) rows table × (text ≡ left_out frames first ++ table) × (texts ≡ [])
+    × (after ≡ calm s)
 Answers s why_first text texts after =
     (t : ℕ) × (k : ℕ) × (l : ℕ) × IsFirstReached (circuit_of s) (start_of s.pair.circuit) s.pair.rows s.property t k
     × (slice_get s.pair.circuit.bad k ≡ Some l)
@@ -156,11 +184,9 @@ Answers s (out name literal) text texts after = EditsCircuit s (out name literal
 Answers s check text texts after = IsChecked s text × (texts ≡ []) × (after ≡ calm s)
 Answers s (diff frames) text texts after =
     let count = max (length s.pair.rows) (length s.first.rows) in
-    (first : ℕ) × (n : ℕ) × (rows : List TableRow) × (note : List ℕ) × (table : List ℕ)
-    × DiffersFrames frames count first n
+    (first : ℕ) × (n : ℕ) × (rows : List TableRow) × DiffersFrames frames s.pair s.first count first n
     × IsDifference s.pair s.first first n rows × NoneElsewhere frames s count rows
-    × (((rows ≡ []) × (table ≡ codes "no difference\n")) ⊎ ((rows ≢ []) × IsTable first n rows table)) × (text ≡ note ++ table)
-    × (texts ≡ []) × (after ≡ calm s)
+    × ShowsDifference (some_shown frames count first n) first n rows text × (texts ≡ []) × (after ≡ calm s)
 Answers s (save circuit stimulus) text texts after =
     (texts ≡ saved s circuit stimulus) × AnswersSave s stimulus text after
 Answers s (witness file name) text texts after =

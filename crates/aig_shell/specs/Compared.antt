@@ -1,9 +1,10 @@
 -- What is known of a signal while its values are compared: for the proofs.
-use Rattle.std.specs.Prelude.{◌≡◌, ◌≢◌, ◌⊎◌, ℕ, ◌<◌, ◌≤◌, List, [], Contains, codes}
+use Rattle.std.specs.Prelude.{◌≡◌, ℕ, ◌<◌, ◌≤◌, List, [], Contains}
 use Rattle.aig_bench.specs.BenchState.{CircuitAndRows}
-use Rattle.aig_prompt.specs.Table.{TableRow, IsTable}
+use Rattle.aig_prompt.specs.Table.{TableRow}
 use Rattle.aig_signals.specs.Lookup.{signal_literals}
 use Rattle.aig_signals.specs.declared.signal.Signal.{Signal}
+use Rattle.aig_shell.specs.Answers.{ShowsDifference}
 use Rattle.aig_shell.specs.Session.{IsFirst}
 use Rattle.aig_shell.specs.Tables.{Differs, IsDifference, IsSignalCell}
 use Rattle.aig_shell.specs.declared.answers.diff.Cells.{Cells}
@@ -38,8 +39,7 @@ OneDiffers now was signals first count =
 abbrev pub NoneOutside : CircuitAndRows → CircuitAndRows → ℕ → ℕ → ℕ → Type 0
 NoneOutside now was count first n = IsDifference now was first n [] → IsDifference now was 0 count []
 
--- the text of the signals that differ at one of the frames: a table, or that there is none
-abbrev pub IsDifferenceText : CircuitAndRows → CircuitAndRows → ℕ → ℕ → List ℕ → Type 0
-IsDifferenceText now was first n text =
-    (rows : List TableRow) × IsDifference now was first n rows
-    × (((rows ≡ []) × (text ≡ codes "no difference\n")) ⊎ ((rows ≢ []) × IsTable first n rows text))
+-- the text of the signals that differ at one of the frames, with a note above the table
+abbrev pub IsDifferenceText : CircuitAndRows → CircuitAndRows → List ℕ → ℕ → ℕ → List ℕ → Type 0
+IsDifferenceText now was note first n text =
+    (rows : List TableRow) × IsDifference now was first n rows × ShowsDifference note first n rows text

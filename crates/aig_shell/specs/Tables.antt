@@ -1,6 +1,6 @@
 -- What tables of values hold: the values of names now, and those of the run that was read (our own choice).
 -- Example: a row of `count` has a cell for each frame.
-use Rattle.std.specs.Prelude.{◌≡◌, ◌≢◌, ◌⊎◌, ℕ, ◌+◌, ◌<◌, ◌≤◌, List, [], ◌∷◌, length, map, Contains, Option, Some}
+use Rattle.std.specs.Prelude.{◌≡◌, ◌≢◌, ◌⊎◌, ℕ, ◌+◌, ◌<◌, ◌≤◌, List, [], ◌∷◌, length, map, Option, Some}
 use Rattle.std.specs.Prelude.{slice_get}
 use Rattle.std.specs.List.{AllZip, range_with_len}
 use Rattle.aig_parts.specs.declared.ternary.Tern.{Tern}
@@ -65,18 +65,15 @@ pub record AreTwoRows (now was : CircuitAndRows) (first count : ℕ) (signal : S
   pub cells : (k : ℕ) (a b : List ℕ) → slice_get above.cells k ≡ Some a → slice_get below.cells k ≡ Some b
       → AreTwoCells now was signal (first + k) a b
 
--- two rows for each of these signals
+-- two rows for each of these signals that differs at one of the frames, in their order, and none for the others
 unfoldable pub AreRowsOf : CircuitAndRows → CircuitAndRows → ℕ → ℕ → List Signal → List TableRow → Type 0
-AreRowsOf now was first count [] [] = Unit {0}
-AreRowsOf now was first count (signal ∷ signals) (above ∷ (below ∷ rows)) =
-    AreTwoRows now was first count signal above below × AreRowsOf now was first count signals rows
-AreRowsOf now was first count _ _ = ⊥
+AreRowsOf now was first count [] rows = rows ≡ []
+AreRowsOf now was first count (signal ∷ signals) rows =
+    ((Differs now was first count signal → ⊥) × AreRowsOf now was first count signals rows)
+    ⊎ ((above : TableRow) × (below : TableRow) × (more : List TableRow) × Differs now was first count signal
+    × AreTwoRows now was first count signal above below × AreRowsOf now was first count signals more
+    × (rows ≡ above ∷ (below ∷ more)))
 
--- two rows for each signal that differs at one of the frames
-pub record IsDifference (now was : CircuitAndRows) (first count : ℕ) (rows : List TableRow) : Type 0 where
-  pub signals : List Signal
-  pub rows_are : AreRowsOf now was first count signals rows
-  pub each : (signal : Signal) → Contains (signals_of now.circuit) signal → Differs now was first count signal
-      → Contains signals signal
-  pub only : (signal : Signal) → Contains signals signal
-      → Contains (signals_of now.circuit) signal × Differs now was first count signal
+-- two rows for each signal that differs at one of the frames, in the order of the circuit
+abbrev pub IsDifference : CircuitAndRows → CircuitAndRows → ℕ → ℕ → List TableRow → Type 0
+IsDifference now was first count rows = AreRowsOf now was first count (signals_of now.circuit) rows

@@ -98,7 +98,7 @@ pub ends_none : {A : Type 0} (session : Session) (names : List (List ℕ)) (fram
     → EndsQuery session (show names frames) result text
 ends_none session names frames (Ok x) refusal text is none = absurd is
 ends_none session names frames (Err e) refusal text is none =
-    λ other s within answer texts after (first, last, rows, note, table, shows, shown, is_table, whole, no_texts, same).
+    λ other s within answer texts after (first, last, rows, table, shows, shown, is_table, whole, no_texts, same).
     none (λ m. other (is ∙ m)) first last rows
     (subst (λ (p : CircuitAndRows). ShowsFrames frames (length p.rows) first last) within.pair shows)
     (subst (λ (p : CircuitAndRows). IsShown p first (last + 1 - first) names rows) within.pair shown)

@@ -9,7 +9,7 @@ ghost use Rattle.aig_prompt.specs.Table.{row_of};
 ghost use Rattle.aig_signals.specs.Names.{literal_of, literals_of};
 ghost use Rattle.aig_signals.specs.Signals.{signals_of};
 ghost use Rattle.aig_signals.specs.declared.signal.Signal.{Signal};
-ghost use Rattle.aig_shell.specs.Answers.{DiffersFrames};
+ghost use Rattle.aig_shell.specs.Answers.{DiffersFrames, some_shown};
 ghost use Rattle.aig_shell.specs.Ends.{EndsQuery};
 ghost use Rattle.aig_shell.specs.Request as request;
 ghost use Rattle.aig_shell.specs.Session.{IsFirst};
@@ -83,6 +83,33 @@ impl Cells {
             self.was.as_slice()
         }
     }
+}
+
+/// Says which frames are shown, up to an end, of so many in all, where none are named and some are left out.
+fn push_frames(
+    text: &mut Vec<u8>,
+    frames: Option<&[u8]>,
+    count: u32,
+    first: u32,
+    end: u32,
+) -> Result<(), Memory>
+    requires order { first ≤ end }
+    ensures { OnOk result (text.new.items
+        ≡ text.old.items ++ some_shown (option_map (λ w. w.now) frames.entry) count first (end - first)) }
+{
+    if frames.is_some() || end - first == count {
+        return Ok(());
+    }
+    let note = [
+        Piece::Text(b"frames "),
+        Piece::Number(u64::from(first)),
+        Piece::Text(b" to "),
+        Piece::Number(u64::from(end.saturating_sub(1))),
+        Piece::Text(b" of 0 to "),
+        Piece::Number(u64::from(count.saturating_sub(1))),
+        Piece::Text(b"; @A-B names frames\n"),
+    ];
+    push_pieces(text, &note)
 }
 
 impl Session {
@@ -219,6 +246,9 @@ impl Session {
         ensures differs { (signal : Signal) → AreLiterals self.now signal literals.now → (p : CircuitAndRows)
             → IsFirst self.now p
             → IfOk result (λ found. IfSome found (λ t. Differs self.now.run.bench.pair p t 1 signal)) }
+        ensures before { (signal : Signal) → AreLiterals self.now signal literals.now → (p : CircuitAndRows)
+            → IsFirst self.now p
+            → IfOk result (λ found. IfSome found (λ t. AreSame self.now.run.bench.pair p signal first t)) }
         ensures same { (signal : Signal) → AreLiterals self.now signal literals.now → (p : CircuitAndRows)
             → IsFirst self.now p
             → IfOk result (λ found. IfNone found (AreSame self.now.run.bench.pair p signal first end)) }
@@ -239,6 +269,8 @@ impl Session {
         ensures range { IfOk result (λ found. IfSome found (λ t. (first ≤ t) × (t < end))) }
         ensures differs { (p : CircuitAndRows) → IsFirst self.now p → IfOk result (λ found. IfSome found (λ t.
             OneDiffers self.now.run.bench.pair p (signals_of self.now.run.bench.pair.circuit) t 1)) }
+        ensures before { (p : CircuitAndRows) → IsFirst self.now p → IfOk result (λ found. IfSome found (λ t.
+            AreAllSame self.now.run.bench.pair p (signals_of self.now.run.bench.pair.circuit) first t)) }
         ensures same { (p : CircuitAndRows) → IsFirst self.now p → IfOk result (λ found. IfNone found (
             AreAllSame self.now.run.bench.pair p (signals_of self.now.run.bench.pair.circuit) first end)) }
     {
@@ -290,12 +322,21 @@ impl Session {
         Ok((above, below))
     }
 
-    /// Adds a table of the signals that differ at the frames up to an end.
-    fn push_differences(&self, text: &mut Vec<u8>, first: u32, end: u32) -> Result<(), Memory>
+    /// Adds a table of the signals that differ at the frames up to an end, of so many in all, and above it which frames
+    /// they are, where none are named.
+    fn push_differences(
+        &self,
+        text: &mut Vec<u8>,
+        frames: Option<&[u8]>,
+        count: u32,
+        first: u32,
+        end: u32,
+    ) -> Result<(), Memory>
         requires order { first ≤ end }
-        ensures { (p : CircuitAndRows) → IsFirst self.now p → OnOk result ((table : List ℕ)
-            × IsDifferenceText self.now.run.bench.pair p first (end - first) table
-            × (text.new.items ≡ text.old.items ++ table)) }
+        ensures { (p : CircuitAndRows) → IsFirst self.now p → OnOk result ((said : List ℕ)
+            × IsDifferenceText self.now.run.bench.pair p
+            (some_shown (option_map (λ w. w.now) frames.entry) count first (end - first)) first (end - first) said
+            × (text.new.items ≡ text.old.items ++ said)) }
     {
         let mut cells = Cells::new(self.alloc);
         let mut table = Table::new(self.alloc, first, end - first);
@@ -312,55 +353,45 @@ impl Session {
             text.extend_from_slice(b"no difference\n")?;
             return Ok(());
         }
+        push_frames(text, frames, count, first, end)?;
         table.push_text(text)
     }
 
     /// The frames that are shown of so many where none are named, up to an end: all of a short run, and of a long one
-    /// those from the first difference on. Says which.
-    fn differing_frames(&self, text: &mut Vec<u8>, count: u32) -> Result<(u32, u32), Memory>
+    /// those from the first difference on, or the last ones.
+    fn differing_frames(&self, count: u32) -> Result<(u32, u32), Memory>
         ensures order { IfOk result (λ found. found.0 ≤ found.1) }
-        ensures within { IfOk result (λ found. found.1 ≤ count) }
-        ensures short { IfOk result (λ found. count ≤ 64 → (found.0 ≡ 0) × (found.1 ≡ count)) }
+        ensures shown { (p : CircuitAndRows) → IsFirst self.now p → IfOk result (λ found.
+            DiffersFrames None self.now.run.bench.pair p count found.0 (found.1 - found.0)) }
         ensures outside { (p : CircuitAndRows) → IsFirst self.now p → IfOk result (λ found.
             NoneOutside self.now.run.bench.pair p count found.0 (found.1 - found.0)) }
     {
         if count <= SHOWN {
             return Ok((0, count));
         }
+        let last = count - SHOWN;
         let found = self.first_frame(0, count)?;
         let Some(first) = found else {
-            return Ok((0, 1));
+            return Ok((last, count));
         };
-        let first = first.min(count - SHOWN);
-        let end = first + SHOWN;
-        let note = [
-            Piece::Text(b"frames "),
-            Piece::Number(u64::from(first)),
-            Piece::Text(b" to "),
-            Piece::Number(u64::from(end - 1)),
-            Piece::Text(b" of 0 to "),
-            Piece::Number(u64::from(count - 1)),
-            Piece::Text(b"; @A-B names frames\n"),
-        ];
-        push_pieces(text, &note)?;
-        Ok((first, end))
+        let first = first.min(last);
+        Ok((first, first + SHOWN))
     }
 
     /// The frames that are named of so many, up to an end, or those that are shown where none are.
     fn frames_to_compare<'a>(
         &self,
-        text: &mut Vec<u8>,
         frames: Option<&'a [u8]>,
         count: u32,
     ) -> Result<(u32, u32), Refusal<'a>>
         ensures order { IfOk result (λ found. found.0 ≤ found.1) }
-        ensures within { IfOk result (λ found. found.1 ≤ count) }
-        ensures shown { IfOk result (λ found.
-            DiffersFrames (option_map (λ w. w.now) frames.entry) count found.0 (found.1 - found.0)) }
+        ensures shown { (p : CircuitAndRows) → IsFirst self.now p → IfOk result (λ found.
+            DiffersFrames (option_map (λ w. w.now) frames.entry) self.now.run.bench.pair p count found.0
+            (found.1 - found.0)) }
         ensures outside { (p : CircuitAndRows) → IsFirst self.now p → frames.entry ≡ None → IfOk result (λ found.
             NoneOutside self.now.run.bench.pair p count found.0 (found.1 - found.0)) }
-        ensures err { IfErr result (λ refusal. refusal ≢ Refusal.Memory → (first n : ℕ) →
-            DiffersFrames (option_map (λ w. w.now) frames.entry) count first n → ⊥) }
+        ensures err { IfErr result (λ refusal. refusal ≢ Refusal.Memory → (now was : CircuitAndRows) (first n : ℕ) →
+            DiffersFrames (option_map (λ w. w.now) frames.entry) now was count first n → ⊥) }
     {
         match frames {
             Some(word) => {
@@ -368,7 +399,7 @@ impl Session {
                 Ok((named.first, named.last + 1))
             }
             None => {
-                let shown = self.differing_frames(text, count)?;
+                let shown = self.differing_frames(count)?;
                 Ok(shown)
             }
         }
@@ -384,8 +415,8 @@ impl Session {
         ensures { EndsQuery self.now (request.diff (option_map (λ w. w.now) frames.entry)) result text.new.items }
     {
         let count = self.bench().frames().max(self.first.frames());
-        let (first, end) = self.frames_to_compare(text, frames, count)?;
-        self.push_differences(text, first, end)?;
+        let (first, end) = self.frames_to_compare(frames, count)?;
+        self.push_differences(text, frames, count, first, end)?;
         Ok(())
     }
 }

@@ -1,10 +1,10 @@
 //! Tables of values.
-ghost use Rattle.std.specs.Prelude.{◌≡◌, ◌≢◌, ◌+◌, ◌-◌, ◌^◌, ◌<◌, ◌≤◌, List, [], ℕ, All, IfErr, IfOk, None, OnOk};
+ghost use Rattle.std.specs.Prelude.{◌≡◌, ◌≢◌, ◌+◌, ◌-◌, ◌^◌, ◌<◌, ◌≤◌, ◌++◌, List, [], ℕ, All, IfErr, IfOk, None, OnOk};
 ghost use Rattle.std.specs.Prelude.{length, map, option_map};
 ghost use Rattle.aig_parts.specs.Literal.{variable};
 ghost use Rattle.aig_base.specs.Sections.{IsDefined};
 ghost use Rattle.aig_prompt.specs.Table.{TableRow, row_of};
-ghost use Rattle.aig_shell.specs.Answers.{ShowsFrames};
+ghost use Rattle.aig_shell.specs.Answers.{ShowsFrames, left_out};
 ghost use Rattle.aig_shell.specs.Ends.{EndsQuery};
 ghost use Rattle.aig_shell.specs.Request as request;
 ghost use Rattle.aig_shell.specs.Tables.{AreBits, AreCells, IsCell, IsRowOf, IsShown};
@@ -20,7 +20,8 @@ use aig_signals::{SignalNames, push_table_value};
 /// The frames that are shown where none are named: all, or the last ones. Says how many are left out.
 fn shown_frames(text: &mut Vec<u8>, all: FrameRange) -> Result<FrameRange, Memory>
     requires first { all.first ≡ 0 }
-    ensures { IfOk result (λ found. ShowsFrames None (all.last + 1) found.first found.last) }
+    ensures shown { IfOk result (λ found. ShowsFrames None (all.last + 1) found.first found.last) }
+    ensures text { IfOk result (λ found. text.new.items ≡ text.old.items ++ left_out None found.first) }
 {
     if all.count() <= SHOWN {
         return Ok(all);
@@ -104,6 +105,8 @@ impl Session {
             ShowsFrames (option_map (λ w. w.now) frames.entry) (length self.now.run.bench.pair.rows) found.first
             found.last) }
         ensures within { IfOk result (λ found. found.last < length self.now.run.bench.pair.rows) }
+        ensures text { IfOk result (λ found. text.new.items
+            ≡ text.old.items ++ left_out (option_map (λ w. w.now) frames.entry) found.first) }
         ensures err { IfErr result (λ refusal. refusal ≢ Refusal.Memory → (first last : ℕ) →
             ShowsFrames (option_map (λ w. w.now) frames.entry) (length self.now.run.bench.pair.rows) first last → ⊥) }
     {

@@ -4,8 +4,8 @@ use Rattle.aig_sat.specs.declared.proof.fault.ProofFault.TheVariants as faults
 use Rattle.aig_command.specs.declared.run_fault.RunFault.TheVariants as run_faults
 use Rattle.aig_commands.specs.Questions.{Says, asked_of}
 use Rattle.aig_commands.specs.Refute.{proof_reads_failed, step_reads_failed}
-use Rattle.aig_commands.proofs.Certificates.{good_answer, none_or_true}
-use Rattle.aig_commands.proofs.Questions.{answered_question, line_of}
+use Rattle.aig_commands.proofs.Certificates.{good_answer}
+use Rattle.aig_commands.proofs.Questions.{answer_printed, answered_question, line_of}
 use Rattle.aig_commands.proofs.Refutations.{answer_is, fault_is}
 use Rattle.aig_commands.proofs.refute.refute.Goals as goal
 
@@ -17,9 +17,9 @@ returns-clause-says g c =
 
 pub returns-clause-printed : goal.returns-clause-printed
 returns-clause-printed g c =
-    none_or_true c.read_and_check-checked.result (Says (asked_of c.args.question) c.args.file.now)
-    (g.W.Write.written c.write_checked.new.out ≡ g.W.Write.written c.args.out.now)
-    c.read_and_check-checked.ensures.says c.write_checked.ensures.none
+    answer_printed g.W.Write.written g.W.Write.failures c.args.out.now c.write_checked.new.out (asked_of c.args.question)
+    c.args.file.now c.query_of-query.result c.query_of-query.ensures c.read_and_check-checked.result c.write_checked.result
+    c.read_and_check-checked.ensures.says c.write_checked.ensures.none c.write_checked.ensures.ends
 
 pub returns-clause-ends : goal.returns-clause-ends
 returns-clause-ends g c =

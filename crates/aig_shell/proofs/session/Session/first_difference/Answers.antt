@@ -19,6 +19,9 @@ returns-then-not-are_same-clause-differs c = λ signal are p h.
       texts_differ _ _ c.are_same.result c.are_same.ensures c.if-not-are_same.true,
     )
 
+pub returns-then-not-are_same-clause-before : goal.returns-then-not-are_same-clause-before
+returns-then-not-are_same-clause-before c = λ signal are p h. c.loop-frame.invariant signal are p h
+
 pub loop-frame-preserved : goal.loop-frame-preserved
 loop-frame-preserved c = λ signal are p h.
     let texts = c.in_ok-fill.ensures signal are in

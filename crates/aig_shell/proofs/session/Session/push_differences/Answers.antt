@@ -1,7 +1,8 @@
-use Rattle.std.proofs.Common.{codes, inl, refl, sym, ap, subst, ◌+◌, ◌-◌, ◌∙◌, arith, map}
+use Rattle.std.proofs.Common.{ℕ, List, Bor, option_map, codes, inl, refl, sym, ap, subst, ◌+◌, ◌-◌, ◌∙◌, arith, map}
 use Rattle.std.specs.Prelude.{◌==◌}
 use Rattle.aig_prompt.specs.Table.{row_of}
 use Rattle.aig_prompt.specs.declared.table.Table.{Table}
+use Rattle.aig_shell.specs.Answers.{some_shown}
 use Rattle.aig_shell.proofs.tables.Differences.{signal_within}
 use Rattle.aig_shell.proofs.tables.Differing.{AreRowsBefore, difference_shown, is_none, is_one, no_row, rows_begin}
 use Rattle.aig_shell.proofs.tables.Differing.{rows_differ, rows_end, rows_same, some_found, some_row}
@@ -78,7 +79,10 @@ returns-then-is_empty c = λ p h.
         rows_end c.args.self.now.run.bench.pair p c.args.first c.args.end c.as_slice-signal-items.result.now c.loop-signal.signal-index rows
             (omega (arith, c.loop-signal-test.false)) (c.as_slice-signal-items.ensures.value ∙ c.args.self.now.has_signals)
             (c.loop-signal.invariant.rows p h),
-        inl (no_row rows c.is_empty.result (c.is_empty.ensures ∙ ap (λ n. n == 0) c.loop-signal.table.rows.ok.0) c.if-is_empty.true, refl),
+        inl (
+          no_row rows c.is_empty.result (c.is_empty.ensures ∙ ap (λ n. n == 0) c.loop-signal.table.rows.ok.0) c.if-is_empty.true,
+          refl,
+        ),
       ),
       c.in_ok-extend_from_slice.ensures.items,
     )
@@ -86,9 +90,12 @@ returns-then-is_empty c = λ p h.
 pub returns : goal.returns
 returns c = λ p h.
     let rows = c.loop-signal.table.rows.items in
-    difference_shown c.args.self.now.run.bench.pair p c.args.first (c.args.end - c.args.first) c.loop-signal.table.first
-    c.loop-signal.table.frames (map row_of rows) c.push_text.result c.args.text.now.items c.push_text.new.text.items
-    c.loop-signal.invariant.first c.loop-signal.invariant.frames
+    difference_shown c.args.self.now.run.bench.pair p
+    (some_shown (option_map (λ (w : Bor (List ℕ)). w.now) c.args.frames) c.args.count c.args.first (c.args.end - c.args.first))
+    c.args.first (c.args.end - c.args.first) c.loop-signal.table.first
+    c.loop-signal.table.frames (map row_of rows) c.push_text.result c.args.text.now.items c.push_frames.new.text.items
+    c.push_text.new.text.items c.loop-signal.invariant.first c.loop-signal.invariant.frames
     (rows_end c.args.self.now.run.bench.pair p c.args.first c.args.end c.as_slice-signal-items.result.now c.loop-signal.signal-index rows
     (omega (arith, c.loop-signal-test.false)) (c.as_slice-signal-items.ensures.value ∙ c.args.self.now.has_signals)
-    (c.loop-signal.invariant.rows p h)) (some_row rows c.is_empty.result (c.is_empty.ensures ∙ ap (λ n. n == 0) c.loop-signal.table.rows.ok.0) c.if-is_empty.false) c.push_text.ensures
+    (c.loop-signal.invariant.rows p h)) (some_row rows c.is_empty.result (c.is_empty.ensures ∙ ap (λ n. n == 0) c.loop-signal.table.rows.ok.0) c.if-is_empty.false)
+    c.in_ok-push_frames.ensures c.push_text.ensures
