@@ -15,7 +15,7 @@ import definitions  # noqa: E402
 import theorems  # noqa: E402
 from sources import between as found_between  # noqa: E402
 from sources import shown  # noqa: E402
-from sources.specs import Specs  # noqa: E402
+from sources.specs import Specs, words  # noqa: E402
 
 # What is changed on a page, how, and a piece of what is printed then; and whether --write mends it.
 WRONG = (
@@ -146,6 +146,7 @@ def shown_text(_, tally, __):
         tally.compare("shown: a comment", shown.narrowed(comment), wanted)
     finally:
         shown.WIDTH = usual
+    tally.compare("shown: words", words('codes "within \\"it" ++ x.now'), {"codes", "++", "x.now"})
     specs = Specs()
     keys = specs.reached(key for key in specs.table if key[2] == "IsCircuit")
     ordered = shown.in_order(specs, keys)

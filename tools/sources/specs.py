@@ -17,6 +17,7 @@ ROOT = pathlib.Path(__file__).resolve().parent.parent.parent
 NAME = r"[^\s(){}\[\],;.:`'\"|]+'*"
 IMPORT = re.compile(r"(?m)^\s*(?:ghost )?(?:pub )?use Rattle\.(\w+)\.specs\.([\w.]+?)"
                     r"(?:\.\{([^}]*)\}|\s+as\s+(\w+))?;?\s*$")
+QUOTED = re.compile(r'"(?:[^"\\\n]|\\.)*"')
 ITEM = re.compile(rf"^(?:(?:abbrev|unfoldable|opaque|pub)\s+)*(?:(data|record)\s+)?({NAME})")
 
 # A definition by its crate, its module and its name; an alias of a module has no name.
@@ -38,8 +39,8 @@ class Definition(NamedTuple):
 
 
 def words(text: str) -> Set[str]:
-    """Returns the words of a text, each with what follows its dots."""
-    return set(re.findall(r"[^\s(){}\[\],;:`\"|]+", text))
+    """Returns the words of a text, each with what follows its dots. What is quoted has none."""
+    return set(re.findall(r"[^\s(){}\[\],;:`\"|]+", QUOTED.sub(" ", text)))
 
 
 def outside(said: List[str]) -> Set[str]:
