@@ -27,7 +27,7 @@ WRONG = (
     ("refute.md", "OnOk result (Says", "OnErr result (Says", "+    ensures says { OnOk result (Says", True),
     ("refute.md", "beside the 170", "beside the 71", "+Lines of definitions to believe: ", True),
     ("refute.md", "<!-- show asked_of -->", "<!-- show asked_for -->", "nothing left to show of asked_for", False),
-    ("refute.md", "IsFileWithoutRun rest -->", "-->", "refute.md does not show ", False),
+    ("refute.md", "Says rest -->", "Says -->", "refute.md does not show ", False),
     ("toaig.md", "renumbered raw order = ", "renumbered raw order =", "+renumbered raw order = ", True),
     ("notation.md", "`AllPairs R xs`", "AllPairs", "circuit.md uses AllPairs, which notation.md does not have", False),
     ("notation.md", "`zip`, `keys_of`", "`zip`", "circuit.md uses keys_of, which notation.md does not have", False),

@@ -15,8 +15,8 @@ from sources.exports import Export
 from sources.specs import IMPORT, ITEM, ROOT, Key, Specs, head
 
 WIDTH = 100
-# Where a line is broken: before one of these, if it can be.
-BREAKS = re.compile(r" (?=(→|×|⊎|≡|∷|\+\+|&&|\|\||then|else) )")
+# Where a line is broken: before one of these, if it can be, else before a bracket, or at any blank.
+BREAKS = (re.compile(r" (?=(→|×|⊎|≡|∷|\+\+|&&|\|\||then|else) )"), re.compile(r" (?=([({]))"), re.compile(r" ()"))
 # These bind their sides closer than the others.
 LESSER = ("≡", "∷", "++", "&&", "||")
 NAMED_TYPE = re.compile(r"(?m)^pub(?:\(crate\))? (?:struct|enum|type) (\w+)")
@@ -148,11 +148,10 @@ def narrow(line: str) -> Iterator[str]:
     # the line goes on a place further in, unless it goes on with another line itself
     goes_on = indent if indent > 3 and not re.match(r" *(?:pub )?\w+ :|    \w+ \w+ \{", line) else indent + 4
     while len(line) > WIDTH:
-        found = [*BREAKS.finditer(line, goes_on + 20, WIDTH)] or [*re.finditer(r" ()", line[:WIDTH])]
-        places = [(depth(line[: at.start()]), at[1] in LESSER, -at.start()) for at in found if at.start() > goes_on]
-        if not places:
+        found = next(filter(None, ([*it.finditer(line, goes_on + 20, WIDTH)] for it in BREAKS)), None)
+        if not found:
             break
-        place = -min(places)[2]
+        place = -min((depth(line[: at.start()]), at[1] in LESSER, -at.start()) for at in found)[2]
         yield line[:place]
         line = " " * goes_on + line[place + 1 :]
     yield line
