@@ -16,5 +16,6 @@ pub mod Replays
 pub mod Runs
 pub mod Selections
 pub mod Spreads
+pub mod Traced
 pub mod Unrollings
 pub mod WitnessTexts

@@ -66,6 +66,12 @@ abbrev pub Prints : Option (List ℕ) → Option (List ℕ) → List ℕ → Typ
 Prints (Some old) (Some new) text = (rest : List ℕ) × (new ≡ old ++ (text ++ rest))
 Prints _ _ text = ⊥
 
+-- this text is somewhere in what a writer got
+abbrev pub PrintsWithin : Option (List ℕ) → Option (List ℕ) → List ℕ → Type 0
+PrintsWithin (Some old) (Some new) text =
+    (front : List ℕ) × (rest : List ℕ) × (new ≡ old ++ (front ++ (text ++ rest)))
+PrintsWithin _ _ text = ⊥
+
 -- the text is a witness of the circuit that reaches its property, whatever its x turn out to be
 abbrev pub HoldsConfirmed : Raw → List ℕ → Type 0
 HoldsConfirmed raw text = (witness : Witness) × SpellsWitness raw text witness × IsConfirmed raw witness

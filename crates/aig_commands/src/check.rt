@@ -6,7 +6,7 @@ ghost use Rattle.aig_command.specs.Command.{OfFile};
 ghost use Rattle.aig_command.specs.Command.{CommandEnds};
 ghost use Rattle.aig_commands.specs.GoesWell.{GoesWell, WritesOnce};
 ghost use Rattle.aig_commands.specs.Check.{verdict_text, AreConfirmed, Checks, ChecksAndTraces, HoldsConfirmed, IsShown};
-ghost use Rattle.aig_commands.specs.Check.{OfProperty, Prints};
+ghost use Rattle.aig_commands.specs.Check.{OfProperty, Prints, PrintsWithin};
 ghost use Rattle.aig_commands.specs.state.Asked.{RefusesAsked};
 ghost use Rattle.aig_sim.specs.Replayed.{Replays};
 ghost use Rattle.aig_sim.specs.Verdict.{ShowsVerdict};
@@ -191,6 +191,8 @@ pub fn check_and_trace<W: Write>(
     shown: Shown,
     out: &mut W,
 ) -> Result<Verdict, RunFault>
+    ensures printed { PrintsWithin (W.written out.old) (W.written out.new) (codes "confirmed") →
+        AreConfirmed property circuit.now witness.now }
     ensures ends { CommandEnds (flow W.written W.failures out.old out.new) RunFault.Output
         (OfFile circuit.now (OfProperty property (ChecksAndTraces shown) witness.now)) result }
 {
