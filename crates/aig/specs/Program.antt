@@ -7,6 +7,7 @@ use Rattle.std.specs.declared.vec.IntoIter.{IntoIter}
 use Rattle.aig_bytes.specs.Flow.{Flow}
 use Rattle.clap.specs.declared.parser.matches.ArgMatches.{ArgMatches}
 use Rattle.aig_cli.specs.Table.{HoldsWords}
+use Rattle.aig_command.specs.Command.{Got}
 use Rattle.aig_files.specs.ExitStatus.{status_of_exit}
 use Rattle.aig_files.specs.Source.{source_remaining}
 use Rattle.aig_files.specs.declared.exit.Exit.{Exit}
@@ -19,26 +20,30 @@ use Rattle.aig_program.specs.declared.chosen.Chosen.{Chosen}
 use Rattle.aig_program.specs.declared.chosen.Chosen.TheVariants as chosen
 use Rattle.aig.specs.Sessions.{EndsSession}
 
--- a command or a session that was opened ends as it means, and a good end says what it means; where none was, the run ends with the exit that says so
+-- a command or a session that was opened ends as it means, and a good end says what it means; where none was, the run
+-- ends with the exit that says so, and nothing is written
 abbrev pub EndsAsOpened : {F : Type 0} → Flow Seen → (F → Option (List ℕ)) → Result (Chosen F) Exit
     → Result (Unit {0}) Exit
     → Type 0
 EndsAsOpened out left (Ok (chosen.Command command)) result =
     EndsAsMeant out left command result × OnOk result (MeansGood left command)
 EndsAsOpened out left (Ok (chosen.Session it)) result = EndsSession out left it.circuit it.given result
-EndsAsOpened out left (Err exit) result = result ≡ Err exit
+EndsAsOpened out left (Err exit) result = (result ≡ Err exit) × Got out []
 
--- a run ends as its arguments mean, where the type of a file says which bytes it has left, for some writer
-abbrev pub RunsAsMeant : {F : Type 0} → (F → Option (List ℕ)) → ArgMatches → Result (Unit {0}) Exit → Type 0
-RunsAsMeant {F} left matches result =
+-- a run ends as its arguments mean, and its writer gets what they mean, where the type of a file says which bytes it
+-- has left
+abbrev pub RunsAsMeant : {F : Type 0} → Flow Seen → (F → Option (List ℕ)) → ArgMatches → Result (Unit {0}) Exit → Type 0
+RunsAsMeant {F} out left matches result =
     (opened : Result (Chosen (FileSource F)) Exit) × IfOk opened (Chooses matches)
-    × ((out : Flow Seen) × EndsAsOpened out (source_remaining left) opened result)
+    × EndsAsOpened out (source_remaining left) opened result
 
--- A run of the program ends as the words of its arguments mean, or they were not parsed.
-pub data Runs {F : Type 0} (left : F → Option (List ℕ)) (words : List (List ℕ)) (result : Result (Unit {0}) Exit) : Type 0
-  where
-    parsed : (matches : ArgMatches) → HoldsWords words matches → RunsAsMeant left matches result → Runs left words result
-    unparsed : (exit : Exit) → result ≡ Err exit → IsUnparsed exit → Runs left words result
+-- A run of the program ends as the words of its arguments mean, and its writer gets what they mean; or they were not
+-- parsed, and it gets nothing.
+pub data Runs {F : Type 0} (out : Flow Seen) (left : F → Option (List ℕ)) (words : List (List ℕ))
+    (result : Result (Unit {0}) Exit) : Type 0 where
+  parsed : (matches : ArgMatches) → HoldsWords words matches → RunsAsMeant out left matches result
+      → Runs out left words result
+  unparsed : (exit : Exit) → result ≡ Err exit → IsUnparsed exit → Got out [] → Runs out left words result
 
 -- the bytes of the arguments that the system gave, in their order; none where it gave none
 abbrev pub words_of : {A E : Type 0} → Result (IntoIter (String A) A) E → List (List ℕ)

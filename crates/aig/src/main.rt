@@ -2,7 +2,8 @@
 #![tactic(auto)]
 
 ghost use Rattle.std.specs.Prelude.{◌≡◌, ℕ, List, Ok, map};
-ghost use Rattle.aig_program.specs.Ends.{seen};
+ghost use Rattle.aig_bytes.specs.Flow.{Flow};
+ghost use Rattle.aig_program.specs.Ends.{Seen, seen};
 ghost use Rattle.aig.specs.Program.{EndsAsOpened, Runs, RunsAsMeant, status_of_end, words_of};
 
 mod sessions;
@@ -38,62 +39,67 @@ fn status_of(done: Result<(), Exit>) -> u8
     }
 }
 
-/// Runs what the arguments ask for. If that fails, the reason is printed already.
+/// Runs what the arguments ask for, and writes to standard output: nothing below can print there by itself. If that
+/// fails, the reason is printed already.
 fn run<R: Env + Files + AllocGlobal + Print + Eprint + Input>(
     rt: &R,
     terminals: Terminals,
 ) -> Result<(), Exit>
 where
     R::File: AsFd,
-    ensures ends { (words : List (List ℕ)) × Runs R.File.remaining words result }
+    ensures ends { (words : List (List ℕ)) × ((out : Flow Seen) × Runs out R.File.remaining words result) }
 {
     let _reserved = reported(rt, reserve(rt))?;
-    run_given(rt, terminals, env::args(rt))
+    let mut out = output(terminals, io::writer(rt));
+    run_given(rt, terminals, env::args(rt), &mut out)
 }
 
-/// The same for the arguments that the system gave.
-fn run_given<R: Env + Files + AllocGlobal + Print + Eprint + Input>(
+/// The same for the arguments that the system gave, and for a writer.
+fn run_given<R: Files + AllocGlobal + Eprint + Input, W: Write>(
     rt: &R,
     terminals: Terminals,
     given: io::Result<Args>,
+    out: &mut W,
 ) -> Result<(), Exit>
 where
     R::File: AsFd,
-    ensures ends { Runs R.File.remaining (words_of given) result }
+    ensures ends { Runs (seen W.written W.failures out.old out.new) R.File.remaining (words_of given) result }
 {
     let words = reported(rt, arguments::all(rt.alloc(), given))?;
-    run_words(rt, terminals, words.as_slice())
+    run_words(rt, terminals, words.as_slice(), out)
 }
 
-fn run_words<R: Env + Files + AllocGlobal + Print + Eprint + Input>(
+fn run_words<R: Files + AllocGlobal + Eprint + Input, W: Write>(
     rt: &R,
     terminals: Terminals,
     words: &[String],
+    out: &mut W,
 ) -> Result<(), Exit>
 where
     R::File: AsFd,
-    ensures ends { Runs R.File.remaining (map (λ word. word.bytes.items) words.now) result }
+    ensures ends { Runs (seen W.written W.failures out.old out.new) R.File.remaining
+        (map (λ word. word.bytes.items) words.now) result }
 {
     let matches = reported(rt, parsed(rt, words))?;
-    reported(rt, run_command(rt, terminals, &matches))
+    reported(rt, run_command(rt, terminals, &matches, out))
 }
 
 /// Runs the command that the arguments choose.
-fn run_command<R: Files + AllocGlobal + Print + Eprint + Input>(
+fn run_command<R: Files + AllocGlobal + Eprint + Input, W: Write>(
     rt: &R,
     terminals: Terminals,
     matches: &ArgMatches<'_>,
+    out: &mut W,
 ) -> Result<(), Exit>
 where
     R::File: AsFd,
-    ensures ends { RunsAsMeant R.File.remaining matches.now result }
+    ensures ends { RunsAsMeant (seen W.written W.failures out.old out.new) R.File.remaining matches.now result }
 {
-    let mut out = output(terminals, io::writer(rt));
-    run_opened(rt, terminals, command_for(rt, matches), &mut out)
+    run_opened(rt, terminals, command_for(rt, matches), out)
 }
 
 /// Runs what was opened: a command or a session, if one was.
-fn run_opened<R: Files + AllocGlobal + Print + Eprint + Input, F: Read + Drop, W: Write>(
+fn run_opened<R: Files + AllocGlobal + Input, F: Read + Drop, W: Write>(
     rt: &R,
     terminals: Terminals,
     opened: Result<Chosen<'_, F>, Exit>,

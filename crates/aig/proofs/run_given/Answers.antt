@@ -3,7 +3,8 @@ use Rattle.std.specs.Result.{IsOkAnd}
 use Rattle.std.specs.Vec.Iter.{into_iter_items}
 use Rattle.aig_program.specs.Arguments.{IsUnparsed}
 use Rattle.aig.specs.Program.{Runs, words_of}
-use Rattle.aig.proofs.Running.{ends_unparsed, exit_of, value_of, words_given}
+use Rattle.aig_program.specs.Ends.{seen}
+use Rattle.aig.proofs.Running.{ends_unparsed, exit_of, got_nothing, value_of, words_given}
 use Rattle.aig.proofs.run_given.Goals as goal
 
 pub returns-in_err-words : goal.returns-in_err-words
@@ -12,7 +13,8 @@ returns-in_err-words g c =
     let exit = c.in_err-words.field-0.0 in
     record {
       ends =
-          ends_unparsed g.R.File.Read.remaining (words_of c.args.given) r.result exit
+          ends_unparsed (seen g.W.Write.written g.W.Write.failures c.args.out.now c.args.out.now) g.R.File.Read.remaining
+          (words_of c.args.given) r.result exit (got_nothing g.W.Write.written g.W.Write.failures c.args.out.now)
           (exit_of c.all.result exit IsUnparsed c.in_err-words.ensures c.all.ensures.fails) r.ensures.1;
     }
 
@@ -24,6 +26,7 @@ returns g c =
     in
     record {
       ends =
-          subst (λ words. Runs g.R.File.Read.remaining words c.run_words.result)
+          subst (λ words. Runs (seen g.W.Write.written g.W.Write.failures c.args.out.now c.run_words.new.out)
+          g.R.File.Read.remaining words c.run_words.result)
           (words_given c.args.given c.in_ok-words.words.items c.as_slice.result.now c.as_slice.ensures.value held) c.run_words.ensures.ends;
     }
