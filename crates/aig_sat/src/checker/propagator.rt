@@ -1,5 +1,5 @@
 //! Unit propagation.
-ghost use Rattle.std.specs.Prelude.{◌≡◌, ◌+◌, ◌-◌, ◌<◌, ◌≤◌, ℕ, Bool, true, false, IsTrue, IfOk, length, map};
+ghost use Rattle.std.specs.Prelude.{◌≡◌, ◌+◌, ◌-◌, ◌*◌, ◌<◌, ◌≤◌, ℕ, Bool, true, false, IsTrue, IfOk, OnOk, length, map};
 ghost use Rattle.aig_parts.specs.Literal.{negation};
 ghost use Rattle.aig_sat.specs.checker.Agreement.{Agrees, Contradicts, Narrows, Propagates, Refutes, Searches, Tests};
 ghost use Rattle.aig_sat.specs.checker.Clause.{is_true};
@@ -49,7 +49,8 @@ fn place_of(literals: &[u32], literal: u32) -> usize
 impl Propagator {
     /// No clauses over so many variables.
     pub(crate) fn new(alloc: Global, variables: u32) -> Result<Propagator, Memory>
-        ensures { IfOk result (λ p. (values : ℕ → Bool) → Agrees values p) }
+        ensures agrees { IfOk result (λ p. (values : ℕ → Bool) → Agrees values p) }
+        ensures len { IfOk result (λ p. length p.known.truths.items ≡ 2 * variables) }
     {
         let literals = 2 * variables as usize;
         Ok(Propagator {
@@ -67,6 +68,7 @@ impl Propagator {
         ensures words { self.new.clauses.words.items ≡ self.old.clauses.words.items }
         ensures ids { self.new.ids ≡ self.old.ids }
         ensures more { length self.old.known.truths.items ≤ length self.new.known.truths.items }
+        ensures len { OnOk result (length self.new.known.truths.items ≡ length self.old.known.truths.items + 2) }
     {
         self.watches.add_variable()?;
         self.clauses.add_variable()?;
