@@ -14,6 +14,7 @@ from large.first_literals import first_literals
 from large.hostile_proofs import hostile_proofs
 from large.hubs import hubs
 from large.limits import limits
+from large.long_clauses import long_clauses
 from large.long_run import long_run
 from large.own_names import own_names
 from large.prompts import prompts
@@ -24,8 +25,8 @@ from library import runs
 
 PARTS = {"block_edges": block_edges, "files": large_files, "long_run": long_run, "names": crowded_names, "hubs": hubs,
          "limits": limits, "own_names": own_names, "prompts": prompts, "reductions": reductions,
-         "explanations": explanations, "walks": walks, "first_literals": first_literals, "unread_gates": unread_gates,
-         "deep": deep, "claims": claims, "proofs": hostile_proofs}
+         "explanations": explanations, "walks": walks, "first_literals": first_literals, "long_clauses": long_clauses,
+         "unread_gates": unread_gates, "deep": deep, "claims": claims, "proofs": hostile_proofs}
 
 
 def options(parser):

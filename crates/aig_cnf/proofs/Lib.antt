@@ -9,6 +9,7 @@ pub mod DimacsLines
 pub mod DimacsReading
 pub mod FormulaText
 pub mod GoalLemmas
+pub mod NumberedLemmas
 pub mod PartCircuit
 pub mod PartLists
 pub mod PartReads

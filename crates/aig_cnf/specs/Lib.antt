@@ -5,6 +5,7 @@ pub mod Dimacs
 pub mod DimacsRead
 pub mod Formula
 pub mod Heading
+pub mod Numbered
 pub mod Query
 pub mod ReadFormula
 pub mod ReadMap

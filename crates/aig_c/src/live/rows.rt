@@ -128,11 +128,11 @@ pub extern "C" fn aig_live_replace_rows(alloc: Global, bench: &mut AigLive, valu
     ensures done { result ≡ 0 →
         LiveReplaces bench.old.seat.held (map tern_of values.now) bench.new.seat.held }
     ensures values { result ≡ 0 → All IsValue values.now }
-    ensures value { (All IsValue values.now → ⊥) → is_open bench.old.seat.held ≡ true → result ≡ 253 }
+    ensures value { is_open bench.old.seat.held ≡ true → (result ≡ 253) ↔ (All IsValue values.now → ⊥) }
     ensures length { result ≡ 8 → IfSome bench.old.seat.held (HasOtherSize values.now) }
     ensures closed { (result ≡ 255) ↔ (is_open bench.old.seat.held ≡ false) }
     ensures kept { result ≢ 0 → bench.new.seat.held ≡ bench.old.seat.held }
-    ensures statuses { (result ≡ 0) ⊎ (result ≡ 8) ⊎ (result ≡ 11) ⊎ (253 ≤ result) }
+    ensures statuses { (result ≡ 0) ⊎ (result ≡ 8) ⊎ (result ≡ 11) ⊎ (result ≡ 253) ⊎ (result ≡ 255) }
 {
     if !are_values(values) {
         return bench.refusal(NO_VALUE);

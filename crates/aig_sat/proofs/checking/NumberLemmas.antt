@@ -1,8 +1,8 @@
 -- The clauses with numbers, where one is added or deleted.
 use Rattle.std.proofs.Common.{◌≡◌, ◌≢◌, ◌⊎◌, inl, inr, ℕ, zero, suc, ◌+◌, ◌-◌, ◌%◌, ◌<◌, ◌≤◌, Bool, true, false, List, [], ◌∷◌, ◌++◌}
 use Rattle.std.proofs.Common.{length, get_or, set, take, drop, refl, sym, ap, subst, ◌∙◌, arith}
-use Rattle.std.specs.Prelude.{Err, IsErrAnd, Ok, OnOk, Result, nat_le, nat_eq, ◌&&◌}
-use Rattle.std.proofs.lemmas.Bool.{and_from, and_parts, cases_eq, cases_lt, eq-eqb, false≢true, le-leb, leb-true}
+use Rattle.std.specs.Prelude.{Err, IsErrAnd, Ok, OnOk, Result, nat_eq}
+use Rattle.std.proofs.lemmas.Bool.{and_from, and_parts, cases_eq, eq-eqb, false≢true, le-leb, leb-true}
 use Rattle.std.proofs.lemmas.Bool.Decides.{nat_tests}
 use Rattle.std.proofs.lemmas.List.{append-nil, ext_get_or, get_or-set_other}
 use Rattle.std.proofs.lemmas.List.Folds.{list_any_at}
@@ -10,13 +10,13 @@ use Rattle.aig_sat.specs.declared.checker.checker.Checker.{Checker}
 use Rattle.aig_sat.specs.declared.checker.clauses.Clauses.{Clauses}
 use Rattle.aig_sat.specs.declared.checker.ids.Entry.{Entry}
 use Rattle.aig_sat.specs.declared.checker.ids.Ids.{Ids}
-use Rattle.aig_sat.specs.checker.Basis.{Basis, KeepsNumbers, TakesNumber, basis}
-use Rattle.aig_sat.specs.checker.Distinct.{Has, HasAll}
+use Rattle.aig_sat.specs.checker.Basis.{Basis, HasNumber, KeepsNumbers, TakesNumber, basis}
+use Rattle.aig_sat.specs.checker.Distinct.{Has, HasAll, IsSameSet}
 use Rattle.aig_sat.specs.checker.Entries.{Forgets, entry}
-use Rattle.aig_sat.specs.checker.Hints.{IsNumbered, Numbered}
+use Rattle.aig_sat.specs.checker.Hints.{IsNumbered}
 use Rattle.aig_sat.specs.checker.Numbers.{KeepsClauses, is_numbered, numbered_at}
 use Rattle.aig_sat.specs.checker.Words.{IsAdded, IsClauseAt, IsLaidOut, RemovesNamed, StandsAt}
-use Rattle.aig_sat.specs.checker.Words.{literal_at, size_at}
+use Rattle.aig_sat.specs.checker.Words.{size_at}
 use Rattle.aig_sat.proofs.checking.ForgetLemmas.{in_from_has}
 use Rattle.aig_sat.proofs.checking.HintLemmas.{item_at, numbered_else, sized}
 
@@ -131,27 +131,40 @@ module _ (old new : List ℕ) (entries more : List Entry) (number place : ℕ) (
 
 -- ---- lists that have the literals of another one
 
-has_at : (list : List ℕ) (k : ℕ) → k < length list → Has list (get_or list k 0)
+pub has_at : (list : List ℕ) (k : ℕ) → k < length list → Has list (get_or list k 0)
 has_at list k inside = list_any_at (nat_eq (get_or list k 0)) list k 0 inside (eq-eqb (get_or list k 0) (get_or list k 0) refl)
 
-pub has_itself : (list : List ℕ) → HasAll list list
-has_itself list k inside = has_at list k inside
+pub same_itself : (list : List ℕ) → IsSameSet list list
+same_itself list = record { all = has_at list; only = has_at list }
 
 has_then : (first second third : List ℕ) → HasAll first second → HasAll second third → HasAll first third
 has_then first second third all more k inside =
     let (j, within, is) = in_from_has second (get_or third k 0) (more k inside) in
     subst (λ (x : ℕ). Has first x) is (all j within)
 
--- a list that has all literals of a clause stands for it
-pub numbered_as : (list clause : List ℕ) (old new : Basis) → HasAll list clause → TakesNumber list old new
+same_then : (first second third : List ℕ) → IsSameSet first second → IsSameSet second third → IsSameSet first third
+same_then first second third same more = record {
+  all = has_then first second third same.all more.all;
+  only = has_then third second first more.only same.only;
+}
+
+-- no literal is in the empty clause
+none_within : (list : List ℕ) → HasAll [] list → list ≡ []
+none_within [] all = refl
+none_within (l ∷ ls) all = absurd (false≢true (all 0 (omega arith)))
+
+-- a list of the same literals as a clause stands for it
+pub numbered_as : (list clause : List ℕ) (old new : Basis) → IsSameSet list clause → TakesNumber list old new
     → TakesNumber clause old new
-numbered_as list clause old new all t = record {
+numbered_as list clause old new same t = record {
   kept = t.kept;
   added = elim t.added [
     | inl conflict ↦ inl conflict
     | inr later ↦ inr (λ small.
-        let (literals, has, is) = later small in (literals, has_then literals list clause has all, is))
+        let (literals, has, is) = later small in (literals, same_then literals list clause has same, is))
   ];
+  next = t.next;
+  empty = λ none. t.empty (none_within list (subst (λ (x : List ℕ). HasAll x list) none same.only));
 }
 
 pub on_ok_then : {X E : Type 0} → (r : Result X E) (P Q : Type 0) → (P → Q) → OnOk r P → OnOk r Q
@@ -233,11 +246,12 @@ pub err_on_ok : {X E : Type 0} → (r : Result X E) (P : Type 0) (Q : E → Type
 err_on_ok (Ok x) P Q h = absurd h
 err_on_ok (Err e) P Q h = tt
 
-pub numbers_from : (old mid : Checker) (new : Basis) (clause : List ℕ) → KeepsClauses old.propagator mid.propagator
-    → mid.is_hinted ≡ old.is_hinted → KeepsNumbers (basis mid) new → KeepsNumbers (basis old) new
-numbers_from old mid new clause stays hinted keeps = record {
+pub numbers_from : (old mid : Checker) (new : Basis) → KeepsClauses old.propagator mid.propagator
+    → mid.refuted ≡ old.refuted → mid.is_hinted ≡ old.is_hinted → KeepsNumbers (basis mid) new → KeepsNumbers (basis old) new
+numbers_from old mid new stays same hinted keeps = record {
   hinted = keeps.hinted ∙ hinted;
   variables = omega (arith, keeps.variables, stays.variables);
+  refuted = λ conflict. keeps.refuted (same ∙ conflict);
   others = λ n it ne h.
       keeps.others n it ne
       (subst (λ (x : Clauses). IsNumbered (numbered_at x.words.items mid.propagator.ids.entries.items) n it) (sym stays.clauses)
@@ -245,12 +259,13 @@ numbers_from old mid new clause stays hinted keeps = record {
 }
 
 pub takes_from : (old mid : Checker) (new : Basis) (clause : List ℕ) → KeepsClauses old.propagator mid.propagator
-    → mid.is_hinted ≡ old.is_hinted → mid.next ≡ old.next → TakesNumber clause (basis mid) new
+    → mid.refuted ≡ old.refuted → mid.is_hinted ≡ old.is_hinted → mid.next ≡ old.next → TakesNumber clause (basis mid) new
     → TakesNumber clause (basis old) new
-takes_from old mid new clause stays hinted next t = record {
-  kept = numbers_from old mid new clause stays hinted t.kept;
-  added = subst (λ (x : ℕ). (new.is_refuted ≡ true) ⊎ (x < 0x8000_0000 → (literals : List ℕ) × HasAll literals clause × IsNumbered new.numbered x literals))
-      next t.added;
+takes_from old mid new clause stays same hinted next t = record {
+  kept = numbers_from old mid new stays same hinted t.kept;
+  added = subst (λ (x : ℕ). (new.is_refuted ≡ true) ⊎ (x < 0x8000_0000 → HasNumber new x clause)) next t.added;
+  next = subst (λ (x : ℕ). (new.is_refuted ≡ true) ⊎ (x < 0x8000_0000 → new.next ≡ x + 1)) next t.next;
+  empty = t.empty;
 }
 
 pub numbered_same : (old new : List ℕ) (ids more : Ids) (number : ℕ) (clause : List ℕ) → new ≡ old → more ≡ ids
@@ -263,5 +278,6 @@ pub keeps_then : (old mid new : Basis) → KeepsNumbers old mid → KeepsNumbers
 keeps_then old mid new first second = record {
   hinted = second.hinted ∙ first.hinted;
   variables = omega (arith, first.variables, second.variables);
+  refuted = λ conflict. second.refuted (first.refuted conflict);
   others = λ n it ne h. second.others n it ne (first.others n it ne h);
 }

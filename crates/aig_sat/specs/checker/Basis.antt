@@ -1,8 +1,8 @@
 -- What a contract sees of a refutation.
 -- Example: without clauses over 3 variables: no clauses, none with a number, 3 variables and 1 word.
-use Rattle.std.specs.Prelude.{◌≡◌, ◌⊎◌, ℕ, ◌+◌, ◌<◌, ◌≤◌, Bool, true, false, List, length}
+use Rattle.std.specs.Prelude.{◌≡◌, ◌⊎◌, ℕ, ◌+◌, ◌<◌, ◌≤◌, Bool, true, false, List, [], length}
 use Rattle.aig_sat.specs.declared.checker.checker.Checker.{Checker}
-use Rattle.aig_sat.specs.checker.Distinct.{HasAll}
+use Rattle.aig_sat.specs.checker.Distinct.{IsSameSet}
 use Rattle.aig_sat.specs.checker.Hints.{IsNumbered, IsShown, Numbered}
 use Rattle.aig_sat.specs.checker.Numbers.{numbered, variables}
 use Rattle.aig_sat.specs.checker.Standing.{standing}
@@ -34,10 +34,15 @@ basis c = record {
 abbrev pub IsShownByHints : Basis → (clause hints : List ℕ) → Type 0
 IsShownByHints b clause hints = IsShown b.numbered b.variables (65536 + b.words) clause hints
 
--- clauses have numbers as before, no variable is lost, and each clause keeps its number, except some
+-- a clause of these literals stands and has the number
+abbrev pub HasNumber : Basis → ℕ → List ℕ → Type 0
+HasNumber b number clause = (literals : List ℕ) × IsSameSet literals clause × IsNumbered b.numbered number literals
+
+-- clauses have numbers as before, no variable and no conflict is lost, and each clause keeps its number, except some
 pub record KeepsOthers (other : ℕ → Type 0) (old new : Basis) : Type 0 where
   pub hinted : new.is_hinted ≡ old.is_hinted
   pub variables : old.variables ≤ new.variables
+  pub refuted : old.is_refuted ≡ true → new.is_refuted ≡ true
   pub others : (number : ℕ) → (clause : List ℕ) → (other number → ⊥) → IsNumbered old.numbered number clause
       → IsNumbered new.numbered number clause
 
@@ -45,14 +50,15 @@ pub record KeepsOthers (other : ℕ → Type 0) (old new : Basis) : Type 0 where
 abbrev pub KeepsNumbers : Basis → Basis → Type 0
 KeepsNumbers = KeepsOthers (λ _. ⊥)
 
--- that, and a clause of these literals has the next number, unless there is a conflict
+-- That, and a clause of exactly these literals has the next number, and the one after it comes next, unless there is a
+-- conflict. The empty clause is one.
 pub record TakesNumber (clause : List ℕ) (old new : Basis) : Type 0 where
   pub kept : KeepsNumbers old new
-  pub added : (new.is_refuted ≡ true)
-      ⊎ (old.next < 0x8000_0000
-      → (literals : List ℕ) × HasAll literals clause × IsNumbered new.numbered old.next literals)
+  pub added : (new.is_refuted ≡ true) ⊎ (old.next < 0x8000_0000 → HasNumber new old.next clause)
+  pub next : (new.is_refuted ≡ true) ⊎ (old.next < 0x8000_0000 → new.next ≡ old.next + 1)
+  pub empty : clause ≡ [] → new.is_refuted ≡ true
 
--- after a step: its clause has the next number, if it was taken
+-- after a step: its clause has the next number if it was taken, else the number is left for another one
 abbrev pub NumbersStep : List ℕ → Basis → Basis → Bool → Type 0
 NumbersStep clause old new true = TakesNumber clause old new
-NumbersStep clause old new false = KeepsNumbers old new
+NumbersStep clause old new false = KeepsNumbers old new × (new.next ≡ old.next)

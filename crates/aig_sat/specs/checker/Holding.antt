@@ -21,7 +21,8 @@ KeepsSomeHolding old new = (values : ℕ → Bool) → Holds values old → (oth
 abbrev pub KeepsMeeting : List ℕ → Checker → Checker → Type 0
 KeepsMeeting clause old new = (values : ℕ → Bool) → Holds values old → meets values clause ≡ true → Holds values new
 
--- variables were added: what held still holds, and each clause keeps its number
+-- variables were added: what held still holds, each clause keeps its number, and so does the next one
 pub record AddsVariables (old new : Checker) : Type 0 where
   pub holding : KeepsHolding old new
   pub numbered : KeepsNumbers (basis old) (basis new)
+  pub next : new.next ≡ old.next

@@ -1,11 +1,11 @@
 //! Checking clause by clause.
-ghost use Rattle.std.specs.Prelude.{◌≡◌, ◌+◌, ℕ, Bool, true, IsTrue, IfOk, IfSome, OnOk};
+ghost use Rattle.std.specs.Prelude.{◌≡◌, ◌+◌, ◌≤◌, ℕ, Bool, true, IsTrue, IfOk, IfSome, OnOk};
 ghost use Rattle.aig_parts.specs.Literal.{variable};
 ghost use Rattle.aig_sat.specs.checker.Agreement.{Tests};
 ghost use Rattle.aig_sat.specs.checker.Basis.{KeepsOthers, NumbersStep, TakesNumber, basis};
 ghost use Rattle.aig_sat.specs.checker.Clause.{is_true, meets};
 ghost use Rattle.aig_sat.specs.checker.Holding.{AddsVariables, Holds, KeepsHolding, KeepsMeeting};
-ghost use Rattle.aig_sat.specs.checker.Numbers.{IsShownBy, KeepsClauses};
+ghost use Rattle.aig_sat.specs.checker.Numbers.{IsShownBy, KeepsClauses, variables as count_of};
 
 use crate::checker::credit::Credit;
 use crate::checker::finder::Finder;
@@ -42,6 +42,7 @@ impl Checker {
     pub(crate) fn new(alloc: Global, variables: u32, is_hinted: bool) -> Result<Checker, Memory>
         ensures holds { IfOk result (λ checker. (values : ℕ → Bool) → Holds values checker) }
         ensures begins { IfOk result (λ checker. (checker.is_hinted ≡ is_hinted) × (checker.next ≡ 1)) }
+        ensures variables { IfOk result (λ checker. count_of checker.propagator ≡ variables) }
     {
         Ok(Checker {
             propagator: Propagator::new(alloc, variables)?,
@@ -59,7 +60,8 @@ impl Checker {
 
     // Adds a variable that no clause has.
     fn add_variable(&mut self) -> Result<(), Memory>
-        ensures { AddsVariables self.old self.new }
+        ensures adds { AddsVariables self.old self.new }
+        ensures variables { OnOk result (count_of self.new.propagator ≡ count_of self.old.propagator + 1) }
     {
         self.marks.add_variable()?;
         self.propagator.add_variable()
@@ -67,7 +69,8 @@ impl Checker {
 
     /// Adds variables until there are so many.
     pub(crate) fn add_variables(&mut self, variables: usize) -> Result<(), Memory>
-        ensures { AddsVariables self.old self.new }
+        ensures adds { AddsVariables self.old self.new }
+        ensures variables { OnOk result (variables ≤ count_of self.new.propagator) }
     {
         for _ in self.propagator.known.len() / 2..variables {
             self.add_variable()?;
@@ -204,6 +207,7 @@ impl Checker {
     pub(crate) fn delete_named(&mut self, id: Lit)
         ensures holding { KeepsHolding self.old self.new }
         ensures others { KeepsOthers (λ number. number ≡ variable id + 1) (basis self.old) (basis self.new) }
+        ensures next { self.new.next ≡ self.old.next }
     {
         let number = id_of(id);
         let place = self.propagator.ids.forget(number);

@@ -1,5 +1,5 @@
 //! The literals that are known to be true.
-ghost use Rattle.std.specs.Prelude.{◌≡◌, ◌⊎◌, ℕ, ◌<◌, ◌≤◌, List, Bool, false, IfNone, IfSome, IfOk, OnOk, length};
+ghost use Rattle.std.specs.Prelude.{◌≡◌, ◌⊎◌, ℕ, ◌+◌, ◌<◌, ◌≤◌, List, Bool, false, IfNone, IfSome, IfOk, OnOk, length};
 ghost use Rattle.std.specs.Prelude.{slice_index, slice_index_or};
 ghost use Rattle.aig_parts.specs.Literal.{negation};
 ghost use Rattle.aig_sat.specs.checker.Knowledge.{AreFalse, AreFalseBeside, AreFalseBut, IsFound, IsIn, IsKnown, Takes};
@@ -54,7 +54,8 @@ pub(crate) fn forget(truths: &mut Vec<bool>, list: &[u32])
 impl Known {
     /// Nothing is known of so many literals.
     pub(crate) fn new(alloc: Global, literals: usize) -> Result<Known, Memory>
-        ensures { IfOk result (λ known. (l : ℕ) → IsKnown known.truths.items l → ⊥) }
+        ensures nothing { IfOk result (λ known. (l : ℕ) → IsKnown known.truths.items l → ⊥) }
+        ensures len { IfOk result (λ known. length known.truths.items ≡ literals) }
     {
         Ok(Known {
             truths: vec![in alloc; false; literals]?,
@@ -66,13 +67,16 @@ impl Known {
     pub(crate) fn add_variable(&mut self) -> Result<(), Memory>
         ensures fewer { (l : ℕ) → IsKnown self.new.truths.items l → IsKnown self.old.truths.items l }
         ensures more { length self.old.truths.items ≤ length self.new.truths.items }
+        ensures len { OnOk result (length self.new.truths.items ≡ length self.old.truths.items + 2) }
     {
         self.truths.extend_from_slice(&[false, false])?;
         Ok(())
     }
 
     /// How many literals there are.
-    pub(crate) fn len(&self) -> usize {
+    pub(crate) fn len(&self) -> usize
+        ensures { result ≡ length self.now.truths.items }
+    {
         self.truths.len()
     }
 

@@ -1,6 +1,6 @@
 //! The literals of a clause as a set.
-ghost use Rattle.std.specs.Prelude.{◌≡◌, ℕ, Bool, false, OnOk, slice_index_or};
-ghost use Rattle.aig_sat.specs.checker.Distinct.{Has, HasAll};
+ghost use Rattle.std.specs.Prelude.{◌≡◌, ◌⊎◌, ℕ, [], Bool, false, OnOk, slice_index_or};
+ghost use Rattle.aig_sat.specs.checker.Distinct.{Has, IsSameSet};
 ghost use Rattle.aig_sat.specs.checker.Knowledge.{IsKnown};
 
 use crate::checker::known::{forget, negated};
@@ -55,6 +55,7 @@ impl Marks {
     fn add(&mut self, literal: u32) -> Result<(), Memory>
         ensures added { OnOk result (Has self.new.literals.items literal) }
         ensures kept { (l : ℕ) → Has self.old.literals.items l → Has self.new.literals.items l }
+        ensures only { (l : ℕ) → Has self.new.literals.items l → (l ≡ literal) ⊎ Has self.old.literals.items l }
     {
         if self.has(literal) {
             return Ok(());
@@ -65,14 +66,16 @@ impl Marks {
     }
 
     // Takes back all marks and literals.
-    fn clear(&mut self) {
+    fn clear(&mut self)
+        ensures { self.new.literals.items ≡ [] }
+    {
         forget(&mut self.marked, &self.literals);
         self.literals.clear();
     }
 
     /// Takes the literals of a clause in place of those that it has.
     pub(crate) fn put(&mut self, clause: &[Lit]) -> Result<(), Memory>
-        ensures { OnOk result (HasAll self.new.literals.items clause.now) }
+        ensures { OnOk result (IsSameSet self.new.literals.items clause.now) }
     {
         self.clear();
         for literal in clause {

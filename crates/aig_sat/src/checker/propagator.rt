@@ -1,5 +1,5 @@
 //! Unit propagation.
-ghost use Rattle.std.specs.Prelude.{◌≡◌, ◌+◌, ◌-◌, ◌<◌, ◌≤◌, ℕ, Bool, true, false, IsTrue, IfOk, length, map};
+ghost use Rattle.std.specs.Prelude.{◌≡◌, ◌+◌, ◌-◌, ◌*◌, ◌<◌, ◌≤◌, ℕ, Bool, true, false, IsTrue, IfOk, OnOk, length, map};
 ghost use Rattle.aig_parts.specs.Literal.{negation};
 ghost use Rattle.aig_sat.specs.checker.Agreement.{Agrees, Contradicts, Narrows, Propagates, Refutes, Searches, Tests};
 ghost use Rattle.aig_sat.specs.checker.Clause.{is_true};
@@ -23,7 +23,8 @@ pub(crate) struct Propagator {
     pub(crate) known: Known,
     pub(crate) watches: Watches,
     pub(crate) ids: Ids,
-    // How many looks are left: at places of clauses, watches, literals and hints.
+    // How many looks are left: at places of clauses, watches, literals and hints. A search of a watched clause takes one
+    // for eight literals.
     pub(crate) looks: u64,
 }
 
@@ -46,10 +47,25 @@ fn place_of(literals: &[u32], literal: u32) -> usize
     if literals[0] == literal { 0 } else { 1 }
 }
 
+/// A search of a watched clause goes through so many literals in the time of one look at a watch.
+const LITERALS_OF_A_LOOK: usize = 8;
+
+// The looks that are left after a search among so many literals that began at one place and ended at another one. All
+// literals count where it went on from the first one.
+#[inline(always)]
+fn looks_after(looks: u64, from: usize, to: usize, literals: usize) -> u64 {
+    if from <= to && to - from < LITERALS_OF_A_LOOK {
+        return looks;
+    }
+    let searched = if to < from { literals } else { to - from };
+    looks.saturating_sub((searched / LITERALS_OF_A_LOOK) as u64)
+}
+
 impl Propagator {
     /// No clauses over so many variables.
     pub(crate) fn new(alloc: Global, variables: u32) -> Result<Propagator, Memory>
-        ensures { IfOk result (λ p. (values : ℕ → Bool) → Agrees values p) }
+        ensures agrees { IfOk result (λ p. (values : ℕ → Bool) → Agrees values p) }
+        ensures len { IfOk result (λ p. length p.known.truths.items ≡ 2 * variables) }
     {
         let literals = 2 * variables as usize;
         Ok(Propagator {
@@ -67,6 +83,7 @@ impl Propagator {
         ensures words { self.new.clauses.words.items ≡ self.old.clauses.words.items }
         ensures ids { self.new.ids ≡ self.old.ids }
         ensures more { length self.old.known.truths.items ≤ length self.new.known.truths.items }
+        ensures len { OnOk result (length self.new.known.truths.items ≡ length self.old.known.truths.items + 2) }
     {
         self.watches.add_variable()?;
         self.clauses.add_variable()?;
@@ -122,11 +139,13 @@ impl Propagator {
         }
         let (_, rest) = clause.literals.split_at(2);
         if let Some(free) = self.known.free_from(rest, clause.searched) {
+            self.looks = looks_after(self.looks, clause.searched, free.place, rest.len());
             self.clauses
                 .exchange(watch.clause, lost, 2 + free.place, free.place);
             self.watches.add(free.literal, moved)?;
             return Ok(Visit::Leaves);
         }
+        self.looks = looks_after(self.looks, 0, rest.len(), rest.len());
         if !self.known.is_false(clause.literals[lost]) {
             return Ok(Visit::Leaves);
         }

@@ -52,6 +52,7 @@ impl Refutation {
     pub fn with_hints(alloc: Global, variables: u32) -> Result<Refutation, Memory>
         ensures follows { IfOk result (λ refutation. Follows [] refutation.clauses) }
         ensures begins { IfOk result (λ refutation. (refutation.is_hinted ≡ true) × (refutation.next ≡ 1)) }
+        ensures variables { IfOk result (λ refutation. refutation.variables ≡ variables) }
     {
         Ok(Refutation {
             checker: Checker::new(alloc, variables, true)?,
@@ -76,6 +77,7 @@ impl Refutation {
     pub fn delete_named(&mut self, id: Lit)
         ensures follows { Follows self.old.clauses self.new.clauses }
         ensures others { KeepsOthers (λ number. number ≡ variable id + 1) self.old self.new }
+        ensures next { self.new.next ≡ self.old.next }
     {
         self.checker.delete_named(id)
     }
@@ -84,11 +86,14 @@ impl Refutation {
     pub fn add_variables(&mut self, variables: u32) -> Result<(), Memory>
         ensures follows { Follows self.old.clauses self.new.clauses }
         ensures numbered { KeepsNumbers self.old self.new }
+        ensures next { self.new.next ≡ self.old.next }
+        ensures variables { OnOk result (variables ≤ self.new.variables) }
     {
         self.checker.add_variables(variables as usize)
     }
 
-    /// Adds a clause to the formula. If no memory was found, the clause may be missing.
+    /// Adds a clause to the formula. If no memory was found, the clause may be missing. With hints it gets the next
+    /// number.
     pub fn add_clause(&mut self, clause: &[Lit]) -> Result<(), Memory>
         ensures follows { Follows (clause.now ∷ self.old.clauses) self.new.clauses }
         ensures numbered { IsTrue self.old.is_hinted → OnOk result (TakesNumber clause.now self.old self.new) }
@@ -135,7 +140,8 @@ impl Refutation {
 
     /// Whether unit propagation has found a contradiction.
     pub fn is_refuted(&self) -> bool
-        ensures { IsTrue result → IsUnsatisfiable self.now.clauses }
+        ensures refuted { IsTrue result → IsUnsatisfiable self.now.clauses }
+        ensures same { result ≡ self.now.is_refuted }
     {
         self.checker.refuted
     }

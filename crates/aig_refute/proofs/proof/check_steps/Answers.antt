@@ -37,7 +37,7 @@ loop-number-preserved g c =
 pub returns-then-is_refuted-clause-refuted : goal.returns-then-is_refuted-clause-refuted
 returns-then-is_refuted-clause-refuted g c = λ values s.
     let (others, met) = c.loop-number.invariant.keeps values s in
-    c.is_refuted.ensures c.if-is_refuted.true others met
+    c.is_refuted.ensures.refuted c.if-is_refuted.true others met
 
 pub returns-in_default-clause-whole : goal.returns-in_default-clause-whole
 returns-in_default-clause-whole g c = λ whole begun is.

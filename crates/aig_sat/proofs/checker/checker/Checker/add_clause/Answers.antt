@@ -13,12 +13,14 @@ returns-in_err-put-clause-meeting c = λ v h m. record { open_still = h.open_sti
 pub returns-clause-meeting : goal.returns-clause-meeting
 returns-clause-meeting c = λ v h m.
     c.stand.ensures.meeting v (record { open_still = h.open_still; agrees = h.agrees })
-    (met_as_set v c.put.new.self.literals.items c.args.clause.now c.in_ok-put.ensures m)
+    (met_as_set v c.put.new.self.literals.items c.args.clause.now c.in_ok-put.ensures.all m)
 
 pub returns-then-self-clause-numbered : goal.returns-then-self-clause-numbered
 returns-then-self-clause-numbered c = λ hinted. record {
-  kept = record { hinted = refl; variables = omega arith; others = λ n it ne h. h };
+  kept = record { hinted = refl; variables = omega arith; refuted = λ conflict. conflict; others = λ n it ne h. h };
   added = inl c.if-self.true;
+  next = inl c.if-self.true;
+  empty = λ _. c.if-self.true;
 }
 
 pub returns-in_err-put-clause-numbered : goal.returns-in_err-put-clause-numbered

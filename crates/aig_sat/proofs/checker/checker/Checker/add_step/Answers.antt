@@ -54,8 +54,10 @@ returns-clause-shown c =
 pub returns-then-self-clause-numbered : goal.returns-then-self-clause-numbered
 returns-then-self-clause-numbered c = λ hinted.
     if_some c.args.hints _ (λ hints. record {
-      kept = record { hinted = refl; variables = omega arith; others = λ n it ne h. h };
+      kept = record { hinted = refl; variables = omega arith; refuted = λ conflict. conflict; others = λ n it ne h. h };
       added = inl c.if-self.true;
+      next = inl c.if-self.true;
+      empty = λ _. c.if-self.true;
     })
 
 pub returns-in_err-follows-clause-numbered : goal.returns-in_err-follows-clause-numbered
@@ -71,13 +73,16 @@ returns-then-branch-clause-numbered c = λ hinted.
     if_some_then c.args.hints _ _
     (λ hints stays.
     takes_from c.args.self.now c.follows.new.self (basis c.add_clause.new.self) c.args.clause.now stays
-    c.follows.ensures.hinted c.follows.ensures.next (c.in_ok-add_clause.ensures.numbered (c.follows.ensures.hinted ∙ hinted)))
+    c.follows.ensures.same c.follows.ensures.hinted c.follows.ensures.next (c.in_ok-add_clause.ensures.numbered (c.follows.ensures.hinted ∙ hinted)))
     c.follows.ensures.stays
 
 pub returns-clause-numbered : goal.returns-clause-numbered
 returns-clause-numbered c = λ hinted.
     if_some_then c.args.hints _ _
-    (λ hints stays.
-    numbers_from c.args.self.now c.follows.new.self (basis c.follows.new.self) c.args.clause.now stays c.follows.ensures.hinted
-    (record { hinted = refl; variables = omega arith; others = λ n it ne h. h }))
+    (λ hints stays. (
+      numbers_from c.args.self.now c.follows.new.self (basis c.follows.new.self) stays c.follows.ensures.same
+          c.follows.ensures.hinted
+          (record { hinted = refl; variables = omega arith; refuted = λ conflict. conflict; others = λ n it ne h. h }),
+      c.follows.ensures.next,
+    ))
     c.follows.ensures.stays

@@ -3,8 +3,8 @@ use Rattle.aig_sat.proofs.checking.NumberLemmas.{numbered_same}
 use Rattle.aig_sat.proofs.checking.PropagationLemmas.{agrees_narrowed}
 use Rattle.aig_sat.proofs.checker.checker.Checker.add_variable.Goals as goal
 
-pub returns : goal.returns
-returns c =
+pub returns-clause-adds : goal.returns-clause-adds
+returns-clause-adds c =
     let added = c.add_variable-2.ensures in
     record {
       holding = λ v h. record {
@@ -14,6 +14,8 @@ returns c =
       numbered = record {
         hinted = refl;
         variables = omega (arith, added.more);
+        refuted = λ conflict. conflict;
         others = λ n it ne h. numbered_same _ _ _ _ n it added.words added.ids h;
       };
+      next = refl;
     }

@@ -1,8 +1,8 @@
-use Rattle.std.proofs.Common.{◌≡◌, inl, inr, ℕ, true, List, refl, sym, subst, arith}
+use Rattle.std.proofs.Common.{◌≡◌, inl, inr, ℕ, true, List, length, refl, sym, ap, subst, arith}
 use Rattle.aig_sat.specs.checker.Clause.{meets}
 use Rattle.aig_sat.specs.checker.Words.{IsAdded}
 use Rattle.aig_sat.proofs.checking.HoldingLemmas.{all_false, stored}
-use Rattle.aig_sat.proofs.checking.NumberLemmas.{add_keeps, add_numbers, err_on_ok, has_itself, on_ok_then}
+use Rattle.aig_sat.proofs.checking.NumberLemmas.{add_keeps, add_numbers, err_on_ok, on_ok_then, same_itself}
 use Rattle.aig_sat.proofs.checker.checker.Checker.store_named.Goals as goal
 
 pub invariant_of-self : goal.invariant_of-self
@@ -28,8 +28,10 @@ returns-clause-meeting c =
 
 pub returns-in_default-clause-numbered : goal.returns-in_default-clause-numbered
 returns-in_default-clause-numbered c = record {
-  kept = record { hinted = refl; variables = omega arith; others = λ n it ne h. h };
+  kept = record { hinted = refl; variables = omega arith; refuted = λ _. refl; others = λ n it ne h. h };
   added = inl refl;
+  next = inl refl;
+  empty = λ _. refl;
 }
 
 pub returns-in_err-place-clause-numbered : goal.returns-in_err-place-clause-numbered
@@ -46,8 +48,11 @@ returns-clause-numbered c =
       kept = record {
         hinted = refl;
         variables = omega arith;
+        refuted = λ conflict. conflict;
         others = λ n it ne h. add_keeps _ _ _ _ _ _ literals laid c.add.new.self.laid_out added more n it h;
       };
-      added = inr (λ small. (literals, has_itself literals, add_numbers _ _ _ _ _ _ literals laid c.add.new.self.laid_out added more small));
+      added = inr (λ small. (literals, same_itself literals, add_numbers _ _ _ _ _ _ literals laid c.add.new.self.laid_out added more small));
+      next = inr (λ small. omega (arith, c.saturating_add-self.ensures, small));
+      empty = λ none. absurd (omega (arith, c.in-Some.ensures.inside, ap length c.deref.ensures.value, ap length none));
     })
     c.add-2.ensures

@@ -1,4 +1,4 @@
-use Rattle.std.proofs.Common.{◌≡◌, ℕ, List, ap, subst, ◌+◌}
+use Rattle.std.proofs.Common.{◌≡◌, ℕ, List, ap, subst, ◌+◌, ◌∙◌}
 use Rattle.aig_parts.specs.Literal.{variable}
 use Rattle.aig_sat.specs.checker.Basis.{Basis, KeepsOthers, basis}
 use Rattle.aig_sat.specs.checker.Consequence.{Follows}
@@ -14,3 +14,6 @@ pub returns-clause-others : goal.returns-clause-others
 returns-clause-others c =
     subst (λ (x : Basis). KeepsOthers (λ number. number ≡ variable c.args.id + 1) x (basis c.delete_named.new.self)) c.self.view_is
     c.delete_named.ensures.others
+
+pub returns-clause-next : goal.returns-clause-next
+returns-clause-next c = c.delete_named.ensures.next ∙ ap (λ (b : Basis). b.next) c.self.view_is
