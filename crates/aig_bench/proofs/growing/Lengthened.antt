@@ -18,14 +18,14 @@ use Rattle.aig_bench.specs.state.Latches.{AreLatchReaders, TakesNextFrom, IsLast
 use Rattle.aig_parts.specs.Formed.{limit}
 use Rattle.aig_parts.specs.state.Bits.{HasBit}
 use Rattle.aig_parts.proofs.BitLemmas.{same_bits}
-use Rattle.aig_bench.specs.state.LevelSet.{IsLevelSet}
+use Rattle.aig_bench.specs.state.LevelSet.{AreFilled}
 use Rattle.aig_bench.specs.state.Waiting.{WaitingVariables, idle}
 use Rattle.aig_bench.proofs.queues.Chained.{head_in}
 
-module _ (words filled : List ℕ) (level : ℕ) (i : IsLevelSet words filled) (low : level ≤ limit) where
-  -- the second set has room for the word of a level
+module _ (words filled : List ℕ) (level : ℕ) (i : AreFilled words filled) (low : level ≤ limit) where
+  -- the second set has room for the word of a number
   pub filled_longer : (more : List ℕ) → ((w : ℕ) → get_or more w 0 ≡ get_or filled w 0) → length filled ≤ length more
-      → (length more ≡ length filled) ⊎ (length more ≡ level / 64 / 64 + 1) → IsLevelSet words more
+      → (length more ≡ length filled) ⊎ (length more ≡ level / 64 / 64 + 1) → AreFilled words more
   filled_longer more same longer size = record {
     limit = i.limit;
     room = omega (arith, i.room);
@@ -36,10 +36,10 @@ module _ (words filled : List ℕ) (level : ℕ) (i : IsLevelSet words filled) (
     );
   }
 
-  -- and then the first one for the level
+  -- and then the first one for the number
   pub words_longer : (more : List ℕ) → ((w : ℕ) → get_or more w 0 ≡ get_or words w 0)
       → (length more ≡ length words) ⊎ (length more ≡ level / 64 + 1) → level / 64 / 64 < length filled
-      → IsLevelSet more filled
+      → AreFilled more filled
   words_longer more same size inside = record {
     limit = elim size [ inl e ↦ omega (arith, i.limit) | inr e ↦ omega arith ];
     room = elim size [ inl e ↦ omega (arith, i.room) | inr e ↦ omega arith ];

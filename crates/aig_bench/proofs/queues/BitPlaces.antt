@@ -1,6 +1,6 @@
 -- Places of words, and the numbers that they stand for.
 use Rattle.std.proofs.Common.{◌≡◌, ◌≢◌, ◌↔◌, inl, inr, ℕ, ◌+◌, ◌-◌, ◌*◌, ◌/◌, ◌%◌, ◌^◌, ◌<◌, ◌≤◌, List, length}
-use Rattle.std.proofs.Common.{get_or, set, bit_and, bit_or, w64, Option, Some, None, IfNone, refl, sym, ap, ◌∙◌, arith}
+use Rattle.std.proofs.Common.{get_or, set, bit_and, bit_or, w64, Option, Some, None, IfNone, refl, sym, ap, ◌∙◌, subst, arith}
 use Rattle.std.specs.Int.{bit_at, trailing_zeros}
 use Rattle.std.proofs.lemmas.Bool.{cases_eq, cases_lt}
 use Rattle.std.proofs.lemmas.List.{get_or_read}
@@ -10,7 +10,7 @@ use Rattle.std.proofs.lemmas.Nat.Bits.{bit_at_clear_same, bit_at_clear_other}
 use Rattle.std.proofs.Math.Nat.{mod-lt, div-le_self}
 use Rattle.aig_parts.specs.state.Bits.{HasBit}
 use Rattle.aig_parts.proofs.BitLemmas.{differ, elsewhere, inserted, past, there}
-use Rattle.aig_bench.specs.state.LevelSet.{HasNone, IsFirstPlace, IsFirstFrom, IsFirstInWord, IsLevelSet}
+use Rattle.aig_bench.specs.state.LevelSet.{AreFilled, HasNone, IsFirstPlace, IsFirstFrom, IsFirstInWord, word_limit}
 
 nothing_set : (word place : ℕ) → word ≡ 0 → bit_at word place ≡ 1 → ⊥
 nothing_set word place e is =
@@ -71,6 +71,17 @@ none_of_zero words n e is = nothing_set (get_or words (n / 64) 0) (n % 64) e is
 
 pub none_of_zeros : (words : List ℕ) → ((w : ℕ) → get_or words w 0 ≡ 0) → (n : ℕ) → HasBit words n → ⊥
 none_of_zeros words none n = none_of_zero words n (none (n / 64))
+
+-- nothing is there, and no word has anything
+pub no_words_filled : (words filled : List ℕ) → ((w : ℕ) → get_or words w 0 ≡ 0) → ((w : ℕ) → get_or filled w 0 ≡ 0)
+    → length words ≤ word_limit → length words ≤ 64 * length filled → length filled ≤ word_limit
+    → AreFilled words filled
+no_words_filled words filled empty none limit room few = record {
+  limit = limit;
+  room = room;
+  few = few;
+  each = λ w. (λ h. absurd (none_of_zeros filled none w h), λ ne. absurd (ne (empty w)));
+}
 
 -- a word that gets another value at the place of a number
 module _ (words : List ℕ) (number old : ℕ) (inside : number / 64 < length words)
@@ -149,7 +160,7 @@ none_at_all words from word h over n le has = elim (cases_lt n (word * 64)) [
   | inr above ↦ past words n (omega arith) has
 ]
 
-module _ (words filled : List ℕ) (set : IsLevelSet words filled) where
+module _ (words filled : List ℕ) (set : AreFilled words filled) where
   filled_of : (n : ℕ) → HasBit words n → HasBit filled (n / 64)
   filled_of n has = (set.each (n / 64)).1 (λ z. none_of_zero words n z has)
 

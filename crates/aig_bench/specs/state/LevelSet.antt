@@ -29,9 +29,14 @@ IsFirstInWord words from None = HasNone words from ((from / 64 + 1) * 64)
 abbrev pub word_limit : ℕ
 word_limit = 65536
 
--- levels, and the words that have one
-pub record IsLevelSet (words filled : List ℕ) : Type 0 where
+-- numbers, and the words that have one
+pub record AreFilled (words filled : List ℕ) : Type 0 where
   pub limit : length words ≤ word_limit
   pub room : length words ≤ 64 * length filled
   pub few : length filled ≤ word_limit
   pub each : (w : ℕ) → HasBit filled w ↔ (slice_index words w ≢ 0)
+
+-- levels, the words that have one, and the blocks of words that have one
+pub record IsLevelSet (words filled blocks : List ℕ) : Type 0 where
+  pub by_words : AreFilled words filled
+  pub by_blocks : AreFilled filled blocks

@@ -3,7 +3,7 @@ ghost use Rattle.std.specs.Prelude.{◌≡◌, ◌≢◌, ◌⊎◌, ◌↔◌, 
 ghost use Rattle.std.specs.Prelude.{length, slice_index};
 ghost use Rattle.aig_parts.specs.Formed.{limit};
 ghost use Rattle.aig_parts.specs.state.Bits.{HasBit};
-ghost use Rattle.aig_bench.specs.state.LevelSet.{IsFirstPlace, IsFirstFrom, IsFirstInWord, word_limit};
+ghost use Rattle.aig_bench.specs.state.LevelSet.{AreFilled, IsFirstPlace, IsFirstFrom, IsFirstInWord, word_limit};
 
 use aig_base::Memory;
 use std::alloc::Global;
@@ -123,13 +123,28 @@ impl NumberSet {
     }
 }
 
-/// A set of levels, and of the words that have one, so that the next level is found quickly where few are there. It
-/// takes memory when it is made and when it grows, and else none. Contracts see the words of the levels.
+// The least number from this one on, if there is one, by the numbers of the words that have one.
+fn first_by(numbers: &NumberSet, filled: &NumberSet, from: usize) -> Option<usize>
+    requires { AreFilled numbers.now.words.items filled.now.words.items }
+    ensures { IsFirstFrom numbers.now.words.items from result }
+{
+    if let Some(number) = numbers.first_in_word(from) {
+        return Some(number);
+    }
+    let word = filled.first_from(from / BITS + 1)?;
+    numbers.first_in_word(word * BITS)
+}
+
+/// A set of levels, of the words that have one, and of the blocks of 64 words that have one, so that the next level is
+/// found quickly where few are there, and quickly too that none is. It takes memory when it is made and when it grows,
+/// and else none. Contracts see the words of the levels.
 #[derive(Drop, Debug)]
 pub struct LevelSet {
     levels: NumberSet,
     // Numbers of words.
     filled: NumberSet,
+    // Numbers of words of `filled`.
+    blocks: NumberSet,
 }
 
 impl Model for LevelSet {
@@ -141,7 +156,7 @@ impl Model for LevelSet {
 
     ghost view = { λ s. s.levels.words.items };
 
-    ghost invariant = { λ s. IsLevelSet s.levels.words.items s.filled.words.items };
+    ghost invariant = { λ s. IsLevelSet s.levels.words.items s.filled.words.items s.blocks.words.items };
 }
 
 impl LevelSet {
@@ -152,8 +167,14 @@ impl LevelSet {
         ensures empty { IfOk result (λ s. (l : ℕ) → HasBit s l → ⊥) }
     {
         let levels = NumberSet::new(alloc, size)?;
-        let filled = NumberSet::new(alloc, (size + (BITS - 1)) / BITS)?;
-        Ok(LevelSet { levels, filled })
+        let words = (size + (BITS - 1)) / BITS;
+        let filled = NumberSet::new(alloc, words)?;
+        let blocks = NumberSet::new(alloc, (words + (BITS - 1)) / BITS)?;
+        Ok(LevelSet {
+            levels,
+            filled,
+            blocks,
+        })
     }
 
     /// Makes room for a level, which one more word is enough for; no level comes or goes.
@@ -164,6 +185,7 @@ impl LevelSet {
         ensures more { length self.old ≤ length self.new }
         ensures room { OnOk result (level < 64 * length self.new) }
     {
+        self.blocks.make_room(level / BITS / BITS)?;
         self.filled.make_room(level / BITS)?;
         self.levels.make_room(level)
     }
@@ -176,6 +198,7 @@ impl LevelSet {
     {
         self.levels.insert(level);
         self.filled.insert(level / BITS);
+        self.blocks.insert(level / BITS / BITS);
     }
 
     /// Takes a level out.
@@ -184,8 +207,8 @@ impl LevelSet {
         ensures room { length self.new ≡ length self.old }
         ensures levels { (l : ℕ) → HasBit self.new l ↔ (HasBit self.old l × (l ≢ level)) }
     {
-        if self.levels.remove(level) {
-            self.filled.remove(level / BITS);
+        if self.levels.remove(level) && self.filled.remove(level / BITS) {
+            self.blocks.remove(level / BITS / BITS);
         }
     }
 
@@ -196,7 +219,7 @@ impl LevelSet {
         if let Some(level) = self.levels.first_in_word(from) {
             return Some(level);
         }
-        let word = self.filled.first_from(from / BITS + 1)?;
+        let word = first_by(&self.filled, &self.blocks, from / BITS + 1)?;
         self.levels.first_in_word(word * BITS)
     }
 }
