@@ -11,12 +11,21 @@ import argparse
 import os
 import tempfile
 
-from measure import (BENCHMARKS, EDITED_FRAMES, REPOSITORY, Job, Programs, empty, head, load, machine, printed, row,
-                     supervised, write)
+from measure import machine
+from library import supervised
+from library.runs import REPOSITORY, write
+from tables.edits import EDITED_FRAMES
+from tables.files import load
+from tables.jobs import Job
+from tables.programs import BENCHMARKS, Programs
+from tables.runs import head, printed, row
 
 # one gate, and copies of a cipher of 960 gates
-TINY, CIPHERS = ("circuit", "random", 1, 1, 1, 1), ((10, 16, 6), (104, 16, 6))
+TINY, CIPHERS = ("circuit", "random", 1, 1, 1, 1), [(copies, 16, 6) for copies in (1, 10, 104, 1041, 3900)]
 EDITS, QUESTIONS = 1_000_000, 1_000_000
+# how many edits that evaluate something, that make the circuit longer, and that add or drop a frame
+FEW, APPENDED, FRAMES = 2_000, 200_000, 200
+BITS = 32  # of the factors of the multiplier
 
 
 def loads():
@@ -25,12 +34,26 @@ def loads():
     yield "input of one gate, as it is", *tiny, write("same", "s 0 0 0\n" * EDITS), EDITS, "edit"
     yield "input of one gate, another", *tiny, write("turns", "s 0 0 1\ns 0 0 0\n" * (EDITS // 2)), EDITS, "edit"
     for cipher in CIPHERS:
-        files = [load("cipher", *cipher), load("zeros", cipher[0] * cipher[1], EDITED_FRAMES)]
-        for name in ("late", "bits"):
-            script = load("edits", name, *cipher, EDITED_FRAMES, 2_000)
-            yield f"{name}, sparse, {960 * cipher[0]:,} gates", *files, script, 2_000, "edit"
+        yield from loads_of(cipher)
+    multiplier = load("multiplier", BITS)
+    files = [multiplier, load("zeros", 2 * BITS, 1)]
+    yield "rewire that moves levels, multiplier", *files, load("moves", BITS, FEW), FEW, "edit"
     files = [load("circuit", "random", 1000, 1000, 1000, 10_000), load("stimulus", 1000, 64)]
     yield "question, 10,000 gates", *files, load("values", 64, 12_000, QUESTIONS), QUESTIONS, "question"
+
+
+def loads_of(cipher):
+    """The loads on copies of a cipher: edits that evaluate nothing, a gate at each frame, and some hundred cells."""
+    files = [load("cipher", *cipher), load("zeros", cipher[0] * cipher[1], EDITED_FRAMES)]
+    sized = f"sparse, {960 * cipher[0]:,} gates"
+    yield f"nothing, {sized}", *files, write("same", "s 0 0 0\n" * EDITS), EDITS, "edit"
+    yield f"sides swapped, {sized}", *files, load("swaps", *cipher, FEW), FEW, "edit"
+    for name in ("late", "bits"):
+        yield f"{name}, {sized}", *files, load("edits", name, *cipher, EDITED_FRAMES, FEW), FEW, "edit"
+    if cipher[0] <= 104:
+        yield f"append_gate, {sized}", *files, write("more", "g 2 4\n" * APPENDED), APPENDED, "edit"
+        frames = load("edits", "frames", *cipher, EDITED_FRAMES, FRAMES)
+        yield f"add_frame, drop_frame, {sized}", *files, frames, FRAMES, "edit"
 
 
 def built(library):
@@ -56,11 +79,12 @@ def table(programs, live, times):
          "a line: C++", "a line: aig bench")
     for name, circuit, rows, script, count, kind in loads():
         files = [circuit, rows]
-        job = Job(name, "", 1, lambda: ["bench", *files, script], lambda: ["bench", *files, empty()], count)
+        job = Job(name, "", 1.05, f"bench {circuit} {rows} {script}", f"bench {circuit} {rows} text.empty", count)
         lines = [seconds / count * 1e9 for seconds in job.measured(programs, times)[0]]
         theirs, ours = in_turns(times, [programs.get("tuned"), "live", *files, script], [live, *files, script])
+        array = ours.get(f"{kind}_of_an_array")
         row(name, f"{theirs[kind]:,.1f}", f"{ours[kind]:,.1f}", f"{ours[kind] / theirs[kind]:.2f}",
-            f"{ours[f'{kind}_of_an_array']:,.1f}", *(f"{it:,.0f}" for it in lines))
+            f"{array:,.1f}" if array else "", *(f"{it:,.0f}" for it in lines))
 
 
 def main():

@@ -13,6 +13,7 @@ values FRAMES VARIABLES LINES                  a script that asks for values
 cipher COPIES HALF ROUNDS                      copies of a cipher of 2 HALF latches each; ten gates a bit and round
 zeros INPUTS FRAMES                            a stimulus of zeros
 edits LOAD COPIES HALF ROUNDS FRAMES COUNT     a script for these copies; LOAD: bits, late, rewires, resets or frames
+swaps COPIES HALF ROUNDS COUNT                 a script that swaps the sides of gates of these copies
 ascon SHAPE ROUNDS                             rounds of the cipher Ascon; SHAPE: side_by_side or in_a_row
 rewires LOAD SHAPE ROUNDS COUNT                a script for these rounds; LOAD: same_level, below or anywhere
 
@@ -22,6 +23,7 @@ claims KIND SIZE INPUTS LATCHES GATES          a certificate for it: no two latc
                                                copy, with all of the circuit
 multiplier BITS                                two multipliers of so many bits, one of a * b and one of b * a; the bad
                                                state is that they differ
+moves BITS COUNT                               a script that gives gates of these another side, and theirs again
 pigeons HOLES                                  one pigeon more than holes; the bad state is that each is in a hole of
                                                its own. Its inputs are the variables of `pigeons` in
                                                tests/library/families.py
@@ -182,6 +184,15 @@ def edits(below, load, *words):
     yield "t\n"
 
 
+def swaps(below, copies, half, rounds, count):
+    every = Ciphers(copies, half, rounds)
+    for _ in range(count):
+        copy = below(copies)
+        sides, _ = every.copy(copy)
+        place = below(len(sides))
+        yield "w %d %d %d\n" % (2 * (every.first_gate(copy) + place), *reversed(sides[place]))
+
+
 # ---- rounds of Ascon
 
 def ascon(_, shape, rounds):
@@ -216,15 +227,28 @@ def rewires(below, load, shape, rounds, count):
 
 # ---- multipliers
 
-def multiplier(_, bits):
+def multipliers(bits):
+    """Two multipliers, and the literal that says that they differ."""
     both = Multipliers(bits)
     differs = 0
     for one, other in zip(both.product(both.left, both.right), both.product(both.right, both.left)):
         differs = both.disjunction(differs, both.exclusive(one, other))
+    return both, differs
+
+
+def multiplier(_, bits):
+    both, differs = multipliers(bits)
     yield f"aag {both.inputs + len(both.gates)} {both.inputs} 0 0 {len(both.gates)} 1\n"
     yield from (f"{literal}\n" for literal in both.left + both.right)
     yield f"{differs}\n"
     yield from (f"{gate} {a} {b}\n" for gate, a, b in both.gates)
+
+
+def moves(below, bits, count):
+    gates = multipliers(bits)[0].gates
+    for _ in range(count // 2):
+        gate, a, b = gates[below(len(gates))]
+        yield f"w {gate} {below(gate)} {b}\nw {gate} {a} {b}\n"
 
 
 # ---- pigeons
@@ -252,7 +276,7 @@ def pigeons(_, holes):
 
 
 KINDS = {kind.__name__: kind for kind in (circuit, names, comment, stimulus, changing, values, cipher, zeros, edits,
-                                          ascon, rewires, ring, claims, multiplier, pigeons)}
+                                          swaps, ascon, rewires, ring, claims, multiplier, moves, pigeons)}
 
 
 def made(kind, *words, seed=SEED):

@@ -5,7 +5,6 @@
 #include "checker.hpp"
 #include "simulator.hpp"
 
-#include <queue>
 #include <vector>
 
 // Who reads each variable, in one pool; a list that is full moves to the pool's end, with twice the room.
@@ -213,27 +212,35 @@ private:
         return found;
     }
 
-    // Gives a gate and what reads it their levels, each once: by the old levels.
+    // Gives a gate and what reads it their levels, each once, from the lowest old level up, by the chains of levels.
     void renew_levels(uint32_t gate) {
-        using Waiting = std::pair<uint32_t, uint32_t>;
-        std::priority_queue<Waiting, std::vector<Waiting>, std::greater<Waiting>> waiting;
-        std::vector<uint32_t> met;
-        waiting.push({uint32_t(slots[gate].level), gate});
-        while (!waiting.empty()) {
-            uint32_t variable = waiting.top().second;
-            waiting.pop();
-            Slot& slot = slots[variable];
-            uint32_t level = 1 + std::max<uint32_t>(slots[slot.rhs0 >> 1].level, slots[slot.rhs1 >> 1].level);
-            if (slot.level == level) continue;
-            slot.level = level;
-            make_level(level);
-            for (const uint32_t* reader = readers.begin(variable); reader != readers.end(variable); ++reader)
-                if (!seen[*reader]) {
-                    seen[*reader] = true;
-                    met.push_back(*reader);
-                    waiting.push({uint32_t(slots[*reader].level), *reader});
-                }
+        link(gate);
+        for (size_t word = slots[gate].level / 64; word < occupied.size();) {
+            if (occupied[word] == 0) {
+                ++word;
+                continue;
+            }
+            size_t level = word * 64 + size_t(__builtin_ctzll(occupied[word]));
+            occupied[word] &= occupied[word] - 1;
+            uint32_t variable = heads[level];
+            heads[level] = 0;
+            while (variable != 0) {
+                Slot& slot = slots[variable];
+                uint32_t next = slot.next;
+                slot.next = alone;
+                renew_level(variable, slot);
+                variable = next;
+            }
         }
-        for (uint32_t each : met) seen[each] = false;
+    }
+
+    // What reads the gate waits if it gets another level; it has a higher one.
+    void renew_level(uint32_t variable, Slot& slot) {
+        uint32_t level = 1 + std::max<uint32_t>(slots[slot.rhs0 >> 1].level, slots[slot.rhs1 >> 1].level);
+        if (slot.level == level) return;
+        slot.level = level;
+        make_level(level);
+        for (const uint32_t *reader = readers.begin(variable), *end = readers.end(variable); reader != end; ++reader)
+            link(*reader);
     }
 };

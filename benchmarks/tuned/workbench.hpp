@@ -63,6 +63,41 @@ public:
         return fault;
     }
 
+    Fault rewire(uint32_t literal, uint32_t rhs0, uint32_t rhs1) {
+        if (!has_role(literal, is_gate, is_gate)) return 1;
+        if (Fault fault = fault_of(rhs0, rhs1)) return fault;
+        if (!events.rewire(literal >> 1, rhs0, rhs1)) return 5;
+        is_stale = true;
+        renew(0, literal >> 1);
+        return 0;
+    }
+
+    Fault append_gate(uint32_t rhs0, uint32_t rhs1) {
+        if (Fault fault = fault_of(rhs0, rhs1)) return fault;
+        if (circuit.max_var == 4'194'303 || uint64_t(circuit.max_var + 2) * cells.size() > most_cells) return 10;
+        ++circuit.max_var;
+        events.append(rhs0, rhs1);
+        if (!is_stale) gates.push({2 * circuit.max_var, rhs0, rhs1});
+        roles.push_back(is_gate);
+        for (std::vector<Code>& row : cells) row.push_back(both(row.data(), rhs0, rhs1));
+        return 0;
+    }
+
+    Fault add_frame(const char* line, size_t length) {
+        if (length != circuit.inputs.size()) return 8;
+        size_t frames = cells.size() + 1;
+        if (frames > most_frames || uint64_t(roles.size()) * frames > most_cells) return 10;
+        fill_frame(line);
+        events.evaluated += gates.size();
+        return 0;
+    }
+
+    Fault drop_frame() {
+        if (cells.empty()) return 9;
+        cells.pop_back();
+        return 0;
+    }
+
 private:
     static constexpr size_t most_frames = 65'536;
     static constexpr uint64_t most_cells = 67'108'864;
@@ -205,15 +240,6 @@ private:
         out.advance(to + 2);
     }
 
-    Fault rewire(uint32_t literal, uint32_t rhs0, uint32_t rhs1) {
-        if (!has_role(literal, is_gate, is_gate)) return 1;
-        if (Fault fault = fault_of(rhs0, rhs1)) return fault;
-        if (!events.rewire(literal >> 1, rhs0, rhs1)) return 5;
-        is_stale = true;
-        renew(0, literal >> 1);
-        return 0;
-    }
-
     Fault set_reset(uint32_t literal, Code code) {
         if (!has_role(literal, first_latch, ~0u)) return 2;
         Latch& latch = circuit.latches[roles[literal >> 1] - first_latch];
@@ -223,36 +249,10 @@ private:
         return 0;
     }
 
-    Fault append_gate(uint32_t rhs0, uint32_t rhs1) {
-        if (Fault fault = fault_of(rhs0, rhs1)) return fault;
-        if (circuit.max_var == 4'194'303 || uint64_t(circuit.max_var + 2) * cells.size() > most_cells) return 10;
-        ++circuit.max_var;
-        events.append(rhs0, rhs1);
-        if (!is_stale) gates.push({2 * circuit.max_var, rhs0, rhs1});
-        roles.push_back(is_gate);
-        for (std::vector<Code>& row : cells) row.push_back(both(row.data(), rhs0, rhs1));
-        return 0;
-    }
-
     Fault set_output(uint32_t position, uint32_t literal) {
         if (Fault fault = fault_of(literal)) return fault;
         if (position >= circuit.outputs.size()) return 13;
         circuit.outputs[position] = literal;
-        return 0;
-    }
-
-    Fault add_frame(const char* line, size_t length) {
-        if (length != circuit.inputs.size()) return 8;
-        size_t frames = cells.size() + 1;
-        if (frames > most_frames || uint64_t(roles.size()) * frames > most_cells) return 10;
-        fill_frame(line);
-        events.evaluated += gates.size();
-        return 0;
-    }
-
-    Fault drop_frame() {
-        if (cells.empty()) return 9;
-        cells.pop_back();
         return 0;
     }
 

@@ -1,4 +1,5 @@
 pub mod FanOutLemmas
+pub mod LevelChains
 pub mod LevelSteps
 pub mod Passes
 pub mod QueueLemmas

@@ -15,7 +15,7 @@ use Rattle.aig_base.proofs.lists.Gets.{Contains-from_get}
 use Rattle.aig_base.proofs.levels.OneLevel.{same_level}
 use Rattle.aig_base.proofs.lists.Positions.{Contains-cons, no_element}
 
-once_cons : (v : ℕ) (xs : List ℕ) → (Contains xs v → ⊥) → ((x : ℕ) → StandsTwice xs x → ⊥) → (x : ℕ)
+pub once_cons : (v : ℕ) (xs : List ℕ) → (Contains xs v → ⊥) → ((x : ℕ) → StandsTwice xs x → ⊥) → (x : ℕ)
     → StandsTwice (v ∷ xs) x → ⊥
 once_cons v xs never once x (i, zero, lt, a, b) = absurd (omega arith)
 once_cons v xs never once x (zero, suc j, lt, a, b) =

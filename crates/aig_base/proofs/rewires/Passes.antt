@@ -4,7 +4,7 @@ use Rattle.std.proofs.Common.{nat_eq, count_by, length, get_or, All, Contains, I
 use Rattle.std.proofs.Common.{ap, subst, arith}
 use Rattle.std.specs.Vec.{vec_capacity}
 use Rattle.std.proofs.lemmas.Bool.{cases_eq}
-use Rattle.std.proofs.lemmas.List.Elements.{All-contains}
+use Rattle.std.proofs.lemmas.List.Elements.{All-contains, Contains-get_or}
 use Rattle.std.proofs.lemmas.List.Sorted.{Contains-permutation, length_permutation, IsPermutation-sym}
 use Rattle.std.proofs.lemmas.List.Sums.{count_by-le-length}
 use Rattle.std.proofs.lemmas.Option.{slice_get-get_or, get_or_from_slice_get}
@@ -24,9 +24,10 @@ use Rattle.aig_base.specs.Readers.{AreReaders, ReaderLists, list_of}
 use Rattle.aig_base.specs.state.Rewires.{HoldsLevel, IsInFanOut, Renewing, RenewsAt, SetsLevel}
 use Rattle.aig_base.specs.Sections.{IsDefined, IsGate, IsLeftSide}
 use Rattle.aig_base.specs.state.Visits.{AreNoVisits, AreVisits, IsVisited}
+use Rattle.aig_base.specs.state.Worklists.{CanWait}
 use Rattle.aig_base.proofs.rewires.FanOutLemmas.{acyclic_from_before, changed_level, side_level}
 use Rattle.aig_base.proofs.circuits.Defined.{Grounded-of_defined}
-use Rattle.aig_base.proofs.circuits.Gates.{IsGate-of_gate, gate_in_range, sides_in_range}
+use Rattle.aig_base.proofs.circuits.Gates.{IsDefinition-of_gate, IsGate-of_gate, gate_in_range, sides_in_range}
 use Rattle.aig_base.proofs.levels.LevelBound.{level_bound}
 use Rattle.aig_base.proofs.rewires.LevelSteps.{IsDone, among_step, capacity_step, cell_here, cell_other, cell_size}
 use Rattle.aig_base.proofs.rewires.LevelSteps.{done_cases}
@@ -107,6 +108,47 @@ module _ (raw : Raw) (c : IsCircuit raw) (lhs r0 r1 : ℕ) (is_gate : IsLeftSide
   changed_fits =
       low (changed_level raw c.sound lhs r0 r1 is_gate c.acyclic d0 d1 never0 never1 (get_or old (variable r0) 0)
       (get_or old (variable r1) 0) (side_at (variable r0) d0) (side_at (variable r1) d1))
+
+  pub changed_low : level_above old changed < length old
+  changed_low =
+      let bound = level_bound new circuit_new.sound (changed_level raw c.sound lhs r0 r1 is_gate c.acyclic d0 d1 never0
+      never1 (get_or old (variable r0) 0) (get_or old (variable r1) 0) (side_at (variable r0) d0)
+      (side_at (variable r1) d1)) in
+      omega (arith, are.size)
+
+  -- the readers of a variable can wait in a row that has a level for each gate
+  readers_wait : (row : List ℕ) (w : ℕ) → w ≤ raw.max_var → length row ≡ length old
+      → ((k : ℕ) (g : Gate) → slice_get raw.gates k ≡ Some g → get_or row (variable g.lhs) 0 ≤ raw.max_var)
+      → All (CanWait row) (list_of r w)
+  readers_wait row w le size low i d lt =
+      let (k, g, at, side, is) = reads raw r readers w le (get_or (list_of r w) i d) (Contains-get_or (list_of r w) i d lt) in
+      let range = gate_in_range raw c.sound (variable g.lhs) (IsGate-of_gate raw k g at) in
+      let left = IsDefinition-of_gate raw c.sound k g at in
+      let level = low k g at in
+      subst (CanWait row) is (record {
+        positive = omega (arith, left.1);
+        inside = omega (arith, are.size);
+        low = omega (arith, are.size);
+      })
+
+  old_cell : (row : List ℕ) (k : ℕ) (g : Gate) → slice_get raw.gates k ≡ Some g
+      → slice_get row (variable g.lhs) ≡ slice_get old (variable g.lhs) → get_or row (variable g.lhs) 0 ≤ raw.max_var
+  old_cell row k g at same =
+      let (m, l) = gate_level raw c.sound c.acyclic lhs r0 r1 is_gate old are k g at in
+      let cell = get_or_from_slice_get row (variable g.lhs) m 0 (same ∙ are.each (variable g.lhs) m l) in
+      let bound = level_bound raw c.sound l in
+      omega arith
+
+  new_cell : (row : List ℕ) (v : ℕ) → HoldsLevel new row v → get_or row v 0 ≤ raw.max_var
+  new_cell row v h =
+      let cell = get_or_from_slice_get row v h.level 0 h.cell in
+      let bound = level_bound new circuit_new.sound h.has in
+      omega arith
+
+  pub changed_wait : All (CanWait old) (list_of r (variable lhs))
+  changed_wait =
+      readers_wait old (variable lhs) (let lt = gate_within in omega (arith, are.size)) refl
+      (λ k g at. old_cell old k g at refl)
 
   -- a step of the pass, as the code makes it
   module _ (w level : ℕ) (row row' : List ℕ) (s s' : Visits) (q q' : Queued) (queued : ℕ → Type 0) (le : w ≤ raw.max_var)
@@ -249,6 +291,24 @@ module _ (raw : Raw) (c : IsCircuit raw) (lhs r0 r1 : ℕ) (is_gate : IsLeftSide
     pub popped_size : length q1.entries + 1 ≡ length q.entries
     popped_size = let long = length_permutation q.entries ((rank, w) ∷ q1.entries) p in omega arith
 
+    pub popped_met : (v : ℕ) → IsQueued q1 v → IsVisited s v
+    popped_met v i = (let count = copies_popped v rank w q q1 p in h.met v (omega arith))
+
+    pub popped_wide : length row ≤ q1.capacity
+    popped_wide = (let long = h.renewing.size in let fits = h.fits_queue in omega arith)
+
+    row_cell : (k : ℕ) (g : Gate) → slice_get raw.gates k ≡ Some g → get_or row (variable g.lhs) 0 ≤ raw.max_var
+    row_cell k g at = elim (cases_eq (variable g.lhs) (variable lhs)) [
+      | inl e ↦ subst (λ v. get_or row v 0 ≤ raw.max_var) (sym e) (new_cell row (variable lhs) h.renewing.changed)
+      | inr ne ↦ elim (done_cases s q (variable g.lhs)) [
+        | inl d ↦ new_cell row (variable g.lhs) (h.renewing.evaluated (variable g.lhs) d)
+        | inr not_done ↦ old_cell row k g at (h.renewing.others k g at ne not_done)
+      ]
+    ]
+
+    pub popped_wait : All (CanWait row) (list_of r w)
+    popped_wait = readers_wait row w (gate_in_range raw c.sound w popped_gate) h.renewing.size row_cell
+
     back : (e : ℕ × ℕ) → Contains q1.entries e → Contains q.entries e
     back e k =
         let (i, lt, at) = k in
@@ -322,6 +382,16 @@ module _ (raw : Raw) (c : IsCircuit raw) (lhs r0 r1 : ℕ) (is_gate : IsLeftSide
           (kept raw c.sound lhs r0 r1 is_gate k g at not_changed) holds0.has holds1.has) in
           omega arith
 
+      pub popped_low : level_above row g < length row
+      popped_low =
+          let e0 : get_or row (variable g.rhs0) 0 ≡ holds0.level =
+          get_or_from_slice_get row (variable g.rhs0) holds0.level 0 holds0.cell in
+          let e1 : get_or row (variable g.rhs1) 0 ≡ holds1.level =
+          get_or_from_slice_get row (variable g.rhs1) holds1.level 0 holds1.cell in
+          let bound = level_bound new circuit_new.sound (by.Level.gate k g holds0.level holds1.level
+          (kept raw c.sound lhs r0 r1 is_gate k g at not_changed) holds0.has holds1.has) in
+          omega (arith, are.size, h.renewing.size)
+
       module _ (row' : List ℕ) (s' : Visits) (q' : Queued)
           (set : SetsLevel w (level_above row g) (list_of r w) row row' s s' q1 q') where
         w_low : w ≤ raw.max_var
@@ -381,7 +451,7 @@ module _ (raw : Raw) (c : IsCircuit raw) (lhs r0 r1 : ℕ) (is_gate : IsLeftSide
         passed_more =
             let (in0, in1) = popped_sides in
             pass_on w (level_above row g) row row' s s' q1 q' set h.visits
-            (λ v i. (let count = copies_popped v rank w q q1 p in h.met v (omega arith)))
+            popped_met
             (λ v. (let count = copies_popped v rank w q q1 p in let few = h.once v in omega arith))
             (λ e i m cell. h.ranks e (back e i) m cell)
             popped_room h.size h.fits (let f = h.fits_queue in omega arith)

@@ -1,47 +1,102 @@
 //! Gates that wait for their turn, the one of the least level first.
 ghost use Rattle.std.specs.Prelude.{◌≡◌, ℕ, ◌<◌, ◌≤◌, ◌∷◌, [], length, All, IfOk, IfSome, IfNone, OnOk, IsPermutation};
-ghost use Rattle.aig_base.specs.state.Queue.{IsEmptyQueue, entry};
+ghost use Rattle.std.specs.Prelude.{slice_index, ◌⊎◌};
+ghost use Rattle.aig_base.specs.state.Queue.{IsEmptyQueue, IsEmptyBelow, IsFirstLevel, IsQueued, entry};
 
 use aig_bytes::Memory;
 use std::alloc::Global;
-use std::collections::BinaryHeap;
 use std::marker::Model;
 
-/// Variables with their levels; the heap's greatest entry has the least level.
+/// Variables that wait, in a chain for each level: nothing is compared, and an entry takes no more than its place in
+/// two tables.
 #[derive(Drop)]
 pub(crate) struct Queue {
-    heap: BinaryHeap<(u32, u32)>,
+    // The first variable of each level's chain; 0: none.
+    head: Vec<u32>,
+    // The next variable of each in its chain; 0: none.
+    next: Vec<u32>,
+    // No level below this one has a chain.
+    first: usize,
+    // How many variables wait.
+    waiting: usize,
 }
 
 impl Model for Queue {
-    ghost use Rattle.std.specs.Ordering.{nat_cmp, ordering_then};
-    ghost use Rattle.std.specs.BinaryHeap.{IsHeap, heap_items, heap_capacity};
-    ghost use Rattle.aig_base.specs.state.Queue.{Queued};
+    ghost use Rattle.std.specs.Prelude.{length};
+    ghost use Rattle.aig_base.specs.state.Queue.{Queued, AreLevelChains, chained_entries};
 
     ghost Value = { Queued };
 
-    ghost view = { λ a. record { entries = heap_items a.heap; capacity = heap_capacity a.heap } };
+    ghost view = { λ a. record { entries = chained_entries a.head.items a.next.items; capacity = length a.next.items } };
 
-    ghost invariant = { λ a. IsHeap (λ x y. ordering_then (nat_cmp x.0 y.0) (nat_cmp x.1 y.1)) (heap_items a.heap) };
+    ghost invariant = { λ a. AreLevelChains a.head.items a.next.items a.first a.waiting };
+}
+
+// The first level from this one on that has a chain, if there is one.
+fn first_level(head: &[u32], from: usize) -> Option<usize>
+    requires { IsEmptyBelow head.now from }
+    ensures { IsFirstLevel head.now result }
+{
+    for level in from..head.len() {
+        if head[level] != 0 {
+            return Some(level);
+        }
+    }
+    None
+}
+
+// Where the search for the first level can begin once a variable waits at this one.
+fn first_after(first: usize, waiting: usize, level: usize) -> usize
+    ensures least { result ≤ level }
+    ensures before { (result ≤ first) ⊎ (waiting ≡ 0) }
+{
+    if waiting == 0 || level < first {
+        return level;
+    }
+    first
+}
+
+// Adds zeros to a list until it has so many numbers.
+fn lengthen(list: &mut Vec<u32>, size: usize) -> Result<(), Memory>
+    ensures same { (l : ℕ) → slice_index list.new.items l ≡ slice_index list.old.items l }
+    ensures longer { length list.old.items ≤ length list.new.items }
+    ensures few { (length list.new.items ≡ length list.old.items) ⊎ (length list.new.items ≤ size) }
+    ensures ok { OnOk result (size ≤ length list.new.items) }
+{
+    for _ in list.len()..size {
+        list.push(0)?;
+    }
+    Ok(())
 }
 
 impl Queue {
-    /// An empty queue with room for so many.
+    /// An empty queue with room for so many variables, and as many levels.
     pub(crate) fn new(alloc: Global, capacity: usize) -> Result<Queue, Memory>
         ensures { IfOk result (IsEmptyQueue capacity) }
     {
         Ok(Queue {
-            heap: BinaryHeap::with_capacity(alloc, capacity)?,
+            head: vec![in alloc; 0; capacity]?,
+            next: vec![in alloc; 0; capacity]?,
+            first: 0,
+            waiting: 0,
         })
     }
 
-    /// Adds a variable with its level, where there is room.
+    /// Adds a variable with its level, where there is room and it does not wait.
     pub(crate) fn push(&mut self, level: u32, variable: u32)
-        requires { length self.old.entries < self.old.capacity }
+        requires room { length self.old.entries < self.old.capacity }
+        requires level { level < self.old.capacity }
+        requires positive { 0 < variable }
+        requires within { variable < self.old.capacity }
+        requires alone { IsQueued self.old variable → ⊥ }
         ensures entries { IsPermutation (entry level variable ∷ self.old.entries) self.new.entries }
         ensures capacity { self.old.capacity ≤ self.new.capacity }
     {
-        let _there_was_room = self.heap.push((u32::MAX - level, variable));
+        let place = level as usize;
+        self.first = first_after(self.first, self.waiting, place);
+        self.next[variable as usize] = self.head[place];
+        self.head[place] = variable;
+        self.waiting += 1;
     }
 
     /// Takes a variable of the least level.
@@ -53,10 +108,15 @@ impl Queue {
         ensures left { IfNone result (self.new.entries ≡ []) }
         ensures capacity { self.new.capacity ≡ self.old.capacity }
     {
-        match self.heap.pop() {
-            Some(entry) => Some(entry.1),
-            None => None,
+        if self.waiting == 0 {
+            return None;
         }
+        let level = first_level(&self.head, self.first)?;
+        let variable = self.head[level];
+        self.head[level] = self.next[variable as usize];
+        self.first = level;
+        self.waiting -= 1;
+        Some(variable)
     }
 
     /// Sees that there is room for so many in all, those that wait included.
@@ -65,7 +125,7 @@ impl Queue {
         ensures capacity { self.old.capacity ≤ self.new.capacity }
         ensures ok { OnOk result (additional ≤ self.new.capacity) }
     {
-        self.heap.reserve(additional)?;
-        Ok(())
+        lengthen(&mut self.head, additional)?;
+        lengthen(&mut self.next, additional)
     }
 }

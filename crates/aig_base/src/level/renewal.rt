@@ -7,7 +7,7 @@ ghost use Rattle.aig_base.specs.state.Descent.{level_above};
 ghost use Rattle.aig_base.specs.Levels.{AreLevels};
 ghost use Rattle.aig_base.specs.Readers.{AreReaders, list_of};
 ghost use Rattle.aig_base.specs.state.Rewires.{IsRewire, SetsLevel};
-ghost use Rattle.aig_base.specs.state.Worklists.{HasRoom, IsIdle};
+ghost use Rattle.aig_base.specs.state.Worklists.{CanWait, HasRoom, IsIdle};
 
 use crate::level::level_copy::LevelCopy;
 use crate::level::level_over;
@@ -30,7 +30,8 @@ impl FanOutGraph<'_> {
         requires level { level_above levels.old gate.now ≤ limit }
         requires copy { C.has copy.old levels.old }
         requires readers { variable gate.now.lhs < length self.now.readers.now.lists }
-        requires within { All (λ v. v < length levels.old) (list_of self.now.readers.now (variable gate.now.lhs)) }
+        requires low { level_above levels.old gate.now < length levels.old }
+        requires wait { All (CanWait levels.old) (list_of self.now.readers.now (variable gate.now.lhs)) }
         requires room { HasRoom (length levels.old) worklist.old }
         ensures sets { SetsLevel (variable gate.now.lhs) (level_above levels.old gate.now)
             (list_of self.now.readers.now (variable gate.now.lhs)) levels.old levels.new

@@ -1,7 +1,7 @@
 //! Gates whose levels are to be renewed: each is queued once, and the one of the least level comes first.
 ghost use Rattle.std.specs.Prelude.{◌≡◌, ◌+◌, ◌<◌, ◌∷◌, [], length, All, IfOk, OnOk};
 ghost use Rattle.aig_base.specs.state.Rewires.{Queues};
-ghost use Rattle.aig_base.specs.state.Worklists.{FitsOneVariable, HasRoom, IsIdle};
+ghost use Rattle.aig_base.specs.state.Worklists.{CanWait, FitsOneVariable, HasRoom, IsIdle};
 
 use crate::level::queue::Queue;
 use crate::level::visits::Visits;
@@ -28,7 +28,7 @@ impl Worklist {
 
     // Queues a variable with its level, unless it was visited.
     fn push(&mut self, levels: &[u32], variable: u32)
-        requires within { variable < length levels.now }
+        requires waits { CanWait levels.now variable }
         requires room { HasRoom (length levels.now) self.old }
         ensures { Queues (variable ∷ []) levels.now self.old.visits self.new.visits self.old.queue self.new.queue }
     {
@@ -40,7 +40,7 @@ impl Worklist {
 
     /// Queues the variables of a list with their levels, those that were not visited.
     pub(crate) fn push_all(&mut self, levels: &[u32], list: &[u32])
-        requires within { All (λ v. v < length levels.now) list.now }
+        requires wait { All (CanWait levels.now) list.now }
         requires room { HasRoom (length levels.now) self.old }
         ensures { Queues list.now levels.now self.old.visits self.new.visits self.old.queue self.new.queue }
     {

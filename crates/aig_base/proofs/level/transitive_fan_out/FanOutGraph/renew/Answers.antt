@@ -4,9 +4,9 @@ use Rattle.aig_base.proofs.rewires.QueueLemmas.{idle_room}
 use Rattle.aig_parts.specs.Literal.{variable}
 use Rattle.aig_base.proofs.circuits.Gates.{defined_in_range}
 use Rattle.aig_base.proofs.rewires.LevelSteps.{left_step}
-use Rattle.aig_base.proofs.fan_outs.ListedReaders.{list_within}
-use Rattle.aig_base.proofs.rewires.Passes.{changed_fits, gate_within, passed_first, passed_more, passed_all}
-use Rattle.aig_base.proofs.rewires.Passes.{popped_fits}
+use Rattle.aig_base.proofs.rewires.Passes.{changed_fits, changed_low, changed_wait, gate_within}
+use Rattle.aig_base.proofs.rewires.Passes.{passed_first, passed_more, passed_all}
+use Rattle.aig_base.proofs.rewires.Passes.{popped_fits, popped_low, popped_met, popped_wait, popped_wide}
 use Rattle.aig_base.proofs.rewires.Passes.{popped_gate, popped_room, popped_sides, popped_size, popped_within}
 use Rattle.aig_base.specs.Readers.{list_of}
 use Rattle.aig_base.specs.state.Descent.{level_above}
@@ -52,17 +52,23 @@ renew_gate-requires-clause-readers g c =
     c.args.self.now.readers.now c.requires.readers in
     omega (arith, c.requires.levels.size, c.requires.readers.size)
 
-pub renew_gate-requires-clause-within : goal.renew_gate-requires-clause-within
-renew_gate-requires-clause-within g c =
-    let lt = gate_within c.args.self.now.circuit.now c.facts.ensures c.args.changed.now.lhs c.args.changed.now.rhs0
+pub renew_gate-requires-clause-wait : goal.renew_gate-requires-clause-wait
+renew_gate-requires-clause-wait g c =
+    changed_wait c.args.self.now.circuit.now c.facts.ensures c.args.changed.now.lhs c.args.changed.now.rhs0
     c.args.changed.now.rhs1
     c.requires.changed.gate c.requires.changed.defined0 c.requires.changed.defined1 c.requires.changed.apart0
     c.requires.changed.apart1 c.args.levels.now
     c.requires.levels
-    c.args.self.now.readers.now c.requires.readers in
-    list_within c.args.self.now.circuit.now c.args.self.now.readers.now c.requires.readers (variable c.args.changed.now.lhs)
-    (omega (arith, c.requires.levels.size)) c.facts.ensures.sound c.args.levels.now
+    c.args.self.now.readers.now c.requires.readers
+
+pub renew_gate-requires-clause-low : goal.renew_gate-requires-clause-low
+renew_gate-requires-clause-low g c =
+    changed_low c.args.self.now.circuit.now c.facts.ensures c.args.changed.now.lhs c.args.changed.now.rhs0
+    c.args.changed.now.rhs1
+    c.requires.changed.gate c.requires.changed.defined0 c.requires.changed.defined1 c.requires.changed.apart0
+    c.requires.changed.apart1 c.args.levels.now
     c.requires.levels
+    c.args.self.now.readers.now c.requires.readers
 
 pub loop-variable-init : goal.loop-variable-init
 loop-variable-init g c = record {
@@ -154,9 +160,10 @@ renew_gate-requires-in-Some-gate_of-clause-readers g c =
     let same = c.loop-variable.invariant.pass.renewing.size in
     omega (arith, c.requires.levels.size, c.requires.readers.size, c.in-Some-gate_of.ensures.found.2)
 
-pub renew_gate-requires-in-Some-gate_of-clause-within : goal.renew_gate-requires-in-Some-gate_of-clause-within
-renew_gate-requires-in-Some-gate_of-clause-within g c =
-    let lt = popped_within c.args.self.now.circuit.now c.facts.ensures c.args.changed.now.lhs c.args.changed.now.rhs0
+pub renew_gate-requires-in-Some-gate_of-clause-wait : goal.renew_gate-requires-in-Some-gate_of-clause-wait
+renew_gate-requires-in-Some-gate_of-clause-wait g c =
+    rw c.in-Some-gate_of.ensures.found.2
+    (popped_wait c.args.self.now.circuit.now c.facts.ensures c.args.changed.now.lhs c.args.changed.now.rhs0
     c.args.changed.now.rhs1
     c.requires.changed.gate c.requires.changed.defined0 c.requires.changed.defined1 c.requires.changed.apart0
     c.requires.changed.apart1 c.args.levels.now
@@ -165,10 +172,22 @@ renew_gate-requires-in-Some-gate_of-clause-within g c =
     c.loop-variable.levels c.loop-variable.worklist.visits c.loop-variable.worklist.queue c.pop.new.self
     c.loop-variable.invariant.pass c.in-Some.ensures.some.0 c.in-Some.variable c.in-Some.ensures.some.1
     c.in-Some.ensures.some.2
-    c.in-Some.ensures.capacity in
-    let same = c.loop-variable.invariant.pass.renewing.size in
-    rw (same, c.in-Some-gate_of.ensures.found.2) (list_within c.args.self.now.circuit.now c.args.self.now.readers.now c.requires.readers c.in-Some.variable
-    (omega (arith, c.requires.levels.size)) c.facts.ensures.sound c.args.levels.now c.requires.levels)
+    c.in-Some.ensures.capacity)
+
+pub renew_gate-requires-in-Some-gate_of-clause-low : goal.renew_gate-requires-in-Some-gate_of-clause-low
+renew_gate-requires-in-Some-gate_of-clause-low g c =
+    popped_low c.args.self.now.circuit.now c.facts.ensures c.args.changed.now.lhs c.args.changed.now.rhs0
+    c.args.changed.now.rhs1
+    c.requires.changed.gate c.requires.changed.defined0 c.requires.changed.defined1 c.requires.changed.apart0
+    c.requires.changed.apart1 c.args.levels.now
+    c.requires.levels
+    c.args.self.now.readers.now c.requires.readers
+    c.loop-variable.levels c.loop-variable.worklist.visits c.loop-variable.worklist.queue c.pop.new.self
+    c.loop-variable.invariant.pass c.in-Some.ensures.some.0 c.in-Some.variable c.in-Some.ensures.some.1
+    c.in-Some.ensures.some.2
+    c.in-Some.ensures.capacity
+    c.in-Some-gate_of.ensures.found.0 c.in-Some-gate_of.gate
+    c.in-Some-gate_of.ensures.found.1 c.in-Some-gate_of.ensures.found.2
 
 pub renew_gate-requires-clause-room : goal.renew_gate-requires-clause-room
 renew_gate-requires-clause-room g c = idle_room (length c.args.levels.now) c.args.worklist.now c.requires.idle
@@ -179,6 +198,26 @@ renew_gate-requires-in-Some-gate_of-clause-room g c =
       marks = c.loop-variable.invariant.pass.size ∙ sym c.loop-variable.invariant.pass.renewing.size;
       visits = c.loop-variable.invariant.pass.visits;
       queue = popped_room c.args.self.now.circuit.now c.facts.ensures c.args.changed.now.lhs c.args.changed.now.rhs0
+          c.args.changed.now.rhs1
+          c.requires.changed.gate c.requires.changed.defined0 c.requires.changed.defined1 c.requires.changed.apart0
+          c.requires.changed.apart1 c.args.levels.now
+          c.requires.levels
+          c.args.self.now.readers.now c.requires.readers
+          c.loop-variable.levels c.loop-variable.worklist.visits c.loop-variable.worklist.queue c.pop.new.self
+          c.loop-variable.invariant.pass c.in-Some.ensures.some.0 c.in-Some.variable c.in-Some.ensures.some.1
+          c.in-Some.ensures.some.2
+          c.in-Some.ensures.capacity;
+      wide = popped_wide c.args.self.now.circuit.now c.facts.ensures c.args.changed.now.lhs c.args.changed.now.rhs0
+          c.args.changed.now.rhs1
+          c.requires.changed.gate c.requires.changed.defined0 c.requires.changed.defined1 c.requires.changed.apart0
+          c.requires.changed.apart1 c.args.levels.now
+          c.requires.levels
+          c.args.self.now.readers.now c.requires.readers
+          c.loop-variable.levels c.loop-variable.worklist.visits c.loop-variable.worklist.queue c.pop.new.self
+          c.loop-variable.invariant.pass c.in-Some.ensures.some.0 c.in-Some.variable c.in-Some.ensures.some.1
+          c.in-Some.ensures.some.2
+          c.in-Some.ensures.capacity;
+      met = popped_met c.args.self.now.circuit.now c.facts.ensures c.args.changed.now.lhs c.args.changed.now.rhs0
           c.args.changed.now.rhs1
           c.requires.changed.gate c.requires.changed.defined0 c.requires.changed.defined1 c.requires.changed.apart0
           c.requires.changed.apart1 c.args.levels.now
