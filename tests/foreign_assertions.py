@@ -27,7 +27,7 @@ from library import supervised
 
 REPOSITORY = Path(__file__).resolve().parent.parent
 sys.path.insert(0, str(REPOSITORY / "python" / "src"))
-from aig.sva.translation import Untranslated, translated  # noqa: E402
+from aig_verdicts.sva.translation import Untranslated, translated  # noqa: E402
 
 SUITES = {("yosys", "0.23-6"): "tests/sva", ("verilator", "5.006-3"): "test_regress/t"}
 CONCURRENT = re.compile(r"(?m)\b(?:assert|assume|cover|restrict)\s+(?:property|sequence)\b|^\s*(?:property|sequence)\b")

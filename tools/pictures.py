@@ -18,7 +18,7 @@ import draw_wave
 
 ROOT = pathlib.Path(__file__).resolve().parent.parent
 sys.path.insert(0, str(ROOT / "python" / "src"))
-from aig.verdicts import svg  # noqa: E402
+from aig.waves import svg  # noqa: E402
 
 
 def read(name):

@@ -71,7 +71,7 @@ def explain_page(version):
 def arguments_of_verdicts():
     """The parser of aig-verdicts, those of its commands by name, and what its help says of statuses."""
     sys.path.insert(0, f"{REPOSITORY}/python/src")
-    from aig.verdicts.arguments import STATUSES, parser
+    from aig_verdicts.arguments import STATUSES, parser
 
     top = parser()
     return top, next(it.choices for it in top._actions if it.choices), STATUSES

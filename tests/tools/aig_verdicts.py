@@ -15,12 +15,12 @@ from library.supervised import SCRIPT_SECONDS
 from tools.external import Tools
 
 sys.path[:0] = [f"{REPOSITORY}/python/src", f"{REPOSITORY}/python/tests"]
-from aig.verdicts import workers  # noqa: E402
-from aig.verdicts.decide import Bounds  # noqa: E402
-from aig.verdicts.design import Reading, read_verilog  # noqa: E402
-from aig.verdicts.session import Plan, Session  # noqa: E402
-from aig.verdicts.tools import Stop  # noqa: E402
-from aig.verdicts.workers import Work  # noqa: E402
+from aig_verdicts.search import workers  # noqa: E402
+from aig_verdicts.search.task import Bounds  # noqa: E402
+from aig_verdicts.reading.design import Reading, read_verilog  # noqa: E402
+from aig_verdicts.search.session import Plan, Session  # noqa: E402
+from aig.tools import Stop  # noqa: E402
+from aig_verdicts.search.workers import Work  # noqa: E402
 from bundles.common import (  # noqa: E402
     HERE, called, judged, manifest_of, rows_of, same_manifests, write_manifest,
 )

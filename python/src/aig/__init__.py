@@ -23,7 +23,7 @@ if TYPE_CHECKING:
     from .solver import Solved, certify, prove, solve
     from .values import X
     from .verdict import Verdict
-    from .verdicts.tools import Stop, Stopped
+    from .tools import Stop, Stopped
 
 __version__ = "0.4.0"
 

@@ -2,7 +2,7 @@
 
 import sys
 
-from .verdicts.command import main
+from aig_verdicts.command import main
 
 if sys.argv[1:2] != ["verdicts"]:
     sys.exit("usage: python3 -m aig verdicts run|recheck ..")

@@ -15,10 +15,10 @@ from .entries import Signal
 from .formula import Formula
 from .runs import Witness
 from .verdict import Verdict
-from .verdicts.checked import Checked, Rejected, check, sum_of
-from .verdicts.decide import Bounds, Found, Programs, Task, decide
-from .verdicts.hints import by_name, claim_of
-from .verdicts.tools import Limits, Stop, Stopped, run
+from aig_verdicts.audit.checked import Checked, Rejected, check, sum_of
+from aig_verdicts.search.task import Bounds, Found, Programs, Task, decide
+from aig_verdicts.audit.hints import by_name, claim_of
+from .tools import Limits, Stop, Stopped, run
 
 Solver = Union[str, Sequence[str]]
 CADICAL = ("cadical", "-q")

@@ -8,7 +8,7 @@ from typing import TYPE_CHECKING, Dict, List, Optional
 from .runs import Witness
 
 if TYPE_CHECKING:
-    from .verdicts.checked import Checked
+    from aig_verdicts.audit.checked import Checked
 
 
 @dataclass(frozen=True, eq=False, repr=False)

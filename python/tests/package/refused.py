@@ -1,8 +1,8 @@
 """Lines about verdicts. mypy has to refuse each one that says so: a verdict without a check. Nothing runs them."""
 
-from aig.verdicts.checked import Checked, Claim
-from aig.verdicts.decisions import Decided, Judged, Undecided
-from aig.verdicts.row import Row
+from aig_verdicts.audit.checked import Checked, Claim
+from aig_verdicts.audit.decisions import Decided, Judged, Undecided
+from aig_verdicts.audit.row import Row
 
 row, claim = Row(0, "assert", "a"), Claim(0, "induction", 1)
 Judged(row, Undecided("undecided"))
