@@ -25,13 +25,13 @@ WHOLE_SECONDS = 15 * SECONDS
 # How many scripts run at once: each waits for programs now and then, also where there are two processors.
 AT_ONCE = 3
 # These take the program as their argument. The longest come first, so that none runs alone at the end.
-SCRIPTS = ("python/tests/run_bundles.py", "python/tests/run_options.py", "tests/run_random.py", "tests/run_program.py",
+SCRIPTS = ("verdicts/tests/run_bundles.py", "verdicts/tests/run_options.py", "tests/run_random.py", "tests/run_program.py",
            "tests/run_large.py", "tests/run_dist.py", "python/tests/run_explain.py", "tests/run_faults.py",
-           "python/tests/run_versions.py", "python/tests/run_dask.py", "python/tests/run_replay.py",
-           "python/tests/run_package.py", "python/tests/run_cores.py", "python/tests/run_pages.py",
-           "tests/run_bounds.py", "tests/run_hints.py", "python/tests/random_verilog.py", "tests/run_library.py",
-           "python/tests/run_circuit.py", "tests/run_gate.py", "python/tests/run_sva.py", "tests/tour.py",
-           "python/tests/run_netlists.py", "python/tests/run_reading.py")
+           "verdicts/tests/run_versions.py", "verdicts/tests/run_dask.py", "verdicts/tests/run_replay.py",
+           "python/tests/run_package.py", "verdicts/tests/run_cores.py", "verdicts/tests/run_pages.py",
+           "tests/run_bounds.py", "tests/run_hints.py", "verdicts/tests/random_verilog.py", "tests/run_library.py",
+           "verdicts/tests/run_circuit.py", "tests/run_gate.py", "verdicts/tests/run_sva.py", "tests/tour.py",
+           "verdicts/tests/run_netlists.py", "verdicts/tests/run_reading.py")
 # this tries some of the planted bugs of the package
 PLANTED = ("tools/planted_python.py", "--sample", "40")
 # this runs aig_tests

@@ -34,7 +34,7 @@ from library.runs import EXAMPLES  # noqa: E402
 from library.supervised import SCRIPT_SECONDS  # noqa: E402
 
 if "--installed" not in sys.argv:
-    sys.path.insert(0, str(PYTHON / "src"))
+    sys.path[:0] = [str(PYTHON / "src"), str(PYTHON.parent / "verdicts" / "src")]
 import aig  # noqa: E402
 from package import answers, bench, by_abc, failures, live, miters, named, notebooks, replies, searches  # noqa: E402
 from package.common import CLAIMS_0, CLAIMS_1, CONFIRMED, PROOF_OF_0, STAYS  # noqa: E402

@@ -70,7 +70,7 @@ def explain_page(version):
 
 def arguments_of_verdicts():
     """The parser of aig-verdicts, those of its commands by name, and what its help says of statuses."""
-    sys.path.insert(0, f"{REPOSITORY}/python/src")
+    sys.path[:0] = [f"{REPOSITORY}/verdicts/src", f"{REPOSITORY}/python/src"]
     from aig_verdicts.arguments import STATUSES, parser
 
     top = parser()

@@ -12,7 +12,7 @@ from library import supervised
 from library.runs import REPOSITORY, contents, leave_out, write
 from library.supervised import SCRIPT_SECONDS
 
-SOURCE = f"{REPOSITORY}/python/src"
+SOURCE = f"{REPOSITORY}/verdicts/src:{REPOSITORY}/python/src"
 
 
 def steps(document="README.md"):
@@ -67,7 +67,7 @@ def verdicts_on_path(program):
         return
     settings = f"AIG_PROGRAM={shlex.quote(program.path)} PYTHONPATH={shlex.quote(SOURCE)}"
     # Python writes each line as it comes, as for a terminal.
-    write("path/aig-verdicts", f'#!/bin/sh\n{settings} exec {shlex.quote(sys.executable)} -u -m aig.verdicts "$@"\n')
+    write("path/aig-verdicts", f'#!/bin/sh\n{settings} exec {shlex.quote(sys.executable)} -u -m aig_verdicts "$@"\n')
     os.chmod("path/aig-verdicts", 0o755)
 
 

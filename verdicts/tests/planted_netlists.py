@@ -16,10 +16,8 @@ import sys
 import tempfile
 from pathlib import Path
 
-HERE = Path(__file__).resolve().parent
-REPOSITORY = HERE.parent.parent
-sys.path.insert(0, str(REPOSITORY / "tests"))
-from library import supervised  # noqa: E402
+from paths import PYTHONPATH, ROOT as REPOSITORY, TESTS as HERE
+from library import supervised
 
 KNOWN, EXAMPLES, DESIGNS = HERE / "designs/known", REPOSITORY / "examples", REPOSITORY / "tests/designs"
 SOURCES = [*(KNOWN / name for name in (
@@ -84,8 +82,8 @@ def planted(source, kind, seed):
         text = WRAPPER.format(yosys=yosys, python=sys.executable, kind=kind, seed=seed)
         wrapper.write_text(text.replace("> planted", f"> planted && cp planted {said}"))
         wrapper.chmod(wrapper.stat().st_mode | stat.S_IXUSR)
-        settings = {**os.environ, "PYTHONPATH": str(HERE.parent / "src"), "PATH": f"{folder}:{os.environ['PATH']}"}
-        words = [sys.executable, "-m", "aig.verdicts", "run", source, "-D", "FORMAL", "--out", folder / "out",
+        settings = {**os.environ, "PYTHONPATH": PYTHONPATH, "PATH": f"{folder}:{os.environ['PATH']}"}
+        words = [sys.executable, "-m", "aig_verdicts", "run", source, "-D", "FORMAL", "--out", folder / "out",
                  "--frames", "1", "--seconds", "2", "--abc", "", "-q", "-j", "1"]
         done = supervised.run([str(word) for word in words], env=settings, capture_output=True, text=True, check=False)
         edit = said.read_text().strip() if said.exists() else "nothing"

@@ -17,11 +17,10 @@ from collections import Counter
 from concurrent.futures import ProcessPoolExecutor
 from pathlib import Path
 
-HERE = Path(__file__).resolve().parent
-sys.path[:0] = [str(HERE), str(HERE.parent / "src"), str(HERE.parent.parent / "tests")]
-from random_programs.judge import Outcome, judged  # noqa: E402
-from random_programs.program import program  # noqa: E402
-from random_programs.shrink import shrunk  # noqa: E402
+from paths import ROOT
+from random_programs.judge import Outcome, judged
+from random_programs.program import program
+from random_programs.shrink import shrunk
 
 USUAL = ["1", "20"]
 PASSED = (Outcome.AGREES, Outcome.REJECTED)
@@ -56,7 +55,7 @@ def arguments():
     parser.add_argument("--verbose", action="store_true", help="print each judgement")
     chosen = parser.parse_args()
     words = chosen.words
-    aig = words.pop(0) if words and os.path.isfile(words[0]) else HERE.parent.parent / "crates/aig/out/aig"
+    aig = words.pop(0) if words and os.path.isfile(words[0]) else ROOT / "crates/aig/out/aig"
     os.environ["AIG_PROGRAM"] = os.path.abspath(aig)
     if len(words or USUAL) != 2 or not all(it.isdigit() for it in words):
         parser.error("a seed and a count")

@@ -3,17 +3,14 @@
 solvers that crash, hang or lie are scripts of the shell, and one that does neither is written in Python."""
 
 import os
-import sys
-from pathlib import Path
 
-PYTHON = Path(__file__).resolve().parent.parent
-sys.path[:0] = [str(PYTHON.parent / "tests"), str(PYTHON / "src"), str(PYTHON / "tests")]
-from bundles import (  # noqa: E402
+import paths  # noqa: F401
+from bundles import (
     attacks, checking, comparing, concrete, cores, crashing, cuts, deciding, denying, dying, emptied, ends, engines,
     equal, folding, hinted, judging, late, lots, lying, many, many_rows, needed, rechecking, remaking, replaying,
     reusing, rows, searches, tampering, zips,
 )
-from library import runs  # noqa: E402
+from library import runs
 
 
 def on_program(part):

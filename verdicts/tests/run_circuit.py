@@ -7,11 +7,10 @@ usage: run_circuit.py [PROGRAM]"""
 import os
 import sys
 import unittest
-from pathlib import Path
 
-HERE = Path(__file__).resolve().parent
-sys.path.insert(0, str(HERE.parent / "src"))
-BUILT = HERE.parent.parent / "crates/aig/out/aig"
+from paths import ROOT
+
+BUILT = ROOT / "crates/aig/out/aig"
 os.environ["AIG_PROGRAM"] = os.path.abspath(sys.argv[1] if len(sys.argv) > 1 else BUILT)
 
 from circuit import messages, named, netlists, rejected, rows, sources, trees  # noqa: E402

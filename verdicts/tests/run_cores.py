@@ -17,11 +17,10 @@ from concurrent.futures import ThreadPoolExecutor
 from pathlib import Path
 from typing import Dict, NamedTuple, Sequence, Tuple
 
-HERE = Path(__file__).resolve().parent
-sys.path[:0] = [str(HERE), str(HERE.parent / "src"), str(HERE.parent.parent / "tests")]
-from hints.programs import built  # noqa: E402
-from library import supervised  # noqa: E402
-from library.runs import PROVED_PROGRAM, LeftOut  # noqa: E402
+from paths import PYTHONPATH, TESTS as HERE
+from hints.programs import built
+from library import supervised
+from library.runs import PROVED_PROGRAM, LeftOut
 
 # How long one call may take: the slowest needs a tenth of it.
 SECONDS = 300
@@ -76,8 +75,8 @@ DESIGNS = {
 
 
 def called(*words):
-    settings = {**os.environ, "PYTHONPATH": str(HERE.parent / "src")}
-    done = supervised.run([sys.executable, "-m", "aig.verdicts", *map(str, words)], env=settings, stdin=subprocess.DEVNULL,
+    settings = {**os.environ, "PYTHONPATH": PYTHONPATH}
+    done = supervised.run([sys.executable, "-m", "aig_verdicts", *map(str, words)], env=settings, stdin=subprocess.DEVNULL,
                           capture_output=True, text=True, timeout=SECONDS, check=False)
     return done.returncode, done.stdout, done.stderr
 

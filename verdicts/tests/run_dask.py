@@ -12,15 +12,15 @@ import sys
 import time
 from pathlib import Path
 
-PYTHON = Path(__file__).resolve().parent.parent
-sys.path[:0] = [str(PYTHON.parent / "tests"), str(PYTHON / "src"), str(PYTHON / "tests")]
-from bundles.common import SMALL_SOLVER, judged, manifest_of, same_manifests, tool  # noqa: E402
-from library import runs, supervised  # noqa: E402
+from paths import PYTHONPATH
+from bundles.common import SMALL_SOLVER, judged, manifest_of, same_manifests, tool
+from library import runs, supervised
 
 # A run in a process of its own, which counts what goes to the workers: tasks, their bytes, and the circuits.
 COUNTING = """
 import json, pickle, sys
-from aig.verdicts import command, workers
+from aig_verdicts import command
+from aig_verdicts.search import workers
 count = {"tasks": 0, "bytes": 0, "circuits": 0}
 submit, share = workers.Workers.submit, workers.Dask.share
 
@@ -67,7 +67,7 @@ class Cluster:
     """A scheduler and some workers, each a process."""
 
     def __init__(self, program, workers):
-        self._environment = {**os.environ, "AIG_PROGRAM": program.path, "PYTHONPATH": str(PYTHON / "src"),
+        self._environment = {**os.environ, "AIG_PROGRAM": program.path, "PYTHONPATH": PYTHONPATH,
                              "DASK_DISTRIBUTED__SCHEDULER__WORKER_TTL": "10s"}
         self._file = Path("scheduler.json").resolve()
         self._file.unlink(missing_ok=True)
@@ -142,10 +142,10 @@ def cluster(program, tally, _):
         tally.check("cluster: bytes of a task", count["bytes"] < 1000 * count["tasks"], count)
         with_one = made.run("many.aag", "-o", "one", "-q")
         tally.compare("cluster: the one that is left", ended(with_one)[0], 5)
-    environment = {**os.environ, "AIG_PROGRAM": program.path, "PYTHONPATH": str(PYTHON / "src")}
+    environment = {**os.environ, "AIG_PROGRAM": program.path, "PYTHONPATH": PYTHONPATH}
     words = ["run", "many.aag", "-o", "alone", "--abc", "", "--solver", "./solver", "--frames", 3, "--no-simulator",
              "-q"]
-    supervised.run([sys.executable, "-m", "aig", "verdicts", *map(str, words)], timeout=SECONDS, env=environment,
+    supervised.run([sys.executable, "-m", "aig_verdicts", *map(str, words)], timeout=SECONDS, env=environment,
                    stdout=subprocess.DEVNULL)
     for name in ("out", "one"):
         tally.check(f"cluster: the same bytes: {name}", same_manifests(name, "alone"))

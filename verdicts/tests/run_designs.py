@@ -16,12 +16,11 @@ import tempfile
 from concurrent.futures import ThreadPoolExecutor
 from pathlib import Path
 
-HERE = Path(__file__).resolve().parent
-sys.path[:0] = [str(HERE), str(HERE.parent / "src"), str(HERE.parent.parent / "tests")]
-from aig_verdicts.search.search import WRONG_CERTIFICATE, WRONG_RUN  # noqa: E402
-from designs.truth import DESIGNS, FREE_CLOCK  # noqa: E402
-from library import supervised  # noqa: E402
-from library.supervised import SCRIPT_SECONDS, SECONDS  # noqa: E402
+from paths import PYTHONPATH, TESTS as HERE
+from aig_verdicts.search.search import WRONG_CERTIFICATE, WRONG_RUN
+from designs.truth import DESIGNS, FREE_CLOCK
+from library import supervised
+from library.supervised import SCRIPT_SECONDS, SECONDS
 
 IS_PLAYED = shutil.which("iverilog") is not None
 # How long a random run is.
@@ -30,9 +29,9 @@ FRAMES = 30
 
 def called(*words):
     """Status, standard output and standard error of aig-verdicts, and no status where it is over its time."""
-    settings = {**os.environ, "PYTHONPATH": str(HERE.parent / "src")}
+    settings = {**os.environ, "PYTHONPATH": PYTHONPATH}
     try:
-        done = supervised.run([sys.executable, "-m", "aig.verdicts", *map(str, words)], env=settings,
+        done = supervised.run([sys.executable, "-m", "aig_verdicts", *map(str, words)], env=settings,
                               stdin=subprocess.DEVNULL, capture_output=True, text=True, timeout=SCRIPT_SECONDS,
                               check=False)
     except subprocess.TimeoutExpired:

@@ -6,14 +6,12 @@ usage: run_netlists.py [PROGRAM]"""
 
 import sys
 import unittest
-from pathlib import Path
 
-HERE = Path(__file__).resolve().parent
-sys.path.insert(0, str(HERE.parent / "src"))
+import paths  # noqa: F401
 
 from aig_verdicts.reading import left_out, lowered, processes, wiring
-from aig_verdicts.reading.text import rtlil  # noqa: E402
-from aig.tools import ToolFailed  # noqa: E402
+from aig_verdicts.reading.text import rtlil
+from aig.tools import ToolFailed
 
 # What Yosys 0.52 writes of an assertion in the `else` of an asynchronous reset.
 CHECK = r"""

@@ -4,13 +4,10 @@
 
 import os
 import shutil
-import sys
-from pathlib import Path
 
-PYTHON = Path(__file__).resolve().parent.parent
-sys.path[:0] = [str(PYTHON.parent / "tests"), str(PYTHON / "src"), str(PYTHON / "tests")]
-from library import runs  # noqa: E402
-from options import free, kept, lists, parameters  # noqa: E402
+import paths  # noqa: F401
+from library import runs
+from options import free, kept, lists, parameters
 
 
 def with_tools(part):

@@ -4,13 +4,10 @@ beside the plain simulator and the plain explainer of tests/library; pages as ht
 and sources, and of 1,000 rows."""
 
 import os
-import sys
-from pathlib import Path
 
-PYTHON = Path(__file__).resolve().parent.parent
-sys.path[:0] = [str(PYTHON / "src"), str(PYTHON.parent / "tests")]
-from library import runs  # noqa: E402
-from pages import browser, made, moments, sentences, sizes, tags, values, wide  # noqa: E402
+import paths  # noqa: F401
+from library import runs
+from pages import browser, made, moments, sentences, sizes, tags, values, wide
 
 PARTS = {
     "values": values.values, "names": values.names, "lines": values.lines, "frames": values.frames,

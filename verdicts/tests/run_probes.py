@@ -18,12 +18,11 @@ from concurrent.futures import ThreadPoolExecutor
 from functools import lru_cache
 from pathlib import Path
 
-HERE = Path(__file__).resolve().parent
-sys.path[:0] = [str(HERE), str(HERE.parent / "src")]
-import simulated  # noqa: E402
-from aig_verdicts.reading.design import Reading, read_verilog  # noqa: E402
-from aig.tools import Stop, ToolFailed, version  # noqa: E402
-from aig_verdicts.reading.versions import loses_assignments  # noqa: E402
+from paths import TESTS as HERE
+import simulated
+from aig_verdicts.reading.design import Reading, read_verilog
+from aig.tools import Stop, ToolFailed, version
+from aig_verdicts.reading.versions import loses_assignments
 
 PROBES = HERE / "designs" / "probes"
 DATA = [PROBES / "probe.vh", *PROBES.glob("*.hex"), *PROBES.glob("*.bin")]

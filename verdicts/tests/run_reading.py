@@ -7,17 +7,14 @@ comparisons that are wider than a bit (`comparisons`), parts of signed variables
 
 import random
 import re
-import sys
-from pathlib import Path
 
-PYTHON = Path(__file__).resolve().parent.parent
-sys.path[:0] = [str(PYTHON / "src"), str(PYTHON.parent / "tests")]
+import paths  # noqa: F401
 from aig_verdicts.reading import comparisons, findings, hashed, registers
 from aig_verdicts.reading.misread import counted, evaluated, loops, overridden
 from aig_verdicts.reading.text import rtlil, tree
-from aig_verdicts.reading.misread.scope import Scope  # noqa: E402
-from aig.tools import ToolFailed  # noqa: E402
-from library import runs  # noqa: E402
+from aig_verdicts.reading.misread.scope import Scope
+from aig.tools import ToolFailed
+from library import runs
 
 
 def node(kind, *parts, name="", signed=False, input=False, place="?"):

@@ -7,14 +7,12 @@ import json
 import os
 import re
 import shutil
-import sys
 import tempfile
 from pathlib import Path
 
-PYTHON = Path(__file__).resolve().parent.parent
-sys.path[:0] = [str(PYTHON.parent / "tests"), str(PYTHON / "src"), str(PYTHON / "tests")]
-from bundles.common import called, manifest_of, tool, write_manifest  # noqa: E402
-from library import runs, supervised  # noqa: E402
+import paths  # noqa: F401
+from bundles.common import called, manifest_of, tool, write_manifest
+from library import runs, supervised
 
 # A search of one frame is enough: the circuit is compared.
 SHORT = ("--frames", "1", "--seconds", "5", "--abc", "", "--no-conditions", "--no-simulator", "--jobs", "1", "--quiet")

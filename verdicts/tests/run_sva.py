@@ -4,13 +4,9 @@ right; they share no code with the translation.
 
 usage: run_sva.py [PROGRAM]. It needs iverilog."""
 
-import sys
-from pathlib import Path
-
-PYTHON = Path(__file__).resolve().parent.parent
-sys.path[:0] = [str(PYTHON / "src"), str(PYTHON.parent / "tests"), str(PYTHON / "tests")]
-from library import runs  # noqa: E402
-from sva import parts  # noqa: E402
+import paths  # noqa: F401
+from library import runs
+from sva import parts
 
 
 PARTS = {

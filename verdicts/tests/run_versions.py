@@ -7,15 +7,13 @@ import contextlib
 import functools
 import os
 import shutil
-import sys
 import tempfile
 from pathlib import Path
 
-PYTHON = Path(__file__).resolve().parent.parent
-sys.path[:0] = [str(PYTHON.parent / "tests"), str(PYTHON / "src"), str(PYTHON / "tests")]
-from bundles.common import called, manifest_of  # noqa: E402
-from library import runs  # noqa: E402
-from versions.pairs import BASE, LAST, PAIRS, TRUTH  # noqa: E402
+import paths  # noqa: F401
+from bundles.common import called, manifest_of
+from library import runs
+from versions.pairs import BASE, LAST, PAIRS, TRUTH
 
 KEPT = tempfile.TemporaryDirectory()
 WORDS = ("--frames", "8", "-j", "2", "-q")

@@ -14,10 +14,9 @@ import sys
 import tempfile
 from pathlib import Path
 
-HERE = Path(__file__).resolve().parent
-sys.path[:0] = [str(HERE), str(HERE.parent.parent / "tests")]
-from designs.truth import DESIGNS  # noqa: E402
-from library import supervised  # noqa: E402
+import paths  # noqa: F401
+from designs.truth import DESIGNS
+from library import supervised
 
 # The inputs that change first, those that change after them (with their widths), the frames, and the registers at the start.
 RUNS = {

@@ -15,10 +15,9 @@ import tempfile
 from collections import Counter
 from pathlib import Path
 
-HERE = Path(__file__).resolve().parent
-sys.path[:0] = [str(HERE), str(HERE.parent.parent / "tests")]
-from designs.truth import DESIGNS  # noqa: E402
-from library import supervised  # noqa: E402
+import paths  # noqa: F401
+from designs.truth import DESIGNS
+from library import supervised
 
 FRAMES, SECONDS = 60, 120
 CHECK = re.compile(r"\b(assert|cover)( property)? \((.*)\);")

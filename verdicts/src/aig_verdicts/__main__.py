@@ -1,4 +1,4 @@
-"""`python3 -m aig.verdicts`"""
+"""`python3 -m aig_verdicts`"""
 
 import sys
 

@@ -23,9 +23,9 @@ from aig_verdicts.search.workers import check_all
 from believed import believed, check_of
 from bundles.common import FEW, SMALL_SOLVER, called, kept, tool
 from bundles.judging import judge
+from paths import ROOT
 
-PYTHON = Path(__file__).resolve().parent.parent.parent
-COMMANDS = PYTHON.parent / "tools" / "aig-verdicts"
+COMMANDS = ROOT / "tools" / "aig-verdicts"
 # The bound of a property of FEW that any proof shows, and its proof.
 BOUND, PROOF = Claim(0, "bound", 3, (("base", "0.base.drat"),)), b"0\n"
 
@@ -60,7 +60,7 @@ def makers(path):
 
 def checking(_, tally, __):
     """Who makes a check, what it says, and what it is about."""
-    sources = [*sorted((PYTHON / "src").rglob("*.py")), COMMANDS]
+    sources = [*sorted(it for package in ("python", "verdicts") for it in (ROOT / package / "src").rglob("*.py")), COMMANDS]
     found = {path.name: names for path in sources for names in [makers(path)] if names}
     tally.compare("checking: who makes one", found, {"checked.py": ["Checked", "_KEY"], "row.py": ["_checked"]})
     tally.check("checking: all sources are looked at", len(sources) > 80, len(sources))

@@ -20,12 +20,12 @@ from aig_verdicts import command
 from aig_verdicts.audit.bundle import Bundle, Wrong
 from aig_verdicts.audit.recheck import recheck
 from library import supervised
+from paths import PYTHONPATH
 
 HERE = Path(__file__).resolve().parent
 # A few properties of the bundle `every`: a bug, one that holds, one with a bug at frame 8.
 FEW = HERE / "few.aag"
-SOURCES = str(HERE.parent.parent / "src")
-COMMAND = ("-m", "aig", "verdicts")
+COMMAND = ("-m", "aig_verdicts")
 
 
 def kept(name):
@@ -64,7 +64,7 @@ def started(program, *words):
 
 def process_of(program, *words):
     """A process in which the package is the one of these sources, and runs this program."""
-    environment = {**os.environ, "PYTHONPATH": SOURCES, "AIG_PROGRAM": program.path}
+    environment = {**os.environ, "PYTHONPATH": PYTHONPATH, "AIG_PROGRAM": program.path}
     return supervised.Popen([str(word) for word in words], stdin=subprocess.DEVNULL, stdout=subprocess.PIPE,
                             stderr=subprocess.PIPE, env=environment)
 

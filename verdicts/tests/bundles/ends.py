@@ -23,12 +23,13 @@ from aig_verdicts.reading.design import read_aiger
 from aig_verdicts.search.session import Plan, Session
 from aig.tools import Stop
 from bundles.common import (
-    COMMAND, FEW, HERE, SMALL_SOLVER, SOURCES, called, ended, judged, manifest_of, process_of, rows_of, same_manifests,
+    COMMAND, FEW, HERE, SMALL_SOLVER, called, ended, judged, manifest_of, process_of, rows_of, same_manifests,
     started, tool,
 )
 from bundles.searches import KNOWS, run as run_of
 from library import supervised
 from library.runs import SECONDS, LeftOut
+from paths import PYTHONPATH
 
 KNOWN = {"later": "unreachable within 4", "three": "unreachable", "two": "confirmed"}
 
@@ -160,7 +161,7 @@ def waits(program, tally, _):
 def on_terminal(program, words):
     """What a run writes to standard error, if that is a terminal."""
     leader, follower = pty.openpty()
-    environment = {**os.environ, "PYTHONPATH": SOURCES, "AIG_PROGRAM": program.path}
+    environment = {**os.environ, "PYTHONPATH": PYTHONPATH, "AIG_PROGRAM": program.path}
     process = supervised.Popen([str(word) for word in words], stdin=subprocess.DEVNULL, stdout=subprocess.DEVNULL,
                                stderr=follower, env=environment)
     os.close(follower)
@@ -289,7 +290,7 @@ def full_disk(program, tally):
     """Where no more can be written: status 3 without a trace, and what is there is right."""
     for limit in (0, 2, 6, 12):
         out = f"full_{limit}"
-        words = (f'ulimit -f {limit}; exec "{sys.executable}" -m aig verdicts run "{FEW}" --out {out} --abc "" '
+        words = (f'ulimit -f {limit}; exec "{sys.executable}" -m aig_verdicts run "{FEW}" --out {out} --abc "" '
                  f'--frames 4 --solver {SMALL_SOLVER}')
         status, _, err = ended(process_of(program, "/bin/sh", "-c", words))
         is_told = status == 3 and "aig-verdicts: " in err

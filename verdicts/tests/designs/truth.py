@@ -48,7 +48,7 @@ class Known:
 
     @property
     def paths(self) -> Sequence[Path]:
-        return [(REPOSITORY / file if file.startswith(("examples/", "tests/", "python/")) else HERE / "known" / file) for file in self.files]
+        return [(REPOSITORY / file if file.startswith(("examples/", "tests/", "verdicts/")) else HERE / "known" / file) for file in self.files]
 
     @property
     def search(self) -> Sequence[Path]:
