@@ -37,7 +37,7 @@ _NAMES = {
     "bench": ("Bench",), "certified": ("Certified",), "circuit": ("Circuit", "read"), "entries": ("Entry",),
     "errors": ("AigError", "Crashed", "EditError", "OutOfMemory", "Unreadable"), "formula": ("Formula",),
     "miters": ("miter",), "rows": (), "runs": ("Trace", "Witness"), "solver": ("Solved", "certify", "prove", "solve"),
-    "values": ("X",), "verdict": ("Verdict",), "verdicts": (), "verdicts.tools": ("Stop", "Stopped"),
+    "values": ("X",), "verdict": ("Verdict",), "verdicts": (), "tools": ("Stop", "Stopped"),
 }
 
 if not TYPE_CHECKING:

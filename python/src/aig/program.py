@@ -19,7 +19,6 @@ except ImportError:  # no Unix
 
 from ._where import program as program
 from .errors import OutOfMemory, error_of
-from .explain import explanation
 
 # Of a program whose output is bounded, beside what its files and its output take.
 MOST_MEMORY = 1 << 28
@@ -130,6 +129,8 @@ def answers(line: str, files: Sequence[bytes]) -> List[str]:
 
 def failed(words: Sequence[str], status: int, said: bytes) -> Exception:
     """The error of a run with these arguments. Its files have to be there still."""
+    from .explain import explanation  # read where something failed alone: a re-check needs none of it
+
     explained = explanation(words, status, said, has_our_streams=False) if said else ""
     return error_of(status, said.decode("utf-8", "replace") + explained)
 

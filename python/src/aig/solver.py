@@ -16,7 +16,8 @@ from .formula import Formula
 from .runs import Witness
 from .verdict import Verdict
 from aig_verdicts.audit.checked import Checked, Rejected, check, sum_of
-from aig_verdicts.search.task import Bounds, Found, Programs, Task, decide
+from aig_verdicts.search.decide import decide
+from aig_verdicts.search.task import Bounds, Found, Programs, Task
 from aig_verdicts.audit.hints import by_name, claim_of
 from .tools import Limits, Stop, Stopped, run
 

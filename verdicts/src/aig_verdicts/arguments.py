@@ -8,7 +8,6 @@ from typing import Callable, List, Tuple
 
 from .search.task import ENGINES, Bounds, Programs
 from .audit.row import MOST_FRAMES
-from .replay.stimulus import hold_of
 
 STATUSES = """\
 exit status:
@@ -112,7 +111,7 @@ def _replay(replay: argparse.ArgumentParser) -> None:
                         help="play only the run of this assertion or cover")
     replay.add_argument("--random", type=_whole(0, 65536), default=0, metavar="N",
                         help="play random runs of N frames too, and compare all values")
-    replay.add_argument("--hold", action="append", default=[], type=hold_of, metavar="SIGNAL=VALUE:FRAMES",
+    replay.add_argument("--hold", action="append", default=[], type=_hold, metavar="SIGNAL=VALUE:FRAMES",
                         help="in random runs, this input has this value for so many frames")
     replay.add_argument("--to", type=Path, metavar="FOLDER",
                         help="write a testbench for each failing run, with the design in it")
@@ -275,6 +274,15 @@ def _whole(least: int, most: int) -> Callable[[str], int]:
         return int(text)
     number.__name__ = f"number from {least} to {most}"
     return number
+
+
+def _hold(text: str) -> object:
+    from .replay.stimulus import hold_of
+
+    return hold_of(text)
+
+
+_hold.__name__ = "hold_of"
 
 
 def _depth(text: str) -> Tuple[str, int]:

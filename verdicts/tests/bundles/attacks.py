@@ -11,7 +11,7 @@ import tracemalloc
 import zipfile
 from pathlib import Path
 
-from aig_verdicts import command
+from aig_verdicts import rechecking
 from aig_verdicts.audit.bundle import MOST_OF_MANIFEST
 from aig_verdicts.audit.folder import Folder
 from aig_verdicts.audit.checked import Claim, Wrong
@@ -128,7 +128,7 @@ def outputs(program, tally, _):
     write_manifest(path, manifest)
     status, out, _ = called("recheck", path, "--json")
     tally.compare("outputs: commands", (status, [it["commands"] for it in json.loads(out)["rows"]]), (5, right))
-    usual = command.recheck
+    usual = rechecking.recheck
 
     def then_changed(*words, **named):
         bundle = usual(*words, **named)
@@ -136,11 +136,11 @@ def outputs(program, tally, _):
             file.write(b"c\nmore\n")
         return bundle
 
-    command.recheck = then_changed
+    rechecking.recheck = then_changed
     try:
         status, _, err = called("recheck", path, "--page", "page.html")
     finally:
-        command.recheck = usual
+        rechecking.recheck = usual
     tally.check("outputs: changed after its check", status == 1 and "circuit.aig has another sum" in err, (status, err))
     tally.check("outputs: no page of it", not Path("page.html").exists())
     victim = Path("victim")

@@ -9,10 +9,11 @@ import os
 import pickle
 from pathlib import Path
 
-from aig_verdicts import command
+from aig_verdicts import rechecking
 from aig_verdicts.audit.bundle import Bundle
 from aig_verdicts.audit.checked import Checked, Claim, Wrong, check, sum_of
-from aig_verdicts.search.task import Bounds, Found, Programs, Task, decide
+from aig_verdicts.search.decide import decide
+from aig_verdicts.search.task import Bounds, Found, Programs, Task
 from aig_verdicts.audit.decisions import Decided
 from aig_verdicts.reading.design import read_aiger
 from aig_verdicts.audit.recheck import recheck
@@ -208,7 +209,7 @@ def workers(tally):
 
 def counts(tally):
     """The last line and the status count the rows of the manifest, also where the table has fewer."""
-    usual = command.recheck
+    usual = rechecking.recheck
 
     def fewer(*words, **named):
         bundle = usual(*words, **named)
@@ -220,10 +221,10 @@ def counts(tally):
     for name, some in (("some", lambda rows: [it for it in rows if it.name not in ("two", "never")]),
                        ("the last one", lambda rows: rows[:-1]), ("the last condition", lambda rows: rows[:3]),
                        ("the first one", lambda rows: rows[1:])):
-        command.recheck = fewer
+        rechecking.recheck = fewer
         try:
             status, _, err = called("recheck", kept("every"), "-q")
         finally:
-            command.recheck = usual
+            rechecking.recheck = usual
         tally.check(f"checking: rows without an answer, {name}",
                     status == 1 and "a row is missing where rows are judged" in err, (status, err))

@@ -6,8 +6,10 @@ from __future__ import annotations
 import signal
 from pathlib import Path
 
-from aig_verdicts import command
-from aig_verdicts.search.task import Bounds, Programs, Task, decide
+from aig.errors import Crashed
+from aig_verdicts import running
+from aig_verdicts.search.decide import decide
+from aig_verdicts.search.task import Bounds, Programs, Task
 from aig.waves.runs import comes_back
 from aig_verdicts.search.session import Session
 from bundles.common import FEW, SMALL_SOLVER, called, judged, kept, manifest_of, rows_of, why_rejected
@@ -81,19 +83,19 @@ def searched(tally):
 def pages(tally):
     """A page that is not made while a search goes on does not end it, and none of before stays. A picture that is not
     made does not end a page."""
-    usual, asked = command._page, []
+    usual, asked = running.write_page, []
 
     def page(to, *words):
         asked.append(to.exists())
         if len(asked) == 1:
-            raise command.Crashed("gone")
+            raise Crashed("gone")
         usual(to, *words)
 
-    command._page = page
+    running.write_page = page
     try:
         status, _, err = called(*RUN[:3], "pages", *RUN[4:], "-q")
     finally:
-        command._page = usual
+        running.write_page = usual
     tally.compare("crashing: the first page", (status, asked, Path("pages/index.html").exists()), (4, [False, False], True))
     path = kept("every")
     status, _, err = with_aig("why*", "kill -9 $$", called, "recheck", path, "--page", "page.html")
@@ -124,7 +126,7 @@ def stopped(tally):
 
     def search(self, *_):
         self.stop(signal.SIGINT, None)
-        raise command.Crashed("aig ended with status -2: no message")
+        raise Crashed("aig ended with status -2: no message")
 
     Session.search = search
     try:

@@ -13,10 +13,11 @@ from dataclasses import replace
 from pathlib import Path
 
 from aig.errors import AigError
-from aig_verdicts import command
+from aig_verdicts import rechecking
 from aig_verdicts.search import search, workers
 from aig_verdicts.audit.bundle import sum_of
-from aig_verdicts.search.task import Bounds, Found, Programs, Task, decide
+from aig_verdicts.search.decide import decide
+from aig_verdicts.search.task import Bounds, Found, Programs, Task
 from aig_verdicts.reading.design import read_aiger
 from aig_verdicts.search.sent import Sent
 from aig_verdicts.search.session import Plan, Session
@@ -242,11 +243,11 @@ def of_command(tally):
             Session.search = usual
         page = Path(f"run_{complete}/index.html").read_text(encoding="utf-8")
         tally.compare(f"stopped: a run, {complete}", (found, "Unfinished:" in page), (status, not complete))
-    usual, command.recheck = command.recheck, lambda *_, **__: (_ for _ in ()).throw(Stopped())
+    usual, rechecking.recheck = rechecking.recheck, lambda *_, **__: (_ for _ in ()).throw(Stopped())
     try:
         tally.compare("stopped: recheck", called("recheck", kept("every"))[0], 130)
     finally:
-        command.recheck = usual
+        rechecking.recheck = usual
 
 
 class Begun:

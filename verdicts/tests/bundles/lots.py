@@ -9,7 +9,7 @@ import aig
 from aig_verdicts.audit.bundle import Bundle
 from aig_verdicts.audit.folder import pack
 from aig_verdicts.audit.manifest import FORMAT
-from aig_verdicts.audit.recheck import same_sources
+from aig_verdicts.compare.again import same_sources
 from aig_verdicts.audit.row import name_of
 from bundles.common import called, judged, kept, manifest_of, tool, why_rejected, write_manifest
 from bundles.late import circuit

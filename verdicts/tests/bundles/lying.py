@@ -5,7 +5,8 @@ from __future__ import annotations
 from pathlib import Path
 
 from aig_verdicts.audit.checked import Claim, Wrong, sum_of
-from aig_verdicts.search.task import Bounds, Programs, Task, decide
+from aig_verdicts.search.decide import decide
+from aig_verdicts.search.task import Bounds, Programs, Task
 from aig_verdicts.audit.recheck import check_claim
 from aig_verdicts.audit.row import name_of
 from aig.tools import Stop

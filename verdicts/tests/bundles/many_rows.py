@@ -10,7 +10,8 @@ from unittest import mock
 
 from aig.program import OftenRead
 from aig_verdicts.search import sent
-from aig_verdicts.search.task import Bounds, Programs, Task, decide
+from aig_verdicts.search.decide import decide
+from aig_verdicts.search.task import Bounds, Programs, Task
 from aig_verdicts.reading.design import read_aiger
 from aig_verdicts.search.sent import Sent
 from aig_verdicts.search.session import Plan, Session

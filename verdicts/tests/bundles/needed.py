@@ -15,7 +15,8 @@ from aig_verdicts.pages import needs as needs_page
 from aig_verdicts.audit.bundle import Wrong
 from aig_verdicts.search.bundled import session_of
 from aig_verdicts.audit.checked import CONFIRMED, Claim, check
-from aig_verdicts.search.task import Bounds, Hint, Narrow, Programs, Task, decide
+from aig_verdicts.search.decide import decide
+from aig_verdicts.search.task import Bounds, Hint, Narrow, Programs, Task
 from aig_verdicts.audit.recheck import recheck
 from aig_verdicts.search.workers import Work
 from aig.tools import Stop

@@ -10,7 +10,7 @@ import xml.etree.ElementTree as tree
 from dataclasses import replace
 from pathlib import Path
 
-from aig_verdicts import command
+from aig_verdicts.compare import again as once_more
 from aig_verdicts.audit import recheck
 from aig_verdicts.audit.bundle import Bundle, Wrong, sum_of
 from aig_verdicts.reading.design import Assertion, Design
@@ -127,9 +127,9 @@ def again(_, tally, __):
     rows = Bundle(path).rows[1:]
     places = [Assertion(it.position, it.kind, it.name, it.file, it.first, it.last, it.of) for it in rows]
     circuit = (path / CIRCUIT).read_bytes()
-    usual = recheck.made, recheck.version, recheck._difference, recheck.do_the_same
-    recheck.version = lambda name, _: manifest_of(path)["versions"][name]
-    recheck._difference, recheck.do_the_same = lambda *_: "its gates are others", lambda *_: False
+    usual = once_more.made, once_more.version, once_more._difference, once_more.do_the_same
+    once_more.version = lambda name, _: manifest_of(path)["versions"][name]
+    once_more._difference, once_more.do_the_same = lambda *_: "its gates are others", lambda *_: False
 
     def why(data=circuit, assertions=places, change=None):
         read = []
@@ -141,13 +141,13 @@ def again(_, tally, __):
         bundle = Bundle(kept("every"))
         if change:
             change(bundle)
-        recheck.made = made
+        once_more.made = made
         try:
-            recheck.same_design(bundle)
+            once_more.same_design(bundle)
         except Wrong as error:
             return str(error)
         finally:
-            recheck.made = usual[0]
+            once_more.made = usual[0]
         return "" if read == [(path / "sources/every.v").read_bytes()] else "other sources"
 
     tally.compare("again: the same", why(), "")
@@ -155,7 +155,7 @@ def again(_, tally, __):
     turned[-2] ^= 1
     for name, data in (("one bit", bytes(turned)), ("a byte more", circuit + b"\n"), ("nothing", b"")):
         tally.check(f"again: {name}", "another circuit" in why(data))
-    recheck.do_the_same = lambda old, new, _: (old, new) == (circuit, bytes(turned))
+    once_more.do_the_same = lambda old, new, _: (old, new) == (circuit, bytes(turned))
     tally.compare("again: one that does the same", [why(bytes(turned)), why(circuit + b"\n") != ""], ["", True])
     for name, change in {"line": {"last": 99}, "first line": {"first": 1}, "file": {"file": "x.v"},
                          "name": {"name": "x"}, "kind": {"kind": "cover"}}.items():
@@ -182,10 +182,10 @@ def again(_, tally, __):
                   "the bundle has no sources")
     tally.compare("again: no sources and no options", "the bundle has no sources",
                   why(change=lambda bundle: bundle.manifest.update(sources=[], options={})))
-    recheck.version = lambda *_: "yosys Yosys 9.9"
+    once_more.version = lambda *_: "yosys Yosys 9.9"
     others = [replace(it, first=it.first - 1) for it in places]
     tally.compare("again: another Yosys may begin a line before", why(assertions=others), "")
-    _, recheck.version, recheck._difference, recheck.do_the_same = usual
+    _, once_more.version, once_more._difference, once_more.do_the_same = usual
 
 
 def _with_a_translation(bundle):
@@ -200,8 +200,8 @@ def _with_a_translation(bundle):
 def rechecked(_, tally, __):
     """`recheck` with each option: what it checks, what it asks Yosys, its last line and its status."""
     asked = []
-    usual = command.same_design
-    command.same_design = lambda bundle, stop: asked.append(bundle) or SAME_CIRCUIT
+    usual = once_more.same_design
+    once_more.same_design = lambda bundle, stop: asked.append(bundle) or SAME_CIRCUIT
     try:
         for words in ((), ("-q",), ("--json",), ("--jobs", "1"), ("--page", "page.html"), ("-q", "--junit", "j.xml")):
             for more in ((), ("--yosys",)):
@@ -213,12 +213,12 @@ def rechecked(_, tally, __):
         def other(*_):
             raise Wrong("Yosys makes another circuit")
 
-        command.same_design = other
+        once_more.same_design = other
         for words in ((), ("-q",), ("--json",)):
             status, _, err = called("recheck", kept("every"), "--yosys", *words)
             tally.compare(f"rechecked: another circuit, {words}", (status, "all checked" in err), (1, False))
     finally:
-        command.same_design = usual
+        once_more.same_design = usual
     case = tree.parse("j.xml").getroot().find("testsuite/testcase[@name='two']/failure")
     tally.check("rechecked: the cycle of a run", "run of 3, at cycle 2" in (case.text if case is not None else ""))
     path = kept("every")

@@ -8,7 +8,7 @@ from dataclasses import fields, replace
 from pathlib import Path
 
 from aig.program import run
-from aig_verdicts.audit import recheck
+from aig_verdicts.compare import again as once_more
 from aig_verdicts.reading.design import Assertion, Design
 from bundles.common import SMALL_SOLVER, called, kept, manifest_of, tool
 
@@ -46,14 +46,14 @@ def gated(design, sides):
 @contextlib.contextmanager
 def another_yosys(design, said):
     """A Yosys of this version, which makes this design, and a small solver as cadical."""
-    usual, path = recheck.made, os.environ["PATH"]
+    usual, path = once_more.made, os.environ["PATH"]
     tool("yosys", f"echo '{said}'", "path")
     tool("cadical", f'shift; exec {SMALL_SOLVER} "$@"', "path")
-    recheck.made, os.environ["PATH"] = (lambda *_, **__: design), f"{Path('path').resolve()}:{path}"
+    once_more.made, os.environ["PATH"] = (lambda *_, **__: design), f"{Path('path').resolve()}:{path}"
     try:
         yield
     finally:
-        recheck.made, os.environ["PATH"] = usual, path
+        once_more.made, os.environ["PATH"] = usual, path
 
 
 def remaking(_, tally, __):

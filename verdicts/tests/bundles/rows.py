@@ -9,7 +9,8 @@ import shutil
 from pathlib import Path
 
 from aig_verdicts.audit.bundle import Bundle, PlainFolder, Wrong, sum_of
-from aig_verdicts.reading.design import properties, read_aiger, symbol
+from aig_verdicts.audit.properties import properties, symbol
+from aig_verdicts.reading.design import read_aiger
 from aig_verdicts.audit.folder import BusyFolder, Folder, replaced, script
 from aig_verdicts.audit.row import Row, has_constraints, name_of
 from believed import believed

@@ -7,7 +7,7 @@ from dataclasses import replace
 from typing import Any, Dict, List, NamedTuple
 
 from .bundle import Bundle, Wrong
-from ..reading.left_out import modules_and_signals
+from .properties import modules_and_signals
 from .row import Row
 from .simulated import Simulated
 

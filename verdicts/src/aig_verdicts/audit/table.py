@@ -8,9 +8,11 @@ from pathlib import Path
 from typing import Dict, List, NamedTuple, Sequence, Tuple
 
 from .checked import CIRCUIT
-from .decisions import Judged
+from .cycles import cycles_of
+from .decisions import Asked, Judged, judge
 from .row import Row
 from .sentences import DISAGREES, of_needs
+from .simulated import Simulated
 from aig.waves.svg import escape, visible
 
 # The widest column; a longer name moves the rest of its own line alone.
@@ -20,6 +22,13 @@ NEEDS = 6
 # A note is printed with the names of so many of its rows.
 MOST_NAMED = 3
 _NO_XML = re.compile("[^\t\n\x20-\ud7ff\ue000-\ufffd\U00010000-\U0010ffff]")
+
+
+def table_of(rows: Sequence[Row], circuit: bytes, asked: Asked, simulated: Simulated = Simulated()) -> List[Judged]:
+    """The table, with the moments of runs where there are any."""
+    has_runs = any(row.by == "run" for row in rows)
+    table = judge(rows, cycles_of(circuit).at, asked) if has_runs else judge(rows, asked=asked)
+    return simulated.beside(table)
 
 
 def plain(text: str) -> str:

@@ -14,12 +14,13 @@ from .page import DifferencePage
 from ..audit.folder import write_whole
 from ..audit.manifest import as_json, asked_of
 from .matching import Version
-from ..audit.recheck import recheck, same_design
+from ..audit.recheck import recheck
 from ..audit.sentences import EQUAL_CIRCUIT
-from .sides import CHECKED, Side, checked_side, side_of, table_of
+from .sides import CHECKED, Side, checked_side, side_of
 from ..audit.simulated import Simulated, of_facts
-from ..audit.table import plain
+from ..audit.table import plain, table_of
 from aig.tools import Stop
+from .again import same_design
 
 
 def compare(words: argparse.Namespace, stop: Stop) -> int:

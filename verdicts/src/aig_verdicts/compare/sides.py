@@ -4,19 +4,19 @@ rows of a run, or a baseline, which is taken at its word."""
 from __future__ import annotations
 
 from dataclasses import replace
-from typing import Callable, List, NamedTuple, Optional, Sequence
+from typing import Callable, NamedTuple, Optional, Sequence
 
 from ..audit.bundle import Bundle
 from .changes import Known
 from ..audit.checked import CIRCUIT, CONFIRMED, Checked, Rejected, Wrong, expect, sum_of
-from ..audit.cycles import cycles_of
-from ..audit.decisions import BAD, MEANINGS, Asked, Judge, Judged, judge
+from ..audit.decisions import BAD, MEANINGS, Judge, Judged
 from ..audit.manifest import asked_of, is_of_older_formulas
 from .matching import Version
 from ..audit.recheck import check_row, meant
 from ..audit.row import Row
 from ..audit.sentences import in_words
 from ..audit.simulated import Simulated, of_facts
+from ..audit.table import table_of
 from aig.tools import Stop
 
 # The results by their words. Those of a bound have the frames after them.
@@ -33,13 +33,6 @@ class Side(NamedTuple):
     version: Version
     known: Sequence[Known]
     read: Callable[[str], bytes]
-
-
-def table_of(rows: Sequence[Row], circuit: bytes, asked: Asked, simulated: Simulated = Simulated()) -> List[Judged]:
-    """The table, with the moments of runs where there are any."""
-    has_runs = any(row.by == "run" for row in rows)
-    table = judge(rows, cycles_of(circuit).at, asked) if has_runs else judge(rows, asked=asked)
-    return simulated.beside(table)
 
 
 def checked_side(bundle: Bundle, simulated: Simulated) -> Side:

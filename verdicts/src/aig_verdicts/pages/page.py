@@ -13,7 +13,8 @@ from .needs import STYLE as NEEDS, Proofs, section
 from ..audit.row import Row
 from aig.waves.runs import comes_back
 from .sections import Pictures, Sections, Sources, anchor, place, size, verdict
-from ..audit.sentences import GROUPS, NOT_PROVED, NOT_SIMULATED, PROVED, UNPROVED, counted, is_proved, of_assumptions, of_needs
+from ..audit.sentences import GROUPS, NOT_PROVED, NOT_SIMULATED, PROVED, UNPROVED, counted, is_proved, of_assumptions
+from ..audit.sentences import of_needs
 from ..audit.simulated import of_facts
 from .style import STYLE
 from aig.waves.svg import MOST_NAME, STYLE as WAVE, escape, marked, shortened

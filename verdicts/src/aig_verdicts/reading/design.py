@@ -22,6 +22,7 @@ from .registers import registers
 from .sources import Sources, look_at_words, places
 from .clocks import timing
 from .store import Store, packed, parts_of, unpacked
+from ..audit.properties import modules_and_signals, properties, symbol
 from ..audit.timing import Timing, of_facts
 from aig.tools import Stop, ToolFailed, version
 from .versions import untried
@@ -43,39 +44,6 @@ class Assertion:
     first: int = 0
     last: int = 0
     of: Optional[int] = None
-
-
-# How the symbols of each kind begin. That of an assertion has it only where its name begins in such a way.
-_STARTS = {"cover": "cover:", "condition": "if:", "assert": "assert:"}
-
-
-def symbol(kind: str, name: str) -> str:
-    """The symbol of a property in the circuit: it says the kind too, so that the circuit's sum fixes it."""
-    plain = re.sub("[^!-~]", "_", name)
-    if kind == "assert" and not plain.startswith(tuple(_STARTS.values())):
-        return plain
-    return _STARTS[kind] + plain
-
-
-def properties(symbols: Sequence[str]) -> List[Tuple[str, str, Optional[int]]]:
-    """The kind, the name and the owner of each property, by the symbols of the circuit alone. A condition comes right
-    after its assertion."""
-    found: List[Tuple[str, str, Optional[int]]] = []
-    for at, symbol in enumerate(symbols):
-        kind, name = _of_symbol(symbol)
-        is_owned = kind == "condition" and at > 0 and _of_symbol(symbols[at - 1]) == ("assert", name)
-        if kind == "condition" and not is_owned:
-            kind, name = "assert", symbol
-        found.append((kind, name, at - 1 if is_owned else None))
-    return found
-
-
-def _of_symbol(symbol: str) -> Tuple[str, str]:
-    for kind, start in _STARTS.items():
-        if symbol.startswith(start):
-            rest = symbol[len(start):]
-            return (kind, rest) if kind != "assert" or rest.startswith(tuple(_STARTS.values())) else ("assert", symbol)
-    return "assert", symbol
 
 
 @dataclass
@@ -274,7 +242,7 @@ class _Made:
         findings.look_at_sources(runs)
         if how.parameters:
             findings.look_at_instances(runs)
-        modules_to_free, signals = left_out.modules_and_signals(how.free)
+        modules_to_free, signals = modules_and_signals(how.free)
         said = runs.prepare(modules_to_free)
         resets = script.resetting()
         runs.run(resets)

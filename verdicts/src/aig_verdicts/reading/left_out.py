@@ -74,11 +74,6 @@ def _free(module: Module, cell: Item, box: Module, widths: Dict[str, int]) -> No
 _INITIAL = r"attribute \init "
 
 
-def modules_and_signals(free: Sequence[str]) -> Tuple[List[str], List[str]]:
-    """Of what is free the modules, and the signals, which begin with the name of the top module."""
-    return [it for it in free if "." not in it], [it for it in free if "." in it]
-
-
 def inside(top: str, signal: str) -> str:
     """A signal by its name in the top module."""
     first, _, rest = signal.partition(".")

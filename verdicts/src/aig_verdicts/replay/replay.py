@@ -14,7 +14,7 @@ from aig.circuit import Circuit
 from ..reading.assertions import copies, given_values
 from ..audit.bundle import Bundle
 from ..audit.folder import write_whole
-from ..reading.left_out import modules_and_signals
+from ..audit.properties import modules_and_signals
 from ..audit.manifest import SCRIPT_OF_YOSYS
 from ..audit.row import Row
 from ..reading.sources import look_at_words

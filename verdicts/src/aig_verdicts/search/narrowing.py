@@ -12,7 +12,8 @@ from aig.program import run as aig
 from aig.errors import AigError
 from ..audit import needed
 from ..audit.checked import Wrong
-from .task import Bounds, Found, Hint, Narrow, Task, decide
+from .decide import decide
+from .task import Bounds, Found, Hint, Narrow, Task
 from ..audit.hints import claim_of, has_hints
 from ..audit.needed import Run
 from .part import part_of

@@ -18,8 +18,8 @@ from aig.program import OftenRead, program
 from ..audit.bundle import MOST_BYTES, Bundle
 from ..audit.checked import ALIVE, CIRCUIT, CONSTRAINTS, WAYS, Checked, Claim, Rejected, Wrong, sum_of
 from .task import ENGINES, Bounds, Found, Hint, Narrow, Programs, Task
-from ..audit.decisions import Asked
 from ..reading.design import Design
+from ..audit.decisions import Asked
 from ..audit.folder import TIMES, Folder
 from ..audit.hints import by_name
 from ..audit import needed

@@ -1,23 +1,16 @@
-"""From a task to a verdict that `aig` printed. `decide` is a function of its task alone, so any executor may run it, in
-this process or on another machine."""
+"""What is asked of a search, and what it found."""
 
 from __future__ import annotations
 
 import shutil
-import tempfile
-import zlib
-from contextlib import contextmanager
-from dataclasses import dataclass, field, replace
-from pathlib import Path
-from typing import Dict, Iterator, List, Optional, Tuple, Union
+from dataclasses import dataclass, field
+from typing import Dict, List, Optional, Tuple
 
-from aig.errors import AigError, Crashed
-from ..audit.checked import Checked, Claim, Wrong
+from ..audit.checked import Checked, Claim
 from ..audit.hints import claim_of
 from ..audit.needed import Run
 from ..audit.row import UNDECIDED
 from .sent import Sent
-from aig.tools import Clock, Stop, Stopped, ToolFailed
 
 
 @dataclass(frozen=True)
@@ -157,44 +150,3 @@ class Found:
             return self.checked
         self.notes.append("worker: its check is about something else")
         return None
-
-
-def decide(task: Task, stop: Optional[Stop] = None) -> Found:
-    """Finds the verdict of a task. A crash of a tool or of `aig`, a full disk or a rejected file makes a note, and no
-    exception.
-    What is known when the search ends stays, also where the user stops it."""
-    from .narrowing import Narrowing
-    from .search import Search
-
-    clock = Clock()
-    found = Found(task.position)
-    with noted(found):
-        if task.circuit is None:
-            raise ToolFailed("the task came without its circuit")
-        circuit = task.circuit.circuit()
-        with tempfile.TemporaryDirectory(prefix="aig-verdicts-") as folder:
-            about = (circuit, Path(folder), stop or Stop(), found)
-            search: Union[Narrowing, Search] = Narrowing(task, *about) if task.narrow else Search(task, *about)
-            with noted(found):
-                search.search()
-            search.keep()
-    found.seconds = clock()
-    return found
-
-
-@contextmanager
-def noted(found: Found) -> Iterator[None]:
-    """Makes a note of what ends a search."""
-    try:
-        yield
-    except Stopped:
-        found.stopped = True
-    except (AigError, Crashed, ToolFailed, Wrong, OSError, zlib.error, MemoryError) as error:
-        note = f"{type(error).__name__}: {(str(error).splitlines() or [''])[0]}"
-        if note not in found.notes:
-            found.notes.append(note)
-
-
-def decide_about(circuit: Sent, task: Task) -> Found:
-    """The same, where the circuit came by another way than its tasks."""
-    return decide(replace(task, circuit=circuit))

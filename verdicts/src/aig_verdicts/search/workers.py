@@ -13,7 +13,8 @@ from types import TracebackType
 from typing import Any, Callable, Dict, List, NamedTuple, Optional, Sequence, Tuple, Type, Union
 
 from ..audit.checked import Wrong
-from .task import Found, Task, decide, decide_about
+from .decide import decide, decide_about
+from .task import Found, Task
 from ..audit.hints import by_name
 from ..audit.needed import Run
 from ..audit.recheck import check_claim

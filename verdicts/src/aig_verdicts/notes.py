@@ -1,0 +1,54 @@
+"""What the commands say beside their tables."""
+
+from __future__ import annotations
+
+import sys
+from pathlib import Path
+from typing import TYPE_CHECKING, Callable, Optional, Sequence
+
+from .audit.checked import CIRCUIT
+from .audit.decisions import Judged
+from .audit.folder import write_whole
+from .audit.manifest import asked_of
+from .audit.row import Row
+from .audit.sentences import no_proof_needs, short_runs
+from .audit.simulated import of_facts
+from .audit.table import plain, table_of
+
+if TYPE_CHECKING:
+    from .pages.page import Results
+    from .pages.sections import Pictures
+
+
+def tell(line: str) -> None:
+    print(f"aig-verdicts: {plain(line)}", file=sys.stderr)
+
+
+def say_of_assumptions(alive: Row, circuit: bytes, read: Callable[[str], bytes]) -> None:
+    """Says where nothing shows that the assumptions can be kept for ever: else rows would be about short runs alone."""
+    if alive.by == "kept":
+        from aig.waves.runs import comes_back
+
+        if not comes_back(circuit, read(alive.files["witness"])):
+            tell(short_runs(alive))
+
+
+def say_of_needs(table: Sequence[Judged], circuit: bytes) -> None:
+    """Says which assumptions no proof needs."""
+    if all(it.needs is None for it in table):
+        return
+    from .pages.needs import Proofs
+
+    proofs = Proofs.of(table)
+    if text := no_proof_needs(proofs.unneeded(circuit), len(proofs.known), proofs.others) if proofs.known else "":
+        tell(text)
+
+
+def write_page(to: Path, results: Results, is_unfinished: bool, pictures: Optional[Pictures] = None) -> None:
+    """The page of results."""
+    from .pages.page import Page
+
+    said = of_facts(results.manifest.get("simulated", {}))
+    table = table_of(results.rows, results.read(CIRCUIT), asked_of(results.manifest), said)
+    page = Page(results, table, is_unfinished, pictures)
+    write_whole(to, page.html().encode("utf-8", "replace"))
