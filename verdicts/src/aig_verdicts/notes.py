@@ -6,6 +6,8 @@ import sys
 from pathlib import Path
 from typing import TYPE_CHECKING, Callable, Optional, Sequence
 
+from aig.waves.concrete import comes_back
+
 from .audit.checked import CIRCUIT
 from .audit.decisions import Judged
 from .audit.folder import write_whole
@@ -27,8 +29,6 @@ def tell(line: str) -> None:
 def say_of_assumptions(alive: Row, circuit: bytes, read: Callable[[str], bytes]) -> None:
     """Says where nothing shows that the assumptions can be kept for ever: else rows would be about short runs alone."""
     if alive.by == "kept":
-        from aig.waves.runs import comes_back
-
         if not comes_back(circuit, read(alive.files["witness"])):
             tell(short_runs(alive))
 

@@ -10,7 +10,8 @@ from aig.errors import Crashed
 from aig_verdicts import running
 from aig_verdicts.search.decide import decide
 from aig_verdicts.search.task import Bounds, Programs, Task
-from aig.waves.runs import comes_back
+from aig.waves.concrete import comes_back
+from aig_verdicts.audit.cycles import cycles_of
 from aig_verdicts.search.session import Session
 from bundles.common import FEW, SMALL_SOLVER, called, judged, kept, manifest_of, rows_of, why_rejected
 from bundles.dying import with_aig
@@ -36,6 +37,7 @@ def crashing(_, tally, __):
     for way, (pattern, words) in LOST.items():
         for how, end in ENDS.items():
             kept("every")
+            cycles_of.cache_clear()
             Path("page.html").unlink(missing_ok=True)
             status, out, err = with_aig(pattern, end, called, *words)
             said = err.splitlines()[-1:]

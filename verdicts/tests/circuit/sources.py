@@ -10,7 +10,8 @@ import unittest.mock
 from pathlib import Path
 
 from aig_verdicts.reading.file_lists import listed
-from aig_verdicts.reading.sources import Sources, look_at_words, plain_name
+from aig_verdicts.options import look_at_words
+from aig_verdicts.reading.sources import Sources, plain_name
 from aig.tools import ToolFailed
 from circuit.common import Folder
 

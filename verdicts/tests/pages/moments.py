@@ -4,7 +4,7 @@ from aig_verdicts.audit.cycles import cycles_of
 from believed import judge_some as judge
 from aig_verdicts.pages.page import Page, Results
 from aig_verdicts.audit.row import Row
-from aig.waves.runs import comes_back
+from aig.waves.concrete import comes_back
 from aig_verdicts.audit.table import junit, text
 from believed import believed
 

@@ -3,38 +3,33 @@
 from __future__ import annotations
 
 import re
-from functools import lru_cache
-from typing import Dict, Iterable, List, NamedTuple, Optional, Sequence, Set, Tuple
+from typing import Dict, Iterable, List, NamedTuple, Optional, Protocol, Sequence, Set, Tuple
 
 from ..program import run as call
-from ..circuit import Circuit
-from ..errors import Crashed, OutOfMemory
+from ..entries import Entry
 from . import explained
-from .concrete import filled, has_free
+from .concrete import MOST_TRACE, filled, has_free
 from .explained import Line
 from .signals import Names, Place, Signal, labels
 from .svg import Lane
 
-# Bytes of a run and of its lines. Those of a small circuit can be too many for any memory.
-MOST_TRACE, MOST_WHY = 1 << 28, 1 << 26
+# Bytes of the lines of `why`. Those of a small circuit can be too many for any memory.
+MOST_WHY = 1 << 26
 
 
-@lru_cache(maxsize=1)
-def comes_back(circuit: bytes, witness: bytes) -> bool:
-    """Whether a run that keeps the assumptions comes back to a state. Then the inputs in between can go on for ever. An
-    x may be anything, so it is 0 here. Where `aig` has no answer, nothing is known."""
-    try:
-        said = call("check", "--trace", files=[circuit, filled(witness)], good=(0, 1), most=MOST_TRACE)
-    except (OutOfMemory, Crashed):
-        return False
-    states = [line.split(b" ")[0] for line in said.split(b"\n")[:-2]]
-    return len(set(states)) < len(states)
+class Shown(Protocol):
+    """What is asked of a circuit: its file, and its entries."""
+
+    file: bytes
+
+    @property
+    def entries(self) -> List[Entry]: ...
 
 
 class Told:
     """A circuit whose runs are shown."""
 
-    def __init__(self, circuit: Circuit):
+    def __init__(self, circuit: Shown):
         self.circuit = circuit
         self.names = Names(circuit.entries)
 

@@ -9,8 +9,7 @@ from typing import Callable, Dict, List, Mapping, NamedTuple, Optional, Tuple
 
 from aig.program import sum_of as sum_of
 from aig.errors import AigError
-from aig.waves.concrete import fits
-from aig.waves.runs import comes_back
+from aig.waves.concrete import comes_back, fits
 from aig.tools import Stop, answer
 
 CIRCUIT = "circuit.aig"

@@ -7,13 +7,13 @@ import re
 from dataclasses import dataclass, field
 from typing import Any, Callable, Dict, List, Optional, Tuple
 
-from ..sva.parameters import Unusable, values_of
+from aig.tools import ToolFailed
+
+from ..options import Unusable, look_at_words, values_of
 from . import needed, simulated, timing
 from .checked import ALIVE, CIRCUIT, CONSTRAINTS, CUT, WAYS, Claim, Command, Wrong, expect
 from .decisions import Asked, judge
 from .row import KINDS, LEFT_OUT, MOST_FRAMES, ORIGINS, UNDECIDED, Row, name_of
-from ..reading.sources import look_at_words
-from aig.tools import ToolFailed
 
 __all__ = ["Wrong", "expect"]
 

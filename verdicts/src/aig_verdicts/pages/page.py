@@ -11,7 +11,7 @@ from aig.program import OftenRead
 from ..audit.decisions import MEANINGS, Judged, summary
 from .needs import STYLE as NEEDS, Proofs, section
 from ..audit.row import Row
-from aig.waves.runs import comes_back
+from aig.waves.concrete import comes_back
 from .sections import Pictures, Sections, Sources, anchor, place, size, verdict
 from ..audit.sentences import GROUPS, NOT_PROVED, NOT_SIMULATED, PROVED, UNPROVED, counted, is_proved, of_assumptions
 from ..audit.sentences import of_needs

@@ -6,7 +6,8 @@ from __future__ import annotations
 from typing import Any, Dict, Mapping, NamedTuple, Optional, Sequence
 
 from ..sva.inserted import Inserted, with_inserted
-from ..sva.parameters import Given, Unusable, given_to, values_of, with_values
+from ..options import Unusable, values_of
+from ..sva.parameters import Given, given_to, with_values
 from ..sva.preprocessed import Preprocessed
 from ..sva.translation import Untranslated, translated
 from ..sva.words import Rejected

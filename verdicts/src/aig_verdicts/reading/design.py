@@ -19,7 +19,8 @@ from .labels import AS_BLOCKS
 from .text.lax import ranges_of_words
 from aig.waves.ranges import Ranges
 from .registers import registers
-from .sources import Sources, look_at_words, places
+from ..options import look_at_words
+from .sources import Sources, places
 from .clocks import timing
 from .store import Store, packed, parts_of, unpacked
 from ..audit.properties import modules_and_signals, properties, symbol

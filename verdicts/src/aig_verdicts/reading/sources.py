@@ -23,22 +23,11 @@ _DELAY = re.compile(r"(?:[;=)\]:]|\b(?:begin|end|else|always|initial|assign|wire
 _LIST = re.compile(r"\balways\s*@\s*(?:\((?![^;]*?\b(?:posedge|negedge)\b)\s*[^*\s][^;]*?\)|\w)")
 _MACROS_IN_MACROS = 4  # so deep
 NEWLINE = "\n"
-_DEFINITION = re.compile(r"[A-Za-z_][A-Za-z0-9_]*(=[A-Za-z0-9_'.+-]*)?")
-_MODULE = re.compile(r"[A-Za-z_][A-Za-z0-9_$]*")
 
 
 def plain_name(name: str) -> str:
     """A file name that is one word of Yosys' language, and neither hidden nor an option."""
     return re.sub(r"[^A-Za-z0-9._-]|^[.-]", "_", name) or "_"
-
-
-def look_at_words(top: Optional[str], defines: Sequence[str]) -> None:
-    """Rejects a top module or a definition that could be more than one word of Yosys' language."""
-    if top is not None and not _MODULE.fullmatch(top):
-        raise ToolFailed(f"{top!r} is no name of a module")
-    for define in defines:
-        if not _DEFINITION.fullmatch(define):
-            raise ToolFailed(f"{define!r} is no definition: NAME or NAME=VALUE")
 
 
 def places(found: Sequence[str]) -> str:

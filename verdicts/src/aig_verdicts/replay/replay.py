@@ -17,7 +17,7 @@ from ..audit.folder import write_whole
 from ..audit.properties import modules_and_signals
 from ..audit.manifest import SCRIPT_OF_YOSYS
 from ..audit.row import Row
-from ..reading.sources import look_at_words
+from ..options import look_at_words
 from ..audit.table import plain
 from ..audit.timing import Timing, of_facts
 from aig.tools import Stop, ToolFailed
