@@ -20,7 +20,7 @@ from aig_verdicts import command
 from aig_verdicts.audit.bundle import Bundle, Wrong
 from aig_verdicts.audit.recheck import recheck
 from library import supervised
-from paths import PYTHONPATH
+from paths import PYTHONPATH, ROOT
 
 HERE = Path(__file__).resolve().parent
 # A few properties of the bundle `every`: a bug, one that holds, one with a bug at frame 8.
@@ -155,7 +155,7 @@ def tool(name, body, folder="."):
 
 
 # The solver of these tests. A Python that reads no settings begins faster.
-SMALL_SOLVER = tool("small_solver", f'exec "{sys.executable}" -S -E "{HERE}/small_solver.py" "$@"', _folder.name)
+SMALL_SOLVER = tool("small_solver", f'exec "{sys.executable}" -S -E "{ROOT}/tests/library/small_solver.py" "$@"', _folder.name)
 
 
 def by_symbol(path):

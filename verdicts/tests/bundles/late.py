@@ -8,6 +8,7 @@ import xml.etree.ElementTree as tree
 from pathlib import Path
 
 import aig
+from aig_verdicts import prove
 from aig_verdicts.audit.table import junit
 from bundles.common import SMALL_SOLVER, called, manifest_of, row, why_rejected, write_manifest
 from bundles.many import AT_1, AT_2, AT_3, AT_6, LATCHES, NEVER
@@ -106,8 +107,8 @@ def late(_, tally, __):
         run("late", LAST + 1)
         tally.check(f"late: {name}, mended", why_rejected(path) is None and words_of(path) == WITH_IT)
     proved = aig.Circuit(circuit(PROPERTIES, ENDS))
-    found = [aig.prove(proved, 2, frames=it, solver=SMALL_SOLVER).vacuous for it in (LAST, LAST + 1)]
-    tally.compare("late: aig.prove", found, ["", f"no run of {LAST + 1} frames"])
+    found = [prove(proved, 2, frames=it, solver=SMALL_SOLVER).vacuous for it in (LAST, LAST + 1)]
+    tally.compare("late: prove", found, ["", f"no run of {LAST + 1} frames"])
 
 
 def assumed(tally):
@@ -121,6 +122,6 @@ def assumed(tally):
                   (4, {"late": "vacuous", "cover:late": "vacuous"}))
     status, _, err = called("recheck", "assumed.verdicts")
     tally.check("dead: assumptions: re-checked", status == 4 and "all checked by aig" in err, (status, err))
-    found = aig.prove(aig.Circuit(circuit({"late": AT_6}, NEVER)), frames=FRAMES, solver=SMALL_SOLVER)
-    tally.compare("dead: assumptions: aig.prove", (found.line, found.vacuous),
+    found = prove(aig.Circuit(circuit({"late": AT_6}, NEVER)), frames=FRAMES, solver=SMALL_SOLVER)
+    tally.compare("dead: assumptions: prove", (found.line, found.vacuous),
                   (f"unreachable within {FRAMES}", f"no run of {FRAMES} frames"))
