@@ -25,8 +25,9 @@ WHOLE_SECONDS = 15 * SECONDS
 # How many scripts run at once: each waits for programs now and then, also where there are two processors.
 AT_ONCE = 3
 # These take the program as their argument. The longest come first, so that none runs alone at the end.
-SCRIPTS = ("verdicts/tests/run_bundles.py", "verdicts/tests/run_options.py", "tests/run_random.py", "tests/run_program.py",
-           "tests/run_large.py", "tests/run_dist.py", "python/tests/run_explain.py", "tests/run_faults.py",
+SCRIPTS = ("verdicts/tests/run_bundles.py", "verdicts/tests/run_options.py", "tests/run_random.py",
+           "tests/run_program.py", "tests/run_large.py", "tests/run_dist.py", "python/tests/run_explain.py",
+           "tests/run_faults.py",
            "verdicts/tests/run_versions.py", "verdicts/tests/run_dask.py", "verdicts/tests/run_replay.py",
            "python/tests/run_package.py", "verdicts/tests/run_cores.py", "verdicts/tests/run_pages.py",
            "tests/run_bounds.py", "tests/run_hints.py", "verdicts/tests/random_verilog.py", "tests/run_library.py",

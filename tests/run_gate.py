@@ -11,7 +11,7 @@ import sys
 
 import all as every
 import wrong_bodies
-from gate_parts import costing
+from gate_parts import costing, packages
 from library import runs, supervised
 from library.runs import REPOSITORY, TESTS, write
 
@@ -370,7 +370,7 @@ def with_kit(part):
 
 PARTS = {"cited": cited, "sums": with_kit(sums), "again": with_kit(again), "wrong": wrong, "left_out": left_out,
          "planted": planted_of_python, "scripts": scripts, "lanes": side_by_side, "report": costing.report,
-         "functions": costing.of_functions}
+         "functions": costing.of_functions, "packages": packages.packages}
 
 if __name__ == "__main__":
     runs.main(__doc__, PARTS)

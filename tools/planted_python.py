@@ -9,8 +9,8 @@ A file of bugs begins with `file:` and the path of a source. Each bug is a parag
 `seen:` with the script and its part, and pairs of `old:` and `new:`. `old:` is a piece of one line that is in the
 source exactly once. An edit that no longer applies fails, whatever is tried.
 
-tools/seen.txt has a sum of each bug that was seen: of the bug, of its source, and of the file of its part. --new tries the
-bugs whose sum is another one, or is not there; --write notes those that are seen. A run that is stopped notes what it
+tools/seen.txt has a sum of each bug that was seen: of the bug, of its source, and of the file of its part. --new tries
+the bugs whose sum is another one, or is not there; --write notes those that are seen. A run that is stopped notes what it
 saw until then.
 
 With --sample N it tries so many bugs: first those that --new would try, then those that the commit chooses; each commit
@@ -96,7 +96,8 @@ def is_right_python(bug):
 
 def script_of(root, name):
     """The path of a script in a tree."""
-    return next((root / folder / name for folder in SCRIPTS if (root / folder / name).is_file()), root / SCRIPTS[0] / name)
+    found = (root / folder / name for folder in SCRIPTS)
+    return next((path for path in found if path.is_file()), root / SCRIPTS[0] / name)
 
 
 def file_of(seen):

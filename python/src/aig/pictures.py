@@ -44,7 +44,7 @@ def scrolling(svg: str) -> str:
 
 def html_of_verdict(verdict: Verdict) -> str:
     """A verdict, what it was found by, and its run."""
-    from .waves.svg import escape
+    from .letters import escape
 
     ways = {"run": f": run of {verdict.frames}", "induction": f": induction of {verdict.frames}",
             "certificate": ": certificate"}

@@ -9,7 +9,8 @@ import xml.etree.ElementTree as tree
 
 from aig_verdicts.audit.sentences import DISAGREES, GROUPS
 from aig_verdicts.pages.style import STYLE
-from aig.waves.svg import STYLE as WAVE, Lane, hexadecimal, visible, waveform
+from aig.letters import visible
+from aig.waves.svg import STYLE as WAVE, Lane, hexadecimal, waveform
 from pages.bundles import HOSTILE, Bundle
 from pages.oracle import ATTRIBUTES as OF_PICTURES, TAGS as PICTURES
 

@@ -13,7 +13,7 @@ from .decisions import Asked, Judged, judge
 from .row import Row
 from .sentences import DISAGREES, of_needs
 from .simulated import Simulated
-from aig.waves.svg import escape, visible
+from aig.letters import escape, visible
 
 # The widest column; a longer name moves the rest of its own line alone.
 MOST_WIDE = 120

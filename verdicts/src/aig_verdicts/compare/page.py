@@ -13,7 +13,8 @@ from ..pages.page import POLICY
 from ..pages.sections import Sections, Sources, anchor, place
 from .sides import Side
 from ..pages.style import STYLE
-from aig.waves.svg import STYLE as WAVE, escape
+from aig.letters import escape
+from aig.waves.svg import STYLE as WAVE
 
 _MEANS = {
     "broken": "It fails now, and did not before.",

@@ -8,7 +8,7 @@ from typing import Callable, Collection, Dict, Iterable, List, Mapping, NamedTup
 from ..audit.decisions import Judged
 from ..audit.pieces import Needs, folded, is_own, pieces_of, unneeded
 from ..audit.sentences import EVERY, LINES, OTHER_PROOFS, UNNEEDED, counted, of_core
-from aig.waves.svg import escape, marked
+from aig.letters import escape, marked
 
 STYLE = """\
 .chip{display:inline-block;border:1px solid var(--line);border-radius:6px;padding:0 6px;margin:1px 4px 1px 0;

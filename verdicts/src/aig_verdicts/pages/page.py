@@ -17,7 +17,8 @@ from ..audit.sentences import GROUPS, NOT_PROVED, NOT_SIMULATED, PROVED, UNPROVE
 from ..audit.sentences import of_needs
 from ..audit.simulated import of_facts
 from .style import STYLE
-from aig.waves.svg import MOST_NAME, STYLE as WAVE, escape, marked, shortened
+from aig.letters import escape, marked
+from aig.waves.svg import MOST_NAME, STYLE as WAVE, shortened
 
 _LEGEND = ("Thick lines are the values that suffice for it, and hatched boxes are x: any value will do. Numbers are "
            "hexadecimal. Pale digits are x too, values that it does not need:")

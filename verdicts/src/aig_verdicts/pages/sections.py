@@ -14,7 +14,8 @@ from aig.waves.explained import Line
 from ..audit.row import Row
 from aig.waves.runs import Story, Told, story
 from ..audit.sentences import Remark, counted, fact, how, mark
-from aig.waves.svg import MOST_COLUMNS, Scene, escape, marked, parts, sheets, shortened
+from aig.letters import escape, marked
+from aig.waves.svg import MOST_COLUMNS, Scene, parts, sheets, shortened
 
 # Pictures have so many bytes of a page, and none is made of a run with more letters. The lines of `why` below those
 # that are seen at once are so many, and have so many causes.
