@@ -1,6 +1,6 @@
 #!/usr/bin/env python3
 """Plays designs in Icarus Verilog beside their circuits: what both read alike, what has another meaning in a simulation
-(the table of docs/VERDICTS.md), the testbenches that `replay` writes, and simulators that fail. It needs Yosys and
+(the table of verdicts/docs/VERDICTS.md), the testbenches that `replay` writes, and simulators that fail. It needs Yosys and
 Icarus Verilog."""
 
 import json
