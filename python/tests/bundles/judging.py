@@ -18,7 +18,7 @@ from believed import SUM, believed, check_of
 FOUND = {
     "run": ("confirmed", "run", 3), "proof": ("unreachable", "induction", 2),
     "invariant": ("unreachable", "certificate", 0),
-    "bound": ("unreachable within 4", "bound", 4), "open": ("undecided", "", 0), "left": ("left out", "", 0),
+    "bound": ("unreachable within 4", "bound", 4), "far": ("unreachable within 30", "bound", 30), "open": ("undecided", "", 0), "left": ("left out", "", 0),
 }
 # For each kind and what was found: the words, and the status.
 ALONE = {
@@ -105,14 +105,15 @@ def assumptions(tally):
         it, = judge([none, made])
         tally.check(f"judging: no assumptions: {kind}, {found}", not it.doubt)
     for frames, is_lasting, asked, found, is_doubted in (
-            (3, False, 4, "proof", True), (4, False, 4, "proof", False), (3, True, 4, "proof", False), (9, False, 4, "proof", False),
-            (3, False, 0, "bound", True), (4, False, 0, "bound", False), (3, False, 0, "proof", False), (1, False, 20, "bound", True),
-            (19, False, 20, "invariant", True), (20, False, 20, "invariant", False), (1, True, 20, "bound", False)):
+            (19, False, 4, "proof", True), (20, False, 4, "proof", False), (3, True, 4, "proof", False), (29, False, 30, "proof", True),
+            (30, False, 30, "proof", False), (19, False, 0, "bound", True), (20, False, 0, "bound", False), (19, False, 0, "proof", True),
+            (1, False, 20, "bound", True), (19, False, 20, "invariant", True), (20, False, 20, "invariant", False),
+            (29, False, 20, "far", True), (30, False, 20, "far", False), (1, True, 20, "bound", False)):
         first = Row(-1, "constraints", "")
         first.take(replace(check_of(-1, "kept", frames), is_lasting=is_lasting, key=checked_module._KEY), SUM)
         it, = judge([first, _row(0, "assert", found)], asked=Asked(asked))
         tally.compare(f"judging: kept for {frames}, {asked} asked, lasting {is_lasting}, {found}", (bool(it.doubt), it.status),
-                      (is_doubted, max(ALONE["assert", found][1], 4 if is_doubted else 0)))
+                      (is_doubted, 4 if is_doubted or found in ("bound", "far") else 0))
     for kind, found in ALONE:
         it, = judge([none, _row(0, kind, found)], asked=Asked(0, False))
         is_doubted = kind == "assert" and found in ("proof", "invariant", "bound")

@@ -147,6 +147,10 @@ class Judged:
         return replace(self, said=Undecided(DISAGREES), simulated=said)
 
 
+# For so many frames some run has to keep the assumptions, whatever a bundle says that it was asked for.
+LEAST_KEPT = 20
+
+
 class Asked(NamedTuple):
     """What was asked of a design: runs of so many frames, whether the conditions of assertions are ever true, and how many
     properties its circuit has, if that is known."""
@@ -194,7 +198,7 @@ class Judge:
         kept = self._alive.checked
         if kept is None:
             return sentences.PERHAPS_KEPT
-        is_short = kept.frames < max(self._asked.frames, own.frames if own.by == "bound" else 0)
+        is_short = kept.frames < max(LEAST_KEPT, self._asked.frames, own.frames if own.by == "bound" else 0)
         return sentences.kept_for(kept.frames) if is_short and not kept.is_lasting else ""
 
     def waits_for(self, row: Row) -> List[Row]:

@@ -18,7 +18,7 @@ from .._program import OftenRead, program
 from .bundle import MOST_BYTES, Bundle
 from .checked import ALIVE, CIRCUIT, CONSTRAINTS, WAYS, Checked, Claim, Rejected, Wrong, sum_of
 from .decide import ENGINES, Bounds, Found, Hint, Narrow, Programs, Task
-from .decisions import Asked
+from .decisions import LEAST_KEPT, Asked
 from .design import Design
 from .folder import TIMES, Folder
 from .hints import by_name
@@ -318,7 +318,7 @@ class Session:
     def _frames(self, row: Row) -> int:
         """How far the search for a row goes. Assumptions have to be kept as long as the longest search goes."""
         if row.position == CONSTRAINTS:
-            return max([self.bounds.frames, *self.depths.values()])
+            return max([LEAST_KEPT, self.bounds.frames, *self.depths.values()])
         return self.depths.get(row.position, self.bounds.frames)
 
     def _task(self, row: Row) -> Task:
