@@ -10,11 +10,12 @@ from dataclasses import replace
 
 from aig.verdicts.changes import Beside, Known, Pairs, changes, status_of, summary
 from aig.verdicts.checked import Wrong
-from aig.verdicts.decisions import Judge, judge
+from aig.verdicts.decisions import Asked, Judge
 from aig.verdicts.difference import difference
 from aig.verdicts.matching import Lines, Version
 from aig.verdicts.row import Row
 from aig.verdicts.sides import CHECKED, side_of
+from aig.verdicts.table import Table
 from believed import believed
 
 from .attempts import ATTEMPTS, HARMLESS
@@ -134,7 +135,7 @@ def side(source, letters, options=None, more=None):
                          *(f"c{at} {name}" for at, name in enumerate(assumed)), ""])
     version = Version("f", rows, circuit.encode(), {name: text.encode() for name, text in sources.items()},
                       {"top": "", "defines": [], "conditions": True, **(options or {})})
-    return side_of(version, judge(rows), lambda name: version.sources[name.split("/")[-1]])
+    return side_of(version, Table.of(rows, circuit.encode(), Asked()), lambda name: version.sources[name.split("/")[-1]])
 
 
 def found_of(attempt):

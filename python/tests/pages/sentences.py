@@ -9,6 +9,7 @@ from aig.verdicts.cycles import cycles_of
 from believed import judge_some as judge
 from aig.verdicts.page import Page, Results
 from aig.verdicts.row import Row
+from aig.verdicts.table import Table
 from believed import believed
 
 LATCHES = 30
@@ -51,7 +52,7 @@ class Bundle:
 
     def page(self, unfinished=False):
         seconds = {0: 1.5, 1: 2.5, 3: 4.5}
-        table = judge(self.rows, cycles_of(self.files["circuit.aig"]).at)
+        table = Table(judge(self.rows, cycles_of(self.files["circuit.aig"]).at))
         return Page(Results(self.manifest, self.rows, self.files.__getitem__, seconds), table, unfinished).html()
 
 
@@ -232,7 +233,7 @@ def denied(tally):
     table = judge(made.rows, cycles_of(made.files["circuit.aig"]).at)
     table[0] = table[0].denied_by("at 30 the simulator has another value")
     table[3] = replace(table[3], denied="the circuit is not as in a simulator")
-    page = Page(Results(made.manifest, made.rows, made.files.__getitem__), table).html()
+    page = Page(Results(made.manifest, made.rows, made.files.__getitem__), Table(table)).html()
     sections = sections_of(page)
     for at, look, words, said in ((0, "warn", "≠disagrees", "at 30 the simulator has another value."),
                                   (3, "warn", "✓holds", "")):

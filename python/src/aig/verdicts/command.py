@@ -22,14 +22,13 @@ from .bundled import session_of
 from .checked import CIRCUIT, Wrong
 from .compare import against, compare, last_line, write
 from .decide import Bounds, Hint, Narrow
-from .decisions import INTERRUPTED, OPEN, REJECTED, UNREADABLE, Judged, asked, compared, exit_status
-from .decisions import line_of_recheck, line_of_run
+from .decisions import INTERRUPTED, OPEN, REJECTED, UNREADABLE
 from .demo import written
 from .design import Design, read_aiger
 from .file_lists import listed
 from .folder import PAGE, pack, write_whole
 from .made import made, reading_of
-from .manifest import as_json, asked_of, rows_as_json
+from .manifest import as_json, rows_as_json
 from .matching import Version
 from .page import Page, Results
 from .programs import lost_without, programs_of, tracing
@@ -45,9 +44,9 @@ from .sentences import NOT_COMPARED, no_proof_needs, of_needs, short_runs
 from .session import STOPPED, Plan, Session
 from .sides import side_of, table_of
 from .since import Since, opened, since_of
-from .simulated import Simulated, of_facts
+from .simulated import Simulated
 from .store import Store, folder_of_user
-from .table import junit, next_command, open_notes, plain, text
+from .table import Table, compared, next_command, open_notes, plain
 from .tools import Clock, Stop, Stopped, ToolFailed, missing, version
 from .workers import Dask, Work
 
@@ -102,16 +101,14 @@ def _say_of_assumptions(alive: Row, circuit: bytes, read: Callable[[str], bytes]
         _said(short_runs(alive))
 
 
-def _say_of_needs(table: Sequence[Judged], circuit: bytes) -> None:
+def _say_of_needs(table: Table, circuit: bytes) -> None:
     """Says which assumptions no proof needs."""
     proofs = Proofs.of(table)
     if said := no_proof_needs(proofs.unneeded(circuit), len(proofs.known), proofs.others) if proofs.known else "":
         _said(said)
 
 
-def _page(to: Path, results: Results, is_unfinished: bool, pictures: Optional[Pictures] = None) -> None:
-    said = of_facts(results.manifest.get("simulated", {}))
-    table = table_of(results.rows, results.read(CIRCUIT), asked_of(results.manifest), said)
+def _page(to: Path, results: Results, table: Table, is_unfinished: bool, pictures: Optional[Pictures] = None) -> None:
     page = Page(results, table, is_unfinished, pictures)
     write_whole(to, page.html().encode("utf-8", "replace"))
 
@@ -163,7 +160,7 @@ def _renewing(session: Session) -> Callable[[bool], None]:
         folder = session.folder
         try:
             results = Results(session.manifest(), session.rows, folder.read, session.seconds)
-            _page(folder.path / PAGE, results, is_unfinished, pictures)
+            _page(folder.path / PAGE, results, session.table, is_unfinished, pictures)
         except (AigError, Crashed):
             folder.remove(PAGE)  # it is about what was known before
             if not is_unfinished:  # else the search goes on without a page
@@ -238,7 +235,7 @@ def _simulate(words: argparse.Namespace, session: Session, seconds: float) -> No
         session.write(True)
 
 
-def _say_notes(table: Sequence[Judged], said: Collection[str]) -> None:
+def _say_notes(table: Table, said: Collection[str]) -> None:
     """Says the notes on open rows, but for what was said."""
     notes = [note for note in open_notes(table) if not note.endswith((STOPPED, *said))]
     for note in notes[:MOST_NOTES]:
@@ -253,21 +250,19 @@ def _results(words: argparse.Namespace, session: Session, is_complete: bool, sai
     if not is_complete:  # what was done is written, whatever else the user presses
         for number in _SIGNALS:
             signal.signal(number, signal.SIG_IGN)
-    table = table_of(session.rows, session.design.circuit, session.asked_of, session.simulated)
-    if session.only is not None:
-        table = [it for it in table if it.row.position in session.only]
+    table = session.table.only(session.only)
     changed = since.difference(table, session.only) if since and (since.is_asked or is_complete) else None
     is_asked = since is not None and since.is_asked
     if words.junit:
         seconds = session.seconds
-        cases = changed.junit(seconds) if changed and is_asked else junit(session.design.name, table, seconds)
+        cases = changed.junit(seconds) if changed and is_asked else table.junit(session.design.name, seconds)
         write_whole(words.junit, cases.encode("utf-8", "replace"))
     if words.zip:
         pack(session.folder.path, words.zip)
     if words.json:
-        sys.stdout.write(as_json(session.manifest()).decode())
+        sys.stdout.write(as_json(table.json(session.manifest())).decode())
     else:
-        sys.stdout.write(text(table) + (f"\n{changed.text()}" if changed and is_asked else ""))
+        sys.stdout.write(table.text() + (f"\n{changed.text()}" if changed and is_asked else ""))
     sys.stdout.flush()
     if not words.quiet:
         following = next_command(table, session.folder.path)
@@ -281,13 +276,13 @@ def _results(words: argparse.Namespace, session: Session, is_complete: bool, sai
         if not is_complete:
             _said(f"{TOTAL if session.stop.is_late else 'stopped'}; the same command goes on")
         page = plain(str(session.folder.path / PAGE))
-        said_last = line_of_run(table, bool(session.design.sources), session.simulated)
+        said_last = table.line_of_run(bool(session.design.sources), session.simulated)
         print(f"{plain(said_last)}: {page}", file=sys.stderr)
         if since and changed:
             print(plain(since.last_line(changed)), file=sys.stderr)
     if is_complete:
         session.folder.forget_before()
-    status = changed.status if changed and is_asked else exit_status(table, session.asked)
+    status: int = changed.status if changed and is_asked else table.status
     return status if is_complete or session.stop.is_late else INTERRUPTED
 
 
@@ -313,16 +308,16 @@ def again(words: argparse.Namespace, stop: Stop) -> int:
     said = _simulated_again(words, bundle, stop)
     on_page = said if said.by else Simulated(circuit=of_yosys or NOT_COMPARED)
     shown = audited(bundle, version(program(), stop), on_page, bool(words.sources), bool(of_yosys))
-    table = table_of(shown.rows, bundle.circuit(), asked_of(bundle.manifest), said)
+    table = table_of(bundle, shown.rows, said)
     changed = against(words, side_of(Version.of(bundle), table, shown.read), of_yosys, stop) if words.since else None
     if changed:
         write(changed, words.page, words.junit, {})
     elif words.page:
-        _page(words.page, Results(shown.manifest, shown.rows, shown.read), False)
+        _page(words.page, Results(shown.manifest, shown.rows, shown.read), table, False)
     if words.junit and not changed:
-        write_whole(words.junit, junit(bundle.manifest["name"], table, {}).encode("utf-8", "replace"))
+        write_whole(words.junit, table.junit(bundle.manifest["name"], {}).encode("utf-8", "replace"))
     if words.json:
-        sys.stdout.write(as_json({**shown.manifest, "rows": rows_as_json(shown.rows)}).decode())
+        sys.stdout.write(as_json(table.json({**shown.manifest, "rows": rows_as_json(shown.rows)})).decode())
     elif changed:
         sys.stdout.write(changed.text())
     sys.stdout.flush()
@@ -331,15 +326,17 @@ def again(words: argparse.Namespace, stop: Stop) -> int:
     if is_older(bundle) and bundle.rows[0].claim is None:
         _said("that some run keeps the assumptions is a solver's word, as the bundle is of an older version")
     if not words.quiet:
+        for doubt in table.doubts[:MOST_NOTES]:
+            _said(doubt)
         _say_of_assumptions(bundle.rows[0], bundle.circuit(), bundle.summed)
         _say_of_needs(table, bundle.circuit())
     if said.agrees is False:
         _said(said.circuit)
-    of_sources, count = compared(bool(bundle.manifest["sources"]), of_yosys, said), asked(bundle.manifest)
-    print(plain(line_of_recheck(table, count, of_sources, bool(words.sources))), file=sys.stderr)
+    of_sources = compared(bool(bundle.manifest["sources"]), of_yosys, said)
+    print(plain(table.line_of_recheck(of_sources, bool(words.sources))), file=sys.stderr)
     if changed:
         print(f"since {plain(str(words.since))}: {last_line(changed)}; {changed.basis}", file=sys.stderr)
-    return changed.status if changed else exit_status(table, count)
+    return changed.status if changed else table.status
 
 
 def _simulated_again(words: argparse.Namespace, bundle: Bundle, stop: Stop) -> Simulated:

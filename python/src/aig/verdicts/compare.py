@@ -12,7 +12,7 @@ from .bundle import Bundle
 from .difference import Difference, difference
 from .difference_page import DifferencePage
 from .folder import write_whole
-from .manifest import as_json, asked_of
+from .manifest import as_json
 from .matching import Version
 from .recheck import recheck, same_design
 from .sentences import EQUAL_CIRCUIT
@@ -45,7 +45,7 @@ def against(words: argparse.Namespace, new: Side, of_new: str, stop: Stop) -> Di
     bundle = checked(words.since, words, stop)
     of_old = same_design(bundle, stop) if words.yosys else ""
     shown = audited(bundle, "", Simulated(), False, words.yosys)
-    old = side_of(Version.of(bundle), table_of(bundle.rows, bundle.circuit(), asked_of(bundle.manifest)), shown.read)
+    old = side_of(Version.of(bundle), table_of(bundle, bundle.rows), shown.read)
     return difference(old, new, CHECKED + (f", and {of_old if of_old == of_new else EQUAL_CIRCUIT}, of both" if words.yosys else ""))
 
 

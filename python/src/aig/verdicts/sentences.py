@@ -21,7 +21,12 @@ NOT_SIMULATED = "Not compared with a simulator"
 NEVER_ASKED = "its condition is never true: nothing is asserted in any run"
 PERHAPS_ASKED = "whether its condition is ever true is not decided"
 CONDITION_NOT_ASKED = "whether it has a condition that is never true was not asked"
+IN_DOUBT = "in doubt"
 PERHAPS_KEPT = "whether some run keeps the assumptions is not decided"
+# What is said of a property of the input that has no verdict, and why it has none.
+NOT_LOOKED_AT = "not looked at"
+LIVE, JUSTICE = "it asks for liveness", "a justice property asks for liveness"
+ELSEWHERE = "it is in no instance below the top module, or under an `if` or `ifdef` that is constant"
 
 
 class Group(NamedTuple):

@@ -4,20 +4,21 @@ rows of a run, or a baseline, which is taken at its word."""
 from __future__ import annotations
 
 from dataclasses import replace
-from typing import Callable, List, NamedTuple, Optional, Sequence
+from typing import Callable, NamedTuple, Optional, Sequence
 
 from .bundle import Bundle
 from .changes import Known
 from .checked import CIRCUIT, CONFIRMED, Checked, Rejected, Wrong, expect, sum_of
-from .cycles import cycles_of
-from .decisions import BAD, MEANINGS, Asked, Judge, Judged, judge
+from .decisions import BAD, MEANINGS, Judge
 from .manifest import asked_of, is_of_older_formulas
 from .matching import Version
 from .recheck import check_row, meant
 from .row import Row
 from .sentences import in_words
 from .simulated import Simulated, of_facts
+from .table import Table
 from .tools import Stop
+from .unread import Unread, of_circuit
 
 # The results by their words. Those of a bound have the frames after them.
 _RESULTS = {in_words(result): result for result in MEANINGS}
@@ -28,27 +29,26 @@ BASELINE = ("the baseline is believed, but for what failed in it, which aig chec
 
 
 class Side(NamedTuple):
-    """A version, what is known of each of its assertions and covers, and its files."""
+    """A version, what is known of each of its assertions and covers, its files, and its properties without a verdict."""
 
     version: Version
     known: Sequence[Known]
     read: Callable[[str], bytes]
+    unread: Sequence[Unread] = ()
 
 
-def table_of(rows: Sequence[Row], circuit: bytes, asked: Asked, simulated: Simulated = Simulated()) -> List[Judged]:
-    """The table, with the moments of runs where there are any."""
-    has_runs = any(row.by == "run" for row in rows)
-    table = judge(rows, cycles_of(circuit).at, asked) if has_runs else judge(rows, asked=asked)
-    return simulated.beside(table)
+def table_of(bundle: Bundle, rows: Sequence[Row], simulated: Simulated = Simulated()) -> Table:
+    """The table of a bundle, whose rows are these."""
+    return Table.of(rows, bundle.circuit(), asked_of(bundle.manifest), bundle.unread, simulated)
 
 
 def checked_side(bundle: Bundle, simulated: Simulated) -> Side:
     """A bundle whose rows `aig` has checked."""
-    return side_of(Version.of(bundle), table_of(bundle.rows, bundle.circuit(), asked_of(bundle.manifest), simulated), bundle.summed)
+    return side_of(Version.of(bundle), table_of(bundle, bundle.rows, simulated), bundle.summed)
 
 
-def side_of(version: Version, table: Sequence[Judged], read: Callable[[str], bytes]) -> Side:
-    return Side(version, [Known.of(it) for it in table], read)
+def side_of(version: Version, table: Table, read: Callable[[str], bytes]) -> Side:
+    return Side(version, [Known.of(it) for it in table], read, table.unread)
 
 
 def baseline_of(bundle: Bundle, stop: Stop) -> Side:
@@ -62,7 +62,7 @@ def baseline_of(bundle: Bundle, stop: Stop) -> Side:
                 if checked is not None:
                     row.take(checked, sum_of(circuit))
             known.append(_believed(bundle, row, value.get("result")))
-    return Side(Version.of(bundle), known, bundle.summed)
+    return Side(Version.of(bundle), known, bundle.summed, [*of_circuit(circuit), *bundle.unread])
 
 
 def _check_of(row: Row, circuit: bytes, bundle: Bundle, stop: Stop) -> Optional[Checked]:

@@ -11,7 +11,6 @@ from .bundle import Bundle
 from .checked import CONSTRAINTS, Claim, Wrong, expect
 from .compare import last_line, write
 from .decide import Hint
-from .decisions import Judged
 from .difference import Difference, difference
 from .folder import CHANGES
 from .matching import Version, pairs_of
@@ -19,6 +18,7 @@ from .renamed import Renamed
 from .row import Row
 from .session import Session
 from .sides import BASELINE, baseline_of, side_of
+from .table import Table
 
 
 class Since:
@@ -71,7 +71,7 @@ class Since:
             files[role] = made or b""
         return files
 
-    def difference(self, table: Sequence[Judged], only: Optional[Collection[int]]) -> Difference:
+    def difference(self, table: Table, only: Optional[Collection[int]]) -> Difference:
         """What changed, of these rows of the run."""
         new = side_of(self._new, table, self._session.folder.read)
         found = difference(self._old, new, BASELINE, only)
