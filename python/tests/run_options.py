@@ -10,7 +10,7 @@ from pathlib import Path
 PYTHON = Path(__file__).resolve().parent.parent
 sys.path[:0] = [str(PYTHON.parent / "tests"), str(PYTHON / "src"), str(PYTHON / "tests")]
 from library import runs  # noqa: E402
-from options import free, kept, lists, parameters  # noqa: E402
+from options import free, kept, lists, parameters, unread  # noqa: E402
 
 
 def with_tools(part):
@@ -27,7 +27,7 @@ def with_tools(part):
 
 PARTS = {part.__name__: with_tools(part) for part in (
     parameters.values, parameters.places, parameters.refused, parameters.everywhere, parameters.hostile,
-    free.signals, free.kept, free.rejected, kept.circuits, lists.lists)}
+    free.signals, free.kept, free.rejected, kept.circuits, lists.lists, unread.unread, unread.same_top)}
 
 if __name__ == "__main__":
     runs.main(__doc__, PARTS)

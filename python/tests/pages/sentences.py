@@ -5,12 +5,13 @@ import html
 import re
 from dataclasses import replace
 
+from aig.verdicts import checked
 from aig.verdicts.cycles import cycles_of
 from believed import judge_some as judge
 from aig.verdicts.page import Page, Results
 from aig.verdicts.row import Row
 from aig.verdicts.table import Table
-from believed import believed
+from believed import SUM, believed, check_of
 
 LATCHES = 30
 # A certificate of two claims over one latch, without a gate.
@@ -81,7 +82,8 @@ def each_kind(constraints=1):
     for _ in range(5):
         made.add("assert", "induction", 1, base=proof, step=step)
     made.add("assert", "run", 1, witness=run_of(19, 1))
-    kept = believed(Row(-1, "constraints", ""), "alive", "kept", 3, {"witness": "alive.wit"})
+    kept = Row(-1, "constraints", "")
+    kept.take(replace(check_of(-1, "kept", 3, {"witness": "alive.wit"}), is_lasting=True, key=checked._KEY), SUM)
     made.files["alive.wit"] = b"1\nb0\n" + b"0" * LATCHES + b"\n0\n0\n0\n.\n"
     made.rows.insert(0, kept)
     return made
@@ -142,7 +144,7 @@ WANTED = {
 # What the page says above, and of each group.
 ABOVE = (
     "15 assertions: 3 fail, 9 hold, 1 hold for the frames searched, 1 vacuous, 1 undecided; 3 covers: 1 reached, "
-    "1 never reached, 1 not reached within the bound.",
+    "1 never reached, 1 not reached within the bound; 1 in doubt.",
     "Circuit of 1 input, 30 latches and 0 gates, 1 assumption. A run of 31 frames keeps the assumptions: 0.witness. "
     "alive.wit comes back to a state, so they can be kept for ever. SHA-256 0123456789abcdef…",
     "Note: note 0.Note: note 1.Note: note 2.Note: note 3.2 more notesNote: note 4.Note: note 5.",

@@ -26,7 +26,7 @@ from .decisions import INTERRUPTED, OPEN, REJECTED, UNREADABLE
 from .demo import written
 from .design import Design, read_aiger
 from .file_lists import listed
-from .folder import PAGE, pack, write_whole
+from .folder import PAGE, folder_of, pack, write_whole
 from .made import made, reading_of
 from .manifest import as_json, rows_as_json
 from .matching import Version
@@ -132,13 +132,14 @@ def _run(words: argparse.Namespace, stop: Stop) -> int:
     if design.was_made_before and not words.quiet:
         _said("an earlier run made the circuit, of the same sources, options and programs; --fresh makes it again")
     only = chosen(design, words.only)
-    path = words.out or Path(f"{design.name}.verdicts")
+    path = folder_of(words.out, design.name, [*words.files, *words.asserts])
     bounds = Bounds(words.frames, words.conflicts, words.seconds, words.megabytes, words.proof_megabytes)
     named = opened(words.since, path)
     depths = {it: frames for name, frames in words.depths for it in chosen(design, [name]) or ()}
     session = Session(design, path, Plan(bounds, programs, only, depths), stop)
     with contextlib.closing(session):
         session.open(words.jobs)
+        session.folder.note_files([*words.files, *words.asserts])
         since = since_of(named, str(words.since), session)
         session.hints = since.hints(words.keep_open) if since else {}
         if not words.quiet:
