@@ -18,11 +18,12 @@ DESIGNS = {
     "in a procedure": ("always @(posedge clk) assert property (s_eventually q);\nendmodule\n", [(LIVE, "m.sv:4")]),
     "at a clock": ("y: assert property (@(posedge clk) a |=> q);\nassert property (@(posedge clk)\n s_eventually q); cover property "
                    "(@(posedge clk) s_always q);\nendmodule\n", [(LIVE, "m.sv:5"), (LIVE, "m.sv:6")]),
-    "in another module": ("endmodule\nmodule beside(input b);\nalways @* assert (b);\nendmodule\n", [(ELSEWHERE, "m.sv:6")]),
+    "in another module": ("beside u(q);\nwire unused;\nendmodule\nmodule beside(input b);\nif (0) always @* assert (b);\nendmodule\n",
+                          [(ELSEWHERE, "m.sv:8")]),
     "under a constant": ("parameter W = 0;\nif (W) always @* assert (a);\n`ifdef NEVER\nalways @* cover (a);\n`endif\nendmodule\n",
                          [(ELSEWHERE, "m.sv:5"), (ELSEWHERE, "m.sv:7")]),
-    "in a macro": ("`define CHECK(c) assert (c)\nendmodule\nmodule beside(input b);\nalways @* begin `CHECK(b); `CHECK(!b); end\nendmodule\n",
-                   [(ELSEWHERE, "m.sv:7"), (ELSEWHERE, "m.sv:7")]),
+    "in a macro": ("`define CHECK(c) assert (c)\nif (0) always @* begin `CHECK(a); `CHECK(!a); end\nendmodule\n",
+                   [(ELSEWHERE, "m.sv:5"), (ELSEWHERE, "m.sv:5")]),
     "in a task": ("task t; assert (a); endtask\nendmodule\n", [(ELSEWHERE, "m.sv:4")]),
     "none": ("endmodule\n", []),
 }
@@ -61,6 +62,7 @@ def unread(_, tally, __):
         status = 4 if wanted else 0
         said_by(tally, name, OF_M, status, wanted)
         rechecked(tally, name, status, wanted, "--yosys")
+    chosen(tally)
     Path("just.aag").write_text(JUSTICE)
     shutil.rmtree("out", ignore_errors=True)
     wanted = [("a justice property asks for liveness", it) for it in ("j0", "j1")]
@@ -72,6 +74,19 @@ def unread(_, tally, __):
     tally.compare("unread: `--only` names others", (status, "not looked" in text), (5, False))
     compared(tally)
     forms(tally)
+
+
+def chosen(tally):
+    """Assertions of modules that are not below the one that `--top` names are not asked for. Those below it are, and all of them
+    if Yosys finds the top module."""
+    Path("m.sv").write_text(HEAD + "low u(a);\nendmodule\nmodule low(input c);\nendmodule\nmodule beside(input b);\n"
+                            "always @* assert (b);\nendmodule\n")
+    for words, status in (((), 4), (("--top", "m"), 0)):
+        found, _, err = called("run", "m.sv", "--no-simulator", *words, *SHORT, "-o", "chosen", "--fresh")
+        tally.compare(f"unread: beside {words or 'the top module'}", (found, "m.sv:9: no row" in err), (status, True))
+    Path("m.sv").write_text(HEAD + "if (0) always @* assert (a); endmodule module beside(input b); always @* assert (b); endmodule\n")
+    found, _, err = called("run", *OF_M, *SHORT, "-o", "chosen")
+    tally.check("unread: two modules on a line", found == 4 and "; 2 not looked at" in err, (found, err))
 
 
 def rechecked(tally, name, status, wanted, *words):

@@ -15,6 +15,7 @@ from ..entries import listed, readable
 from . import findings, left_out, names, netlist, script, wiring, yosys
 from .assertions import Copies, copies
 from .labels import AS_BLOCKS
+from .misread import used_modules
 from .lax import ranges_of_words
 from .ranges import Ranges
 from .registers import registers
@@ -269,6 +270,8 @@ def _unique(labels: Sequence[str]) -> List[str]:
 class _Made:
     """What Yosys makes of the sources in a folder."""
 
+    unread: List[Unread]
+
     def __init__(self, folder: Path, read: Sources, how: Reading, stop: Stop, left: Sequence[str]):
         runs = yosys.Yosys(folder, how.yosys, how.seconds, stop)
         first, has_blocks = runs.read_any([f"sources/{name}" for name in read.read], how.top, how.defines)
@@ -303,6 +306,9 @@ class _Made:
         self._rows(found, order, netlist.checks(modules, self.top))
         self.notes[:0] = read.left_out()
         self._without_rows(read, found.values(), [*findings.live_places(modules), *left])
+        if how.top:  # the assertions of modules that are not below it are not asked for
+            used = used_modules(runs.text("read.il"))
+            self.unread = [it for it in self.unread if used & {*(read.modules_at(it.file, it.line) or used)}]
         self.notes += [note for note in [untried(version(how.yosys, stop))] if note]
         module, clocked = flat[self.top], runs.modules("clocked.json")
         ports = list(module["ports"])
