@@ -27,7 +27,7 @@ CALLERS = ROOT / "crates" / "aig_tests"
 MARK = re.compile(r" *(?:-|\d+\.) ")
 # What an auditor of a `recheck` reads, the pages that say so, and the most lines that such a file may have.
 AUDITED = tuple(ROOT / "python" / "src" / "aig" / "verdicts" / name
-                for name in ("checked.py", "decisions.py", "sentences.py"))
+                for name in ("checked.py", "decisions.py", "sentences.py", "table.py"))
 NAMES_AUDITED = ("docs/VERDICTS.md", )
 MOST_AUDITED = 270
 

@@ -82,7 +82,7 @@ def emptied(_, tally, __):
         is_there = name in SAID or name == ".lock" or (path / name).read_bytes() != b""
         tally.check(f"emptied: {name}: after a run", is_there and why_rejected(path) is None, why_rejected(path))
     run("ends", ENDS, SMALL_SOLVER)
-    tally.compare("emptied: a contradiction", verdicts_of("ends.verdicts")[-1], f"no run of {FRAMES} frames")
+    tally.compare("emptied: a contradiction", verdicts_of("ends.verdicts")[-1], f"no run of 20 frames")
     without(tally, Path("ends.verdicts"), "alive.drat", "constraints: aig refute: proof: no refutation")
     for name, said in OF_YOSYS.items():
         without(tally, kept("every"), name, said)

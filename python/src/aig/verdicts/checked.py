@@ -1,6 +1,5 @@
-"""Where each verdict begins. `check` has `aig` answer the commands of a claim, and makes a `Checked` of its answers.
-Nothing else makes one, and nothing else is a verdict: rows, tables, pages and exit statuses take a `Checked`, and
-decisions.py says what it means. Who audits a `recheck` reads these two files."""
+"""Where each verdict begins. `check` has `aig` answer the commands of a claim, and makes a `Checked` of its answers. Nothing
+else makes one, or is a verdict: rows, tables, pages and statuses take a `Checked`, and decisions.py says what it means."""
 
 from __future__ import annotations
 
@@ -152,11 +151,9 @@ class Claim:
         if self.by == "bound":
             return [self._bounded(self.frames, files["base"])]
         if self.by == "kept":
-            words = ["check", "--alive", f"--frames={self.frames}", CIRCUIT, files["witness"]]
-            return [Command(self.line, words)]
+            return [Command(self.line, ["check", "--alive", f"--frames={self.frames}", CIRCUIT, files["witness"]])]
         if self.by == "alive":
-            words = ["refute", "--alive", f"--frames={self.frames}", self.circuit, files["alive"]]
-            return [Command(self.line, words)]
+            return [Command(self.line, ["refute", "--alive", f"--frames={self.frames}", self.circuit, files["alive"]])]
         return []
 
     def _bounded(self, frames: int, proof: str) -> Command:
@@ -179,6 +176,7 @@ class Checked:
     sums     those of the files, by role
     key      that of this module
     cuts     the file of what was cut from the circuit; none if the commands were about all of it
+    is_lasting  whether it is a run that comes back to a state, so that it can go on for ever
     """
 
     claim: Claim
@@ -210,8 +208,7 @@ class Checked:
 
     def is_about(self, claim: Claim, circuit: str, files: Mapping[str, bytes]) -> bool:
         """Whether it is about this claim, circuit and files, by their content. The files are there by their roles."""
-        return (self.claim, self.circuit) == (claim, circuit) and self.sums == {
-            role: sum_of(data) for role, data in files.items()}
+        return (self.claim, self.circuit, self.sums) == (claim, circuit, {role: sum_of(data) for role, data in files.items()})
 
 
 def check(claim: Claim, circuit: bytes, read: Callable[[str], bytes], stop: Stop) -> Checked:
