@@ -15,7 +15,7 @@ from .matching import Version
 from .recheck import check_row, meant
 from .row import Row
 from .sentences import in_words
-from .simulated import Simulated, of_facts
+from .simulated import Said, Simulated, of_facts
 from .table import Table
 from .tools import Stop
 from .unread import Unread, of_circuit
@@ -24,6 +24,7 @@ from .unread import Unread, of_circuit
 _RESULTS = {in_words(result): result for result in MEANINGS}
 # Where the other side comes from.
 CHECKED = "aig checked both bundles; that the old one is of the version before is believed"
+OF_BUNDLE = "the simulator of the bundle"
 BASELINE = ("the baseline is believed, but for what failed in it, which aig checked: it has to come from a place that "
             "nobody else can write, as the main branch")
 
@@ -43,8 +44,15 @@ def table_of(bundle: Bundle, rows: Sequence[Row], simulated: Simulated = Simulat
 
 
 def checked_side(bundle: Bundle, simulated: Simulated) -> Side:
-    """A bundle whose rows `aig` has checked."""
-    return side_of(Version.of(bundle), table_of(bundle, bundle.rows, simulated), bundle.summed)
+    """A bundle whose rows `aig` has checked. Nothing of its notes is shown, nor what its simulator said but for the word."""
+    rows = [replace(row, notes=[], origin="") for row in bundle.rows]
+    return side_of(Version.of(bundle), table_of(bundle, rows, _in_our_words(simulated)), bundle.summed)
+
+
+def _in_our_words(said: Simulated) -> Simulated:
+    """What a simulator said, without the sentences of whoever made the bundle."""
+    rows = {at: Said(it.word, f"{OF_BUNDLE} {it.word}") for at, it in said.rows.items()}
+    return said._replace(by=OF_BUNDLE, circuit="", rows=rows) if said.by else said
 
 
 def side_of(version: Version, table: Table, read: Callable[[str], bytes]) -> Side:
@@ -61,7 +69,7 @@ def baseline_of(bundle: Bundle, stop: Stop) -> Side:
                 expect(checked is not None, f"nothing shows the verdict of {row.label}")
                 if checked is not None:
                     row.take(checked, sum_of(circuit))
-            known.append(_believed(bundle, row, value.get("result")))
+            known.append(_believed(bundle, replace(row, notes=[], origin=""), value.get("result")))
     return Side(Version.of(bundle), known, bundle.summed, [*of_circuit(circuit), *bundle.unread])
 
 
@@ -90,7 +98,7 @@ def _believed(bundle: Bundle, row: Row, words: str) -> Known:
     """What a baseline says of a row."""
     result = _result(row, words)
     if row.checked is not None:
-        judged, = of_facts(bundle.manifest["simulated"]).beside([Judge([row]).of(row)])
+        judged, = _in_our_words(of_facts(bundle.manifest["simulated"])).beside([Judge([row]).of(row)])
         known = Known.of(judged)
         expect(known.result == result or not known.fails, f"result of {row.label}")
         return known
