@@ -127,6 +127,12 @@ def alive(_, tally, __):
         page = Path("ends.verdicts/index.html").read_text()
         tally.compare(f"alive: they {name}, on the page", ("for ever is not known" in page, "kept for ever" in page),
                       (is_told, not is_told))
+        manifest = manifest_of("ends.verdicts")
+        manifest["bounds"]["frames"] = LEAST_KEPT + 10
+        write_manifest(Path("ends.verdicts"), manifest)
+        status, _, err = called("recheck", "ends.verdicts")
+        tally.check(f"alive: they {name}, and more frames were asked", (status, "in doubt: the assumptions are known" in err)
+                    == ((4, True) if is_told else (0, False)), (status, err))
     witness = (path / "alive.wit").read_bytes()
     for text, frames, why in ((witness.replace(b"\n1", b"\nx", 3), LEAST_KEPT, "prints 'constraint 0 0'"),
                               (witness, LEAST_KEPT + 1, f"prints 'frames {LEAST_KEPT}'"), (b"", 4, "aig check: witness: text")):

@@ -152,3 +152,12 @@ def same_top(_, tally, __):
     tally.compare("same top: a list that is none", run("two/m.v")[0], 5)
     tally.compare("same top: the folder that is named", run("one/m.v", "-o", "m.verdicts")[0], 0)
     tally.compare("same top: is that of its files from now on", run("two/m.v")[0], 1)
+    stub = HEAD + "endmodule\n" + HEAD.replace("module m(", "module stub(").replace("q <= a", "q <= 0") + "endmodule\n"
+    Path("stub.v").write_text(stub)
+    called("run", "stub.v", "--top", "stub", "--no-simulator", *SHORT, "-o", "stub")
+    tally.compare("same top: a stub", called("recheck", "stub", "--yosys")[0], 0)
+    manifest = manifest_of("stub")
+    manifest["name"] = "m"
+    write_manifest(Path("stub"), manifest)
+    status, _, err = called("recheck", "stub", "--yosys")
+    tally.check("same top: a stub as the module", status == 1 and "the top module of the sources is stub" in err, (status, err))

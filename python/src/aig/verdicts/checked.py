@@ -208,7 +208,8 @@ class Checked:
 
     def is_about(self, claim: Claim, circuit: str, files: Mapping[str, bytes]) -> bool:
         """Whether it is about this claim, circuit and files, by their content. The files are there by their roles."""
-        return (self.claim, self.circuit, self.sums) == (claim, circuit, {role: sum_of(data) for role, data in files.items()})
+        return (self.claim, self.circuit) == (claim, circuit) and self.sums == {
+            role: sum_of(data) for role, data in files.items()}
 
 
 def check(claim: Claim, circuit: bytes, read: Callable[[str], bytes], stop: Stop) -> Checked:
@@ -216,8 +217,7 @@ def check(claim: Claim, circuit: bytes, read: Callable[[str], bytes], stop: Stop
     says what is not as claimed."""
     texts: Dict[str, bytes] = {}
 
-    def text(name: str) -> bytes:
-        """The file, which is read once: it may change meanwhile."""
+    def text(name: str) -> bytes:  # which is read once: it may change meanwhile
         if name not in texts:
             texts[name] = read(name)
         return texts[name]
