@@ -189,7 +189,7 @@ def words_of_others(tally, manifest):
     failing = next(it["position"] for it in manifest["rows"] if it.get("result") == "fails")
     manifest["simulated"] = {"by": said, "circuit": said, "agrees": False, "rows": {str(failing): ["disagrees", said]}}
     write_manifest(path, manifest)
-    status, out, err = called("compare", path, path, "--all", "--page", "others.html", "--junit", "others.xml")
+    status, out, err = called("compare", kept("every"), path, "--all", "--page", "others.html", "--junit", "others.xml")
     texts = (out, err, open("others.html", encoding="utf-8").read(), open("others.xml", encoding="utf-8").read())
     tally.check("compares: no words of a bundle", status in (0, 4) and not any(said in it for it in texts), (status, [said in it for it in texts]))
     tally.check("compares: the word of its simulator counts", "disagrees" in out, out)

@@ -12,7 +12,7 @@ from aig.verdicts.decisions import Asked, Judge
 from aig.verdicts.decisions import judge as judge_all
 from aig.verdicts.row import Row
 from aig.verdicts.table import Table, next_command, open_notes, plain
-from aig.verdicts.unread import Unread, Why
+from aig.verdicts.unread import Unread, Why, more_than
 from believed import SUM, believed, check_of
 
 # How a row was decided: the verdict, by what, the frames.
@@ -79,6 +79,9 @@ def judging(_, tally, __):
         tally.compare(f"judging: a property without a verdict beside {missing}", (table.status, table.checked),
                       (wanted, "1 of 2 checked by aig"))
     whole(tally)
+    one, other = Unread(Why.LIVENESS, "file.v", 9), Unread(Why.LIVENESS, "file.v", 12)
+    tally.compare("judging: what is unread now", [more_than([one], [other]), more_than([one], [other, one]), more_than([], [one])],
+                  [[], [one], [one]])
     notes(tally)
     following(tally)
     together(tally)
@@ -209,6 +212,8 @@ def said_of_each(tally):
             ("doubt", doubted, "skipped", ["induction of 2", doubted[0].doubt, "0.base.drat"])):
         case, = tree.fromstring(Table(table).junit("d", {})).iter("testcase")
         tally.compare(f"judging: JUnit of {name}", [(it.tag, it.text.split("\n")) for it in case], [(tag, said)])
+        tally.compare(f"judging: the reason in JUnit of {name}", case[0].get("message"),
+                      f"holds: {doubted[0].doubt}" if name == "doubt" else "vacuous")
     tally.check("judging: the table of a doubt", f"  induction of 2; {doubted[0].doubt}  0.base.drat" in Table(doubted).text())
     denied(tally)
     unfound = rows("assert", "bound", "proof")

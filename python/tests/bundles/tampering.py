@@ -166,8 +166,8 @@ def alive(_, tally, __):
         manifest["format"] = form
         manifest["rows"][0].update(row)
         write_manifest(path, manifest)
-        status, _, err = called("recheck", path, "--page", "page.html", "--junit", "j.xml")
-        is_said = all("keeps the assumptions is not decided" in Path(it).read_text() for it in ("page.html", "j.xml"))
+        status, out, err = called("recheck", path, "--page", "page.html", "--junit", "j.xml", "--json")
+        is_said = all("keeps the assumptions is not decided" in it for it in (Path("page.html").read_text(), Path("j.xml").read_text(), out))
         tally.check(f"alive: {name}: no row is good", status == 4 and is_said, (status, err))
 
 
