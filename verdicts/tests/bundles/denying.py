@@ -4,8 +4,8 @@ from __future__ import annotations
 
 from pathlib import Path
 
-from aig_verdicts.audit.decisions import line_of_run
 from aig_verdicts.audit.simulated import Said, Simulated, are_facts, of_facts
+from aig_verdicts.audit.table import Table
 from bundles.common import called, judged, kept, manifest_of, write_manifest
 from bundles.judging import FOUND, _row, judge
 
@@ -71,7 +71,7 @@ def facts(tally):
     unknown = Simulated("S 1", "S 1 cannot play the design", None, {})
     table = judge([_row(0, "assert", "proof")])
     tally.compare("denying: nothing compared", (of_facts(unknown.facts()), are_facts(unknown.facts()),
-                                                unknown.beside(table)[0].status, line_of_run(table, True, unknown)),
+                                                unknown.beside(table)[0].status, Table(table).line_of_run(True, unknown)),
                   (unknown, True, 0, "1 assertion: 1 hold; not compared with a simulator"))
     tally.compare("denying: no facts", (Simulated().facts(), of_facts({})), ({}, Simulated()))
     tally.compare("denying: right facts", [are_facts(it) for it in (RIGHT, {}, denied.facts())], [True] * 3)

@@ -14,6 +14,7 @@ from aig.program import OftenRead
 from .checked import CIRCUIT, Wrong, expect, sum_of
 from .manifest import MANIFEST, PLAIN, WITH_CUTS, files_of, parsed, row_of
 from .row import Row
+from .unread import Unread, of_sources
 
 MOST_BYTES = 1 << 30
 # Of all files of a .zip together, once they are unpacked.
@@ -120,6 +121,7 @@ class Bundle:
         self._most = most_bytes
         self.manifest: Dict[str, Any] = parsed(self._read(MANIFEST, min(most_bytes, MOST_OF_MANIFEST)))
         self.rows: List[Row] = [row_of(value) for value in self.manifest["rows"]]
+        self.unread: List[Unread] = of_sources(self.manifest["unread"])
         has_cuts = any(row.claim is not None and row.claim.cut for row in self.rows)
         expect((self.manifest["format"] == WITH_CUTS) == has_cuts, "format of MANIFEST.json")
         names = files_of(self.manifest, self.rows)

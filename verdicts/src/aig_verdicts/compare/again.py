@@ -45,6 +45,7 @@ def same_design(bundle: Bundle, stop: Stop = Stop()) -> str:
         raise Wrong(f"Yosys makes another circuit of the sources: {difference}{other}")
     expect(again.name == bundle.manifest["name"],
            f"the top module of the sources is {again.name}, and {bundle.manifest['name']!r} in the bundle")
+    bundle.unread = again.unread  # whatever the sender says of the sources
     translated = {name: bundle.summed(f"translated/{name}") for name in bundle.manifest["translated"]}
     expect(again.translated == translated, "the translation of the assertions is another one")
     places = {it.position: it for it in again.assertions}

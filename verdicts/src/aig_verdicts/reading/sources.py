@@ -18,6 +18,7 @@ _QUIET = re.compile(r'//[^\n]*|/\*(?:[^*]|\*(?!/))*(?:\*/)?|"(?:\\.|[^"\\\n])*"'
 _CHECK = re.compile(r"(?<!`)\b(?:assert|cover)\b")
 _MACRO = re.compile(r"`define[ \t]+(\w+)((?:\\\r?\n|[^\n])*)")
 _USE = re.compile(r"`(\w+)")
+_BODY = re.compile(r"\b(?:macro)?module\s+(?:automatic\s+|static\s+)?(\w+|\\\S+)[\s\S]*?\bendmodule\b")
 # A delay comes after these; after a name `#` has parameters.
 _DELAY = re.compile(r"(?:[;=)\]:]|\b(?:begin|end|else|always|initial|assign|wire|and|or|not|buf|nand|nor|xor|xnor)\b)\s*#(?!\s*\(\s*parameter\b)\s*[\w`(.]")
 _LIST = re.compile(r"\balways\s*@\s*(?:\((?![^;]*?\b(?:posedge|negedge)\b)\s*[^*\s][^;]*?\)|\w)")
@@ -134,6 +135,15 @@ class Sources:
             for number, line in enumerate(_MACRO.sub(lambda it: "\n" * it[0].count("\n"), text).split("\n"), 1):
                 for _ in range(_checks_in(line, macros)):
                     yield name, number
+
+    def modules_at(self, file: str, line: int) -> Set[str]:
+        """The names of the modules that have words on a line."""
+        text, found = _plain(self.texts[file]), set()
+        for it in _BODY.finditer(text):
+            first = text.count(NEWLINE, 0, it.start()) + 1
+            if first <= line <= first + it[0].count(NEWLINE):
+                found.add(it[1].lstrip(chr(92)))
+        return found
 
     def places(self, pattern: Pattern[str]) -> List[str]:
         """Where a pattern is in the sources, but for comments and texts."""
