@@ -215,7 +215,8 @@ def simulators(_, tally, __):
         is_open = said["agrees"] is None and "cannot play" in said["circuit"]
         tally.check(f"simulator: {name}: what it says", is_open, f"{said} {err}")
         last = err.rstrip().split("\n")[-1]
-        tally.check(f"simulator: {name}: the last line", f"; not compared with a simulator: {name}/index.html" in last, last)
+        is_said = "; not compared with a simulator: " in last and "cannot play the design: " in last
+        tally.check(f"simulator: {name}: the last line", is_said and last.endswith(f": {name}/index.html"), last)
     right = called("run", "m.v", "--out", "right", *shown)
     tally.compare("simulator: one that works", (right[0], right[1]), plain[:2])
     said = json.loads(Path("right/MANIFEST.json").read_text())["simulated"]

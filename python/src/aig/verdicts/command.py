@@ -41,7 +41,7 @@ from .row import Row
 from .runs import comes_back
 from .sections import Pictures
 from .needs_page import Proofs
-from .sentences import NOT_COMPARED, no_proof_needs, of_needs, short_runs
+from .sentences import NOT_COMPARED, NOT_SIMULATED, no_proof_needs, of_needs, short_runs
 from .session import STOPPED, Plan, Session
 from .sides import side_of, table_of
 from .since import Since, opened, since_of
@@ -226,7 +226,9 @@ def cores(words: argparse.Namespace, stop: Stop) -> int:
 
 def _simulate(words: argparse.Namespace, session: Session, seconds: float) -> None:
     """Has a simulator play the runs, and compare the circuit, if there are sources and a simulator."""
-    if session.design.sources and not missing(words.simulator):
+    if session.design.sources and missing(words.simulator):
+        session.simulated = Simulated(why=missing(words.simulator))
+    elif session.design.sources:
         session.write(True)
         rows = [row for row in session.rows if session.only is None or row.position in session.only]
         try:
@@ -234,7 +236,7 @@ def _simulate(words: argparse.Namespace, session: Session, seconds: float) -> No
             bounds = PlayBounds(seconds, words.jobs)
             session.simulated = simulated(bundle, rows, words.simulator, bounds, session.stop)
         except (ToolFailed, Crashed) as error:
-            session.simulated = Simulated(circuit=f"Not compared with a simulator: {error}")
+            session.simulated = Simulated(circuit=f"{NOT_SIMULATED}: {error}", why=str(error))
         session.write(True)
 
 

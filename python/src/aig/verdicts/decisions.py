@@ -12,7 +12,7 @@ from .checked import CONFIRMED, CONSTRAINTS, UNREACHABLE, Checked, Wrong, expect
 from .cycles import Moment
 from .pieces import Needs
 from .row import LEFT_OUT, UNDECIDED, Row
-from .sentences import DISAGREES, NOT_COMPARED, NOT_SIMULATED, Remark
+from .sentences import DISAGREES, NOT_COMPARED, Remark
 
 if TYPE_CHECKING:
     from .simulated import Simulated
@@ -264,7 +264,7 @@ def compared(has_sources: bool, made: str, said: Simulated) -> str:
         return yosys or f"; {_inside(NOT_COMPARED)}"
     if said.agrees is False or DISAGREES in (it.word for it in said.rows.values()):
         return f"{yosys}; ALARM: {said.by} disagrees, so the circuit may not be that of the sources"
-    means = "which is no proof" if said.is_compared else "so nothing is said of the sources"
+    means = "which is no proof" if said.as_in else "so nothing is said of the sources"
     return f"{yosys}; {said.circuit}, {means}"
 
 
@@ -276,7 +276,7 @@ def line_of_recheck(table: Sequence[Judged], count: int, of_sources: str, are_ow
 
 def line_of_run(table: Sequence[Judged], has_sources: bool, said: Simulated) -> str:
     """The last line of `run`, without the page."""
-    return summary(table) + (f"; {_inside(NOT_SIMULATED)}" if has_sources and said.agrees is None else "")
+    return summary(table) + (f"; {_inside(said.silence)}" if has_sources and said.agrees is None else "")
 
 
 def _inside(sentence: str) -> str:

@@ -8,10 +8,11 @@ import tempfile
 from dataclasses import dataclass, field
 from functools import cached_property
 from pathlib import Path
-from typing import Dict, Sequence
+from typing import ClassVar, Dict, Sequence
 
 from ..tools import Limits, Ran, Stop, found, run
-from .words import NotReplayed
+from .words import BENCH as BENCH_MODULE
+from .words import NotReplayed, Unreadable
 from .lines import numbered
 
 # How long a simulator may take, by the processor and by the clock, and how much it may write.
@@ -61,6 +62,7 @@ class Simulator:
     stop: Stop
     data: Dict[str, bytes] = field(default_factory=dict)
     is_endless: bool = False
+    has_x: ClassVar[bool] = True
 
     def __post_init__(self) -> None:
         beside = Path(found(self.program)).with_name("vvp")
@@ -73,6 +75,15 @@ class Simulator:
             ran = run([self.program, "-V"], Path(name), Limits(MOST_SECONDS, processor_seconds=SECONDS), self.stop)
         words = re.match(r"Icarus Verilog version ([\w.]+)", ran.out.decode("utf-8", "replace"))
         return f"Icarus Verilog {words[1]}" if words else Path(self.program).name
+
+    @property
+    def limits(self) -> str:
+        """What it does not tell of a design, in words."""
+        return ""
+
+    def command(self, macros: str, name: str) -> str:
+        """What plays a testbench that is in a file."""
+        return f"iverilog -g2012 {macros} -s {BENCH_MODULE} -o aig.vvp {name} && vvp -n aig.vvp"
 
     def preprocessed(self, sources: Dict[str, str], names: Sequence[str], defines: Sequence[str]) -> str:
         """The sources of these names, one after the other, after the simulator's own preprocessor."""
@@ -114,7 +125,7 @@ class Simulator:
                 raise Rejected((made.err + made.out).decode("utf-8", "replace"))
             ran = self._ran([self._vvp, "-n", "aig.vvp"], folder)
         if ran.status != 0:
-            raise NotReplayed(f"vvp: {ran.said[-200:]}")
+            raise (Unreadable if (ran.status or 0) < 0 else NotReplayed)(f"vvp: {ran.said[-200:]}")
         return ran.out.decode("latin-1")
 
 
