@@ -15,6 +15,7 @@ PYTHON = Path(__file__).resolve().parent.parent
 sys.path[:0] = [str(PYTHON.parent / "tests"), str(PYTHON / "src"), str(PYTHON / "tests")]
 from bundles.common import called, manifest_of, tool, write_manifest  # noqa: E402
 from library import runs, supervised  # noqa: E402
+import replays  # noqa: E402
 
 # A search of one frame is enough: the circuit is compared.
 SHORT = ("--frames", "1", "--seconds", "5", "--abc", "", "--no-conditions", "--no-simulator", "--jobs", "1", "--quiet")
@@ -383,4 +384,4 @@ def in_folder(part):
 
 if __name__ == "__main__":
     runs.main(__doc__, {part.__name__: in_folder(part) for part in (
-        alike, unlike, testbenches, simulators, hidden, denied, auditors, forged, senders, nothing)})
+        alike, unlike, testbenches, simulators, hidden, denied, auditors, forged, senders, nothing, *replays.PARTS)})

@@ -18,6 +18,8 @@ from .lines import numbered
 # How long a simulator may take, by the processor and by the clock, and how much it may write.
 SECONDS, MOST_SECONDS, MEGABYTES = 60, 1200.0, 256
 ENDLESS = f"a simulation takes over {SECONDS} s of processor time, or writes over {MEGABYTES} MB"
+# How long sources may be once their macros are there.
+MOST_TEXT = 1 << 24
 BENCH, BEGIN = "aig_tb.v", "aig.begin.v"
 # Icarus Verilog reads the same text as others: it does not have a macro that says which program reads it.
 _AS_OTHERS = "`undef __ICARUS__\n"
@@ -100,6 +102,8 @@ class Simulator:
             made = folder / "aig.pre.v"
             if not made.exists():
                 raise NotReplayed(f"{self.program} writes nothing")
+            if made.stat().st_size > MOST_TEXT:
+                raise NotReplayed(f"its sources have over {MOST_TEXT >> 20} MB after the preprocessor")
             return made.read_text(encoding="latin-1")
 
     def _ran(self, words: Sequence[str], folder: Path) -> Ran:

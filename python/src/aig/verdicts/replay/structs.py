@@ -47,7 +47,7 @@ class Structs:
         direct = re.search(rf"(struct\s+packed[^;{{]*\{{[^{{}}]*\}})\s*(?:\w+\s*,\s*)*{re.escape(name)}\b", module)
         if direct:
             return direct[1]
-        types = "|".join(sorted(map(re.escape, self._types), key=len, reverse=True)) or "(?!)"
+        types = "|".join(sorted((re.escape(it) for it in self._types), key=len, reverse=True)) or "(?!)"
         declared = re.search(rf"(?:\b\w+\s*::\s*)?\b({types})\s+(?:[A-Za-z_]\w*\s*(?:=[^,;()]*)?,\s*)*{re.escape(name)}\b", module)
         return self._named(declared[1]) if declared else None
 
