@@ -5,19 +5,22 @@ import json
 import os
 import re
 import shutil
-import subprocess
 import sys
 from pathlib import Path
 
-from bundles.common import called, tool
+from bundles.common import called, manifest_of, tool, write_manifest
 from library import runs
 
 from aig.circuit import Circuit
 from aig.verdicts.bundle import Bundle
 from aig.verdicts.recheck import recheck
+from aig.verdicts.replay.outcome import Word
 from aig.verdicts.replay.replay import Replay
+from aig.verdicts.replay.run import Bounds, simulated
 from aig.verdicts.replay.simulator import Simulator
 from aig.verdicts.replay.stimulus import Dice
+from aig.verdicts.replay.words import NotReplayed
+from aig.verdicts.simulated import AGREES
 from aig.verdicts.timing import of_facts
 from aig.verdicts.tools import Stop
 
@@ -57,6 +60,9 @@ module m(input logic clk, input p::word_t w, output p::state_t s, output logic [
     never: assert property (@(posedge clk) s != p::DONE);
 endmodule
 """
+# A function of C that a source calls, and a comment by which Verilator would leave something out.
+PRINTS = 'package p; import "DPI-C" function int puts(input string text); int shown = puts("aig own");'
+COMMENT = "n + w.code + /*verilator translate_off*/ 1 /*verilator translate_on*/ + 0"
 
 
 def needs(*names):
@@ -126,34 +132,44 @@ def verilator(_, tally, __):
     """What Icarus Verilog cannot read is played by Verilator. Another reading is seen there, too."""
     needs("yosys", "iverilog", "verilator", "g++", "make")
     Path("m.sv").write_text(ENUM)
-    err = called("run", "m.sv", "--out", "out", *SHORT)[2]
-    said = said_in("out")
-    if not said["by"].startswith("Verilator"):
-        raise runs.LeftOut(f"{said['by']} reads an enum in a package")
-    tally.check("verilator: as in it", said["agrees"] is True and ": as in Verilator" in said["circuit"], f"{said} {err}")
-    tally.compare("verilator: the row", said["rows"].get("0", [""])[0], "agrees")
-    path = Path("out/sources/m.sv")
-    path.write_text(path.read_text().replace("n + w.code", "n - w.code"))
-    manifest = json.loads(Path("out/MANIFEST.json").read_text())
-    sums = subprocess.run(["sha256sum", "out/sources/m.sv"], capture_output=True, text=True, check=True).stdout.split()[0]
-    manifest["sums"]["sources/m.sv"] = sums
-    Path("out/MANIFEST.json").write_text(json.dumps(manifest))
-    status, _, err = called("recheck", "out", "-q", "--simulate")
-    tally.check("verilator: another reading", status == 4 and "ALARM: Verilator" in err, err)
+    called("run", "m.sv", "--out", "out", "--no-simulator", "-q", *SHORT)
+    bundle = recheck(Path("out"))
+    said = simulated(bundle, bundle.rows, "iverilog", Bounds(0.0, 1, 7), Stop())
+    if said.by.startswith("Icarus") and said.agrees:
+        raise runs.LeftOut(f"{said.by} reads an enum in a package")
+    tally.check("verilator: as in it", said.by.startswith("Verilator") and said.agrees and said.as_in.values > 500, said)
+    tally.check("verilator: why, and what it does not tell", "Icarus Verilog" in said.circuit and "open, and x, were not" in said.circuit, said)
+    tally.compare("verilator: the row", said.rows[0].word, AGREES)
+    sources = Path("out/sources/m.sv").read_text()
+    for name, old, new in (("another reading", "n + w.code", "n - w.code"), ("a function of C", "package p;", PRINTS),
+                           ("a division", "n + w.code", "n + w.code / w.go"), ("a comment that gives orders", "n + w.code", COMMENT)):
+        Path("out/sources/m.sv").write_text(sources.replace(old, new))
+        write_manifest(Path("out"), manifest_of("out"))
+        try:
+            playing = Replay(recheck(Path("out")), Simulator("iverilog", Stop()), Stop())
+            told = playing.random(30, 1)
+            tally.check(f"verilator: {name}", told.word is Word.DISAGREES and "n " in told.said(""), told)
+        except NotReplayed as error:
+            tally.check(f"verilator: {name}", name.startswith("a ") and "Verilator" not in str(error)
+                        or "a division" in str(error), error)
+
+
+def alone(_, tally, __):
+    """Without Verilator, it is said what Icarus Verilog says."""
+    needs("yosys", "iverilog")
+    Path("m.sv").write_text(ENUM)
+    called("run", "m.sv", "--out", "out", "--no-simulator", "-q", *SHORT)
     os.environ["PATH"], before = str(Path("none").resolve()), os.environ["PATH"]
     try:
         Path("none").mkdir()
-        for name in ("iverilog", "vvp", "sh", "ulimit"):
-            if shutil.which(name, path=before):
-                Path("none", name).symlink_to(shutil.which(name, path=before))
-        try:
-            Replay(Bundle(Path("out")), Simulator("iverilog", Stop()), Stop())
-            said = ""
-        except Exception as error:
-            said = str(error)
-        tally.check("verilator: none", "Verilator" not in said and said != "", said)
+        for name in ("iverilog", "vvp", "sh"):
+            Path("none", name).symlink_to(shutil.which(name, path=before))
+        bundle = recheck(Path("out"))
+        said = simulated(bundle, bundle.rows, "iverilog", Bounds(0.0, 1, 7), Stop())
     finally:
         os.environ["PATH"] = before
+    is_silent = said.agrees is None and "cannot play the design" in said.why and "Verilator" not in said.why
+    tally.check("alone", said.by.startswith("Icarus") and (said.agrees or is_silent), said)
 
 
-PARTS = (everything, drawn, parts_of_structs, verilator)
+PARTS = (everything, drawn, parts_of_structs, verilator, alone)

@@ -18,7 +18,7 @@ _DEPTH_OF_FILES, _DEPTH_OF_MACROS = 20, 30
 _MOST_WORDS = 2_000_000
 # How many words one use of a macro may mean, and how much work all uses may be: words and letters of texts that are read. Macros
 # that use each other twice would double both with each line.
-_MOST_OF_A_USE, _MOST_WORK = 20_000, 50_000_000
+_MOST_OF_A_USE, _MOST_WORK = 20_000, 5_000_000
 
 
 @dataclass

@@ -6,7 +6,7 @@ from __future__ import annotations
 import re
 import shutil
 import tempfile
-from dataclasses import dataclass, field
+from dataclasses import dataclass
 from functools import cached_property
 from pathlib import Path
 from typing import ClassVar, Dict, Optional, Sequence
@@ -29,11 +29,11 @@ class Verilator(Simulator):
     """Verilator, and the compiler that it asks for.
 
     instead  why the first simulator does not play the design
-    library  the compiled parts that all testbenches share
+    library  what is compiled of Verilator itself: all testbenches share it
     """
 
     instead: str = ""
-    library: Dict[str, bytes] = field(default_factory=dict)
+    library: ClassVar[Dict[str, bytes]] = {}
     has_x: ClassVar[bool] = False
 
     def __post_init__(self) -> None:
@@ -64,9 +64,7 @@ class Verilator(Simulator):
         with tempfile.TemporaryDirectory(prefix="aig-verdicts-") as name:
             folder = Path(name)
             (folder / _BENCH).write_text(without_comments(text), encoding="latin-1")
-            for file, data in self.data.items():
-                (folder / file).write_bytes(data)
-            for file, data in self.library.items():
+            for file, data in [*self.data.items(), *self.library.items()]:
                 (folder / file).write_bytes(data)
             self._make(folder, [f"-D{it}" for it in defines])
             ran = self._ran([str(folder / _MADE), "+verilator+rand+reset+2", "+verilator+seed+1"], folder)
@@ -85,7 +83,7 @@ class Verilator(Simulator):
         built = self._ran(["make", "-s", "-f", f"{_MADE}.mk", *fast, _MADE], folder)
         if built.status != 0:
             raise NotReplayed(f"{PROGRAM}: the compiler: {first_error((built.err + built.out).decode('utf-8', 'replace'))}")
-        self.library = {it.name: it.read_bytes() for it in folder.glob("verilated*.o")}
+        self.library.update((it.name, it.read_bytes()) for it in folder.glob("verilated*.o"))
 
 
 class Unread(Rejected):
