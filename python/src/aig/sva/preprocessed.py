@@ -158,6 +158,8 @@ class Preprocessed:
             if len(found) > _MOST_OF_A_USE:
                 raise Rejected(first, f"a macro of more than {_MOST_OF_A_USE:,} words")
         self._works(first, len(found))
+        if depth:  # the outer use gives all words its place
+            return at, found
         place = {"line": first.line, "start": first.start, "end": end, "use": self._uses}
         return at, [replace(it, file=first.file, **place) for it in found]
 
