@@ -14,7 +14,6 @@ from aig.verdicts import command, recheck
 from aig.verdicts.bundle import Bundle, Wrong, sum_of
 from aig.verdicts.design import Assertion, Design
 from aig.verdicts.manifest import rows_as_json
-from aig.verdicts.sentences import SAME_CIRCUIT
 from bundles.common import called, judged, kept, manifest_of, raises, tool, why_rejected, write_manifest
 
 CIRCUIT = "circuit.aig"
@@ -200,7 +199,7 @@ def rechecked(_, tally, __):
     """`recheck` with each option: what it checks, what it asks Yosys, its last line and its status."""
     asked = []
     usual = command.same_design
-    command.same_design = lambda bundle, stop: asked.append(bundle) or SAME_CIRCUIT
+    command.same_design = lambda bundle, stop: asked.append(bundle) or recheck.Remade.SAME
     try:
         for words in ((), ("-q",), ("--json",), ("--jobs", "1"), ("--page", "page.html"), ("-q", "--junit", "j.xml")):
             for more in ((), ("--yosys",)):

@@ -311,12 +311,13 @@ def again(words: argparse.Namespace, stop: Stop) -> int:
     bundle = recheck(words.bundle, say=say, jobs=words.jobs, stop=stop, most_bytes=words.megabytes << 20)
     if words.sources:
         same_sources(bundle, words.sources, words.include)
-    of_yosys = same_design(bundle, stop) if words.yosys else ""
+    remade = same_design(bundle, stop) if words.yosys else None
+    of_yosys = remade.value if remade else ""
     said = _simulated_again(words, bundle, stop)
     on_page = said if said.by else Simulated(circuit=of_yosys or NOT_COMPARED)
     shown = audited(bundle, version(program(), stop), on_page, bool(words.sources), bool(of_yosys))
     table = table_of(shown.rows, bundle.circuit(), asked_of(bundle.manifest), said)
-    changed = against(words, side_of(Version.of(bundle), table, shown.read), of_yosys, stop) if words.since else None
+    changed = against(words, side_of(Version.of(bundle), table, shown.read), remade, stop) if words.since else None
     if changed:
         write(changed, words.page, words.junit, {})
     elif words.page:

@@ -14,8 +14,7 @@ from .difference_page import DifferencePage
 from .folder import write_whole
 from .manifest import as_json, asked_of
 from .matching import Version
-from .recheck import recheck, same_design
-from .sentences import EQUAL_CIRCUIT
+from .recheck import Remade, recheck, same_design
 from .sides import CHECKED, Side, checked_side, side_of, table_of
 from .simulated import Simulated, of_facts
 from .table import plain
@@ -39,14 +38,15 @@ def compare(words: argparse.Namespace, stop: Stop) -> int:
     return found.status
 
 
-def against(words: argparse.Namespace, new: Side, of_new: str, stop: Stop) -> Difference:
+def against(words: argparse.Namespace, new: Side, of_new: Optional[Remade], stop: Stop) -> Difference:
     """What changed to a re-checked bundle from an older one, which is checked in the same way. Of neither is anything
     shown but names. `of_new` is what Yosys makes of the newer sources, if it was asked."""
     bundle = checked(words.since, words, stop)
-    of_old = same_design(bundle, stop) if words.yosys else ""
+    of_old = same_design(bundle, stop) if words.yosys else None
     shown = audited(bundle, "", Simulated(), False, words.yosys)
     old = side_of(Version.of(bundle), table_of(bundle.rows, bundle.circuit(), asked_of(bundle.manifest)), shown.read)
-    return difference(old, new, CHECKED + (f", and {of_old if of_old == of_new else EQUAL_CIRCUIT}, of both" if words.yosys else ""))
+    of_both = of_old if of_old is of_new else Remade.EQUAL
+    return difference(old, new, CHECKED + (f", and {of_both.value}, of both" if of_both else ""))
 
 
 def checked(path: Path, words: argparse.Namespace, stop: Stop) -> Bundle:
