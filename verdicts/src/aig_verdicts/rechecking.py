@@ -36,11 +36,12 @@ def again(words: argparse.Namespace, stop: Stop) -> int:
         from .compare.again import same_sources
 
         same_sources(bundle, words.sources, words.include)
-    of_yosys = ""
+    remade = None
     if words.yosys:
         from .compare.again import same_design
 
-        of_yosys = same_design(bundle, stop)
+        remade = same_design(bundle, stop)
+    of_yosys = remade.value if remade else ""
     played = _simulated_again(words, bundle, stop)
     on_page = played if played.by else Simulated(circuit=of_yosys or NOT_COMPARED)
     shown = audited(bundle, version(program(), stop), on_page, bool(words.sources), bool(of_yosys))
@@ -51,7 +52,7 @@ def again(words: argparse.Namespace, stop: Stop) -> int:
         from .compare.matching import Version
         from .compare.sides import side_of
 
-        changed = against(words, side_of(Version.of(bundle), table, shown.read), of_yosys, stop)
+        changed = against(words, side_of(Version.of(bundle), table, shown.read), remade, stop)
         write(changed, words.page, words.junit, {})
     elif words.page:
         from .pages.page import Results

@@ -32,6 +32,7 @@ from .replay.run import Bounds as PlayBounds, simulated
 from .pages.sections import Pictures
 from .search.session import STOPPED, Plan, Session
 from .compare.since import Since, opened, since_of
+from .audit.sentences import NOT_SIMULATED
 from .audit.simulated import Simulated
 from .reading.store import Store, folder_of_user
 from .audit.table import Table, next_command, open_notes, plain
@@ -183,7 +184,9 @@ def cores(words: argparse.Namespace, stop: Stop) -> int:
 
 def _simulate(words: argparse.Namespace, session: Session, seconds: float) -> None:
     """Has a simulator play the runs, and compare the circuit, if there are sources and a simulator."""
-    if session.design.sources and not missing(words.simulator):
+    if session.design.sources and missing(words.simulator):
+        session.simulated = Simulated(why=missing(words.simulator))
+    elif session.design.sources:
         session.write(True)
         rows = [row for row in session.rows if session.only is None or row.position in session.only]
         try:
@@ -191,7 +194,7 @@ def _simulate(words: argparse.Namespace, session: Session, seconds: float) -> No
             bounds = PlayBounds(seconds, words.jobs)
             session.simulated = simulated(bundle, rows, words.simulator, bounds, session.stop)
         except (ToolFailed, Crashed) as error:
-            session.simulated = Simulated(circuit=f"Not compared with a simulator: {error}")
+            session.simulated = Simulated(circuit=f"{NOT_SIMULATED}: {error}", why=str(error))
         session.write(True)
 
 

@@ -237,6 +237,8 @@ def fewer(tally, one):
     row.update(verdict="undecided", result="undecided")
     write_manifest(less, manifest, mends_sums=False)
     for sides, wanted, word in (((one, less), 4, "weaker"), ((less, one), 0, "stronger")):
+        status, out, _ = called("compare", *sides, "--json", "-j", "2")
+        tally.compare(f"compares: the status with JSON, {word}", (status, json.loads(out)["status"]), (wanted, wanted))
         status, out, _ = called("compare", *sides, "-j", "2")
         tally.compare(f"compares: {word}", (status, [line.split()[0] for line in out.splitlines()].count(word)),
                       (wanted, 1))

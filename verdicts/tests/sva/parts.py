@@ -151,6 +151,26 @@ def copies(_, tally, __):
         else:
             wanted = r"\s*(//.*)?" if found[1] == "goes" else f".*{found[2] or ''}.*"
             tally.check(f"line {at}", re.fullmatch(wanted, new), new)
+    doubled(tally)
+
+
+def doubled(tally):
+    """Macros that use each other twice, and macros with their argument in them several times: a limit ends them."""
+    lines = [f"`define X{at} (`X{at - 1} & `X{at - 1})" for at in range(1, 25)]
+    twice = "\n".join(["`define X0 a", *lines, "module m(input c, a); assert property (@(posedge c) `X24 |-> a); endmodule"])
+    many = ("`define A(x) x x x x x x x x x x\n`define B(x) `A(`A(`A(`A(`A(`A(`A(x)))))))\n"
+            "module m(input c, a); assert property (@(posedge c) `B(a) |-> a); endmodule")
+    uses = "\n".join(["`define X0 a a", *(it.replace("&", " ") for it in lines[:9]), "`define Y `X9 `X9 `X9 `X9 `X9 `X9", "module m(input c, a);",
+                      *["`Y"] * 10000, "assert property (@(posedge c) a |-> a); endmodule"])
+    for name, text, wanted in (("twice", twice, "a macro of more than 20,000 words"), ("arguments", many, "a macro of more than 20,000 words"),
+                               ("uses", uses, "macros that mean too much text in all")):
+        begin, why = time.process_time(), "nothing"
+        try:
+            translated({"x.sv": text}, ["x.sv"], [])
+        except Untranslated as error:
+            why = str(error)
+        seconds = time.process_time() - begin
+        tally.check(f"macros that double: {name}", wanted in why and "x.sv:" in why and seconds < 60, f"{why} {seconds}")
 
 
 def texts(_, tally, __):

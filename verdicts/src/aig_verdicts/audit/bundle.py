@@ -20,6 +20,9 @@ MOST_BYTES = 1 << 30
 # Of all files of a .zip together, once they are unpacked.
 MOST_UNPACKED = 1 << 34
 MOST_OF_MANIFEST = 1 << 26
+# A file of a .zip may be so large, or so many times as large as it is packed: 1 MB of a .zip can be 1 GB of zeros.
+MOST_TIGHT, TIGHT_MANIFEST, MOST_TIMES = 1 << 26, 1 << 22, 100
+_PIECE = 1 << 20
 # Of the list of files in a .zip.
 MOST_OF_LIST = 1 << 25
 PLAIN_FILE = 0o100000
@@ -105,8 +108,11 @@ class _Zip:
         try:
             entry = self._file.getinfo(self._top + name)
             expect(entry.file_size <= most, f"{name} is too large")
+            tight = TIGHT_MANIFEST if name == MANIFEST else MOST_TIGHT
+            expect(entry.file_size <= max(tight, MOST_TIMES * entry.compress_size),
+                   f"{name} has {entry.file_size >> 20:,} MB, over {MOST_TIMES} times as many as in the .zip: unpack it yourself")
             with self._file.open(entry) as file:
-                return file.read(most + 1)
+                return b"".join(iter(lambda: file.read(_PIECE), b""))
         except Wrong:
             raise
         except Exception as error:

@@ -13,7 +13,7 @@ from .checked import CIRCUIT
 from .cycles import cycles_of
 from .decisions import OPEN, UNREAD, Asked, Judged, judge
 from .row import Row
-from .sentences import DISAGREES, IN_DOUBT, NOT_COMPARED, NOT_LOOKED_AT, NOT_SIMULATED, of_needs
+from .sentences import DISAGREES, IN_DOUBT, NOT_COMPARED, NOT_LOOKED_AT, of_needs
 from aig.letters import escape, visible
 from .unread import Unread, of_circuit, properties_of
 
@@ -119,7 +119,7 @@ class Table:
 
     def line_of_run(self, has_sources: bool, said: Simulated) -> str:
         """The last line of `run`, without the page."""
-        return self.summary + (f"; {_inside(NOT_SIMULATED)}" if has_sources and said.agrees is None else "")
+        return self.summary + (f"; {_inside(said.silence)}" if has_sources and said.agrees is None else "")
 
 
 def compared(has_sources: bool, made: str, said: Simulated) -> str:
@@ -131,7 +131,7 @@ def compared(has_sources: bool, made: str, said: Simulated) -> str:
         return yosys or f"; {_inside(NOT_COMPARED)}"
     if said.agrees is False or DISAGREES in (it.word for it in said.rows.values()):
         return f"{yosys}; ALARM: {said.by} disagrees, so the circuit may not be that of the sources"
-    means = "which is no proof" if said.is_compared else "so nothing is said of the sources"
+    means = "which is no proof" if said.as_in else "so nothing is said of the sources"
     return f"{yosys}; {said.circuit}, {means}"
 
 

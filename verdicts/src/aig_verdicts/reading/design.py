@@ -21,7 +21,8 @@ from .text.lax import ranges_of_words
 from aig.waves.ranges import Ranges
 from .registers import registers
 from ..options import look_at_words
-from .sources import Sources, places
+from ..listing import places
+from .sources import Sources
 from .clocks import timing
 from .store import Store, packed, parts_of, unpacked
 from ..audit.properties import modules_and_signals, properties, symbol

@@ -9,6 +9,8 @@ from typing import Dict, Iterator, List, Mapping, Match, Optional, Pattern, Sequ
 
 from aig.tools import ToolFailed
 
+from ..listing import places
+
 # Comments and texts come first, so that nothing inside of them is a directive.
 _PARTS = re.compile(
     r'//[^\n]*|/\*(?:[^*]|\*(?!/))*(?:\*/)?|(?P<before>`include\s*|\$readmem[bh]\s*\(\s*)"(?P<name>[^"\n]+)"|"(?:\\.|[^"\\])*"',
@@ -29,12 +31,6 @@ NEWLINE = "\n"
 def plain_name(name: str) -> str:
     """A file name that is one word of Yosys' language, and neither hidden nor an option."""
     return re.sub(r"[^A-Za-z0-9._-]|^[.-]", "_", name) or "_"
-
-
-def places(found: Sequence[str]) -> str:
-    """The places, the first ones of many."""
-    each = sorted(set(found), key=lambda place: re.sub(r"\d+$", lambda it: it[0].zfill(9), place))
-    return ", ".join(each[:5]) + (f" and {len(each) - 5} more" if len(each) > 5 else "")
 
 
 def _plain(text: bytes) -> str:
