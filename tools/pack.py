@@ -8,9 +8,7 @@ proved. The same commit, program and library give the same files, byte for byte.
 import collections
 import gzip
 import importlib.util
-import itertools
 import os
-import pathlib
 import re
 import shutil
 import subprocess
@@ -19,6 +17,7 @@ import tempfile
 import textwrap
 
 import gate
+from judge.bugs import bugs_of, crates_with_bugs
 
 
 def wheel_maker(product):
@@ -199,8 +198,7 @@ def filled(entry):
 
 def planted():
     """Returns the names of the gate's planted bugs by the names of their crates."""
-    paths = sorted(pathlib.Path(gate.ROOT, "crates").glob("*/planted/*.edit"))
-    return {name: [path.stem for path in of] for name, of in itertools.groupby(paths, lambda it: it.parts[-3])}
+    return {name: [bug.name for bug in bugs_of(name, with_more=False)] for name in crates_with_bugs()}
 
 
 def main():

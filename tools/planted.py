@@ -7,8 +7,8 @@ the crate's definitions and lemmas, and those after it take them from there. A c
 would both read its libraries.
 
 Each planted bug names the clause that it breaks. It is refused where a goal of that clause is open in a function that
-it changes; one of planted/more/ that names none, where any goal is. The script prints all goals that are open, and of
-each why:
+it changes; one outside of the gate that names none, where any goal is. The script prints all goals that are open, and
+of each why:
 
   false     values are known at which the goal is false
   no proof  none was found
@@ -20,8 +20,8 @@ Only the first shows by itself that the body is wrong.
 
 Each exported call has one: it fails where one has none, but for those in without_bug.txt.
 
-It tries those of the gate (crates/NAME/planted) and with --more all others too (crates/NAME/planted/more), over what
-`rt ci` or `rt check` left of the libraries below a crate; where there is nothing, they are built first.
+It tries those of the gate and with --more all others too, over what `rt ci` or `rt check` left of the libraries below a
+crate; where there is nothing, they are built first.
 
 refused.txt beside this script has a sum of each crate whose bugs were all refused: of its files, its bugs and its lines
 in crates.txt, of what it can cite of the libraries below, of the toolchain and of tools/judge, which tries a bug. A
@@ -30,11 +30,13 @@ commit chooses that crate. It chooses as many crates as have a tenth of all bugs
 one bug of each crate all libraries would be read. With --all every bug is tried. With --record, too, and a crate whose
 bugs are all refused gets its sum in that file. With --sums the sums of this run go into another file.
 
-A bug is a file NAME.edit. It begins with a sentence: what is wrong with the body. Then come `clause:`, `file:`, and
-pairs of `old:` and `new:`. The clause is one of the function's contract or of its trait's, by its name. It is `ensures`
-for one without a name, and `invariant` for that of a type or a loop. `old:` is a piece of one line that is in the file
-exactly once; a pair sees what those before it made. Before `clause:` there may be `guards:` with the exported call that
-the function serves, and `mistake:`, `relation:` or `law:` with what the bug stands for. To write one:
+The bugs of crates/NAME/src/a/b.rt are in tests/planted/NAME/a/b.bugs: a line `file:` with the path of the source, and
+a paragraph for each bug. It begins with the name of the bug and a sentence: what is wrong with the body. Then come
+`clause:`, and pairs of `old:` and `new:`. The clause is one of the function's contract or of its trait's, by its name.
+It is `ensures` for one without a name, and `invariant` for that of a type or a loop. `old:` is a piece of one line that
+is in the source exactly once; a pair sees what those before it made. Before `clause:` there may be `guards:` with the
+exported call that the function serves, and `mistake:`, `relation:` or `law:` with what the bug stands for. One outside
+of the gate has `more:`. No two bugs of a crate have one name. To write one:
 
 - Read the goal before you name its clause: the prover also leaves true goals open, above all in a new branch.
 - Turn a value and keep the names. A call whose result is no longer wanted stays as `let _ = call();`.
@@ -62,17 +64,16 @@ import time
 
 import gate
 import refused
-from judge.bugs import edits_of, rounds
+from judge.bugs import bugs_of, crates_with_bugs, edits_of, rounds
 from judge.crates import ROOT, toolchain
 from judge.trials import KINDS, tried
 from sources.exports import Crate as Exports, crates as libraries
+from sources.planted import of_line
 
 # How long the proofs that a check waits for may print nothing, in seconds.
 SILENT_SECONDS = 7200
 # Which part of all bugs is tried although their sums are in refused.txt.
 TRIED_AGAIN = 10
-# Where the planted bugs of a crate are, with those that are not in the gate.
-ROOMS = ("planted", "planted/more")
 # The words of a planted bug that say what it stands for, beside the functions that it changes.
 STANDS_FOR = ("guards", "mistake", "relation", "law")
 # The exported calls without a planted bug, a line for each crate. They are not in a sum: they refuse nothing.
@@ -83,7 +84,7 @@ FEW = min(2, len(os.sched_getaffinity(0)))
 OPTIONS = (
     ("--jobs", {"type": int, "default": FEW}, f"how many processors it takes (else {FEW})"),
     ("--only", {"action": "append"}, "the planted bugs whose names hold this; may be given again"),
-    ("--more", {"action": "store_true"}, "those of planted/more/ too"),
+    ("--more", {"action": "store_true"}, "those outside of the gate too"),
     ("--all", {"action": "store_true"}, "also those that refused.txt says were refused"),
     ("--record", {"action": "store_true"}, "tries all, and puts what was refused into refused.txt"),
     ("--list", {"action": "store_true"}, "prints the planted bugs, and tries none"),
@@ -125,14 +126,6 @@ def tried_again(commit, counts):
     return chosen
 
 
-def about(path):
-    """Returns the sentence of a planted bug, and what it stands for."""
-    lines = path.read_text().split("\n")
-    heads = re.compile(rf"({'|'.join(STANDS_FOR)}|clause|file): ")
-    first = next(number for number, line in enumerate(lines) if heads.match(line))
-    return " ".join(lines[:first]), [line for line in lines if line.startswith(tuple(f"{it}: " for it in STANDS_FOR))]
-
-
 def without_bug():
     """Returns the exported calls of each crate that need no planted bug."""
     lines = [line.split(": ") for line in WITHOUT.read_text().splitlines() if not line.startswith("#")]
@@ -142,11 +135,10 @@ def without_bug():
 def uncovered():
     """Yields the exported calls with a clause that no planted bug changes or guards, and that are not in
     without_bug.txt. A method of a trait is tried at the implementations, and a law has no code."""
-    paths = [path for room in ROOMS for path in ROOT.glob(f"crates/*/{room}/*.edit")]
-    lines = [line for path in paths for line in path.read_text().split("\n") if line.startswith("guards:")]
-    guarded = {name for line in lines for name in re.findall(r"[\w:]+", line.partition(":")[2])}
+    words = [word for name in crates_with_bugs() for bug in bugs_of(name, with_more=True) for word in bug.words]
+    guarded = {name for word, text in words if word == "guards" for name in re.findall(r"[\w:]+", text)}
     for crate in map(Exports, libraries()):
-        _, edits, _ = edits_of(ROOT / "crates" / crate.name, ROOMS, None)
+        _, edits, _ = edits_of(ROOT / "crates" / crate.name, with_more=True, only=None)
         changed = {it.name for edit in edits for it in edit.functions}
         for export in crate.exports():
             *owner, name = export.name.split("::")
@@ -160,28 +152,29 @@ def uncovered():
                 yield f"{crate.name}::{export.name}"
 
 
-def print_list(crates, rooms, only):
-    """Prints the planted bugs of these crates, or of all, and how many there are in each folder."""
+def print_list(crates, with_more, only):
+    """Prints the planted bugs of these crates, or of all, and how many there are in the gate and outside of it."""
     counts = collections.Counter()
-    for folder in sorted(it.parent for it in (ROOT / "crates").glob("*/planted")):
-        if crates and folder.name not in crates:
-            continue
-        _, edits, wrong = edits_of(folder, rooms, only)
+    for name in crates or crates_with_bugs():
+        _, edits, wrong = edits_of(ROOT / "crates" / name, with_more, only)
+        about = {bug.name: bug for bug in bugs_of(name, with_more)}
         for edit in [*edits, *wrong]:
-            sentence, stands_for = about(folder / edit.name)
+            bug = about[edit.name]
             changed = [f"in: {it.name}" for it in edit.functions] if edit.changes else ["it cannot be applied"]
-            print(f"{folder.name}/{edit.name}: {edit.clause or 'no clause'}\n    {sentence}")
+            stands_for = [f"{word}: {text}" for word, text in bug.words if word in STANDS_FOR]
+            print(f"{name}/{edit.name}: {edit.clause or 'no clause'}\n    {bug.sentence}")
             print("".join(f"    {line}\n" for line in [*changed, *stands_for]), end="")
-            counts[os.path.dirname(edit.name)] += 1
-    print(", ".join(f"{counts[room]} in {room}" for room in rooms))
+            counts[edit.is_more] += 1
+    print(f"{counts[False]} in the gate" + f", {counts[True]} outside of it" * with_more)
     return 0
 
 
 def copies(crate):
-    """Yields the edits in must-fail/, which `rt ci` tries, that are not those of planted/ with their names."""
+    """Yields the edits in must-fail/, which `rt ci` tries, that are not the planted bugs with their names."""
+    changes = {bug.name: bug.changes for bug in bugs_of(crate.name, with_more=True)}
     for path in sorted((crate.folder / "must-fail").glob("*.edit")):
-        planted = crate.folder / "planted" / path.name
-        if not planted.exists() or planted.read_bytes() != path.read_bytes():
+        texts = [text for word, text in map(of_line, path.read_text().splitlines()) if word in ("old", "new")]
+        if changes.get(path.stem) != [*zip(texts[::2], texts[1::2])]:
             yield path.name
 
 
@@ -213,7 +206,6 @@ class Trial:
 
     def __init__(self, words):
         self.words, self.kinds, self.before, self.sums = words, collections.Counter(), 0, {}
-        self.rooms = ROOMS if words.more else ROOMS[:1]
 
     def fail(self, name, why):
         print(f"{name}: FAILED: {why}")
@@ -227,11 +219,11 @@ class Trial:
         for crate in toolchain(self.words.jobs):
             if self.words.crates and crate.name not in self.words.crates:
                 continue
-            known, edits, wrong = edits_of(crate.folder, self.rooms, self.words.only)
+            known, edits, wrong = edits_of(crate.folder, self.words.more, self.words.only)
             for edit in wrong:
                 self.fail(f"{crate.name}/{edit.name}", "it cannot be applied")
             for name in copies(crate):
-                self.fail(f"{crate.name}/must-fail/{name}", "it differs from that of planted/")
+                self.fail(f"{crate.name}/must-fail/{name}", "it differs from the planted bug of its name")
             if edits and not self.words.behind:
                 crate.build()
             found += [(crate, known, edits)] if edits else []
@@ -275,7 +267,7 @@ def main():
     trial = Trial(parser.parse_args())
     os.chdir(ROOT)
     if trial.words.list:
-        return print_list(trial.words.crates, trial.rooms, trial.words.only)
+        return print_list(trial.words.crates, trial.words.more, trial.words.only)
     trial.run()
     return trial.ended()
 

@@ -5,9 +5,9 @@ to see it. It is applied in a copy of the tree, and is seen if a check of that p
 the package. A part that is stopped has seen nothing, nor one whose edit is no right Python. Without a bug each of these
 parts has to pass.
 
-A file of bugs begins with `file:` and the path of a source. Each bug is a paragraph: its name and what is wrong,
-`seen:` with the script and its part, and pairs of `old:` and `new:`. `old:` is a piece of one line that is in the
-source exactly once. An edit that no longer applies fails, whatever is tried.
+A file of bugs is one of those that crates have (tools/sources/planted.py): `file:` with the path of a source, and a
+paragraph for each bug, which has `seen:` with the script and its part. An edit that no longer applies fails, whatever
+is tried.
 
 tools/seen.txt has a sum of each bug that was seen: of the bug, of its source, and of the file of its part. --new tries
 the bugs whose sum is another one, or is not there; --write notes those that are seen. A run that is stopped notes what it
@@ -33,6 +33,7 @@ import sys
 import tempfile
 
 import gate
+from sources.planted import of_text
 
 ROOT = pathlib.Path(__file__).resolve().parent.parent
 sys.path.insert(0, str(ROOT / "tests"))
@@ -56,15 +57,8 @@ NO_PYTHON = ("SyntaxError", "IndentationError", "ImportError", "ModuleNotFoundEr
 
 def bugs_of(path):
     """The bugs in a file."""
-    head, *paragraphs = re.split(r"\n{2,}", path.read_text().strip("\n"))
-    file = head.removeprefix("file: ")
-    for paragraph in paragraphs:
-        (name, wrong), (_, seen), *pairs = (line.split(": ", 1) if ": " in line else (line.rstrip(":"), "")
-                                            for line in paragraph.split("\n"))
-        if [key for key, _ in pairs] != ["old", "new"] * (len(pairs) // 2):
-            sys.exit(f"{path.name}: {name}: pairs of old: and new: have to follow")
-        texts = [text for _, text in pairs]
-        yield Bug(f"{path.stem}.{name}", wrong, file, seen, [*zip(texts[::2], texts[1::2])])
+    for bug in of_text(path.read_text()):
+        yield Bug(f"{path.stem}.{bug.name}", bug.sentence, bug.file, dict(bug.words)["seen"], bug.changes)
 
 
 def all_bugs():

@@ -6,11 +6,13 @@ import re
 import sys
 
 import gate
+from judge.bugs import bugs_of
 from judge.crates import ROOT
 
 REFUSED = ROOT / "tools" / "refused.txt"
 # What decides whether a bug is refused, beside the toolchain.
-JUDGE = (*sorted((ROOT / "tools" / "judge").glob("*.py")), ROOT / "tools" / "sources" / "clauses.py")
+JUDGE = (*sorted((ROOT / "tools" / "judge").glob("*.py")),
+         *(ROOT / "tools" / "sources" / name for name in ("clauses.py", "planted.py")))
 # The files of a library's proofs/ that are of one function's proof: no other crate can cite them.
 UNCITED = ("Answers.antt", "Invariants.antt", "Proof.antt")
 HEAD = "# The crates whose planted bugs were all refused, and the sum of their files then: see planted.py --record\n"
@@ -20,8 +22,7 @@ def sum_of(folder, parts):
     """Returns the SHA-256 of the files of these parts of a crate's folder."""
     total = hashlib.sha256()
     for name in (it for part in parts for it in sorted((folder / part).rglob("*"))):
-        # bugs outside the gate do not count
-        if name.is_file() and name.parent != folder / "planted" / "more":
+        if name.is_file():
             total.update(f"{name.relative_to(folder)} {hashlib.sha256(name.read_bytes()).hexdigest()}\n".encode())
     return total.hexdigest()
 
@@ -58,10 +59,11 @@ def listed_for(crate):
 
 
 def sum_for(crate):
-    """Returns the SHA-256 of what the planted bugs of a crate are tried on: the bugs, the parts of its folder that a
-    check reads, its lines in crates.txt, what it can cite of the proved libraries below, and what judges the bugs."""
+    """Returns the SHA-256 of what the planted bugs of a crate are tried on: those in the gate, the parts of its folder
+    that a check reads, its lines in crates.txt, what it can cite of the proved libraries below, and what judges the
+    bugs."""
     below = [f"{name} {cited_sum(crate.libraries[name])}" for name in sorted(crate.below)]
-    own = [sum_of(crate.folder, ["planted"]), sum_of(crate.folder, crate.parts), *listed_for(crate)]
+    own = [*map(repr, bugs_of(crate.name, with_more=False)), sum_of(crate.folder, crate.parts), *listed_for(crate)]
     return hashlib.sha256("\n".join([sum_of_judge(), *own, *below]).encode()).hexdigest()
 
 

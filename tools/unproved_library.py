@@ -55,7 +55,7 @@ def call(export):
 
 def copy(room):
     """Makes the copy of the repository, in which aig_c is a program."""
-    parts = shutil.ignore_patterns("out", "planted", "must-fail", "data")
+    parts = shutil.ignore_patterns("out", "must-fail", "data")
     shutil.copytree(ROOT / "crates", room / "crates", ignore=parts)
     source = room / "crates" / "aig_c" / "src"
     (source / "lib.rt").unlink()

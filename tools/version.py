@@ -16,7 +16,7 @@ NUMBER = r"(\d+\.\d+\.\d+)"
 PLACES = {
     "crates/aig_cli/src/command_line.rt": (rf'VERSION: &str = "{NUMBER} \(',),
     "crates/aig_c/src/version.rt": (rf'codes "{NUMBER}"', rf'answer\(b"{NUMBER}"'),
-    "crates/aig_c/planted/says_another_version.edit": (rf'old: +answer\(b"{NUMBER}"',),
+    "tests/planted/aig_c/version.bugs": (rf'old: +answer\(b"{NUMBER}"',),
     "include/aig.h": (rf'AIG_VERSION "{NUMBER}"',),
     "tools/aig.pc": (rf"Version: {NUMBER}",),
     "python/make_wheel.py": (rf'VERSION = "{NUMBER}"',),

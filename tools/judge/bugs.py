@@ -5,8 +5,15 @@ import pathlib
 import re
 
 from sources.clauses import signature
+from sources.planted import of_text
 
-Edit = collections.namedtuple("Edit", "name clause changes functions")
+# Where the planted bugs of crates are: a folder for each crate, with a file for each of its sources.
+PLANTED = pathlib.Path(__file__).resolve().parent.parent.parent / "tests" / "planted"
+# The word of a bug that is not in the gate.
+MORE = "more"
+
+# A bug of a crate; `is_more` where it is not in the gate.
+Edit = collections.namedtuple("Edit", "name clause is_more changes functions")
 Function = collections.namedtuple("Function", "name file first opens last clauses")
 
 
@@ -79,37 +86,30 @@ def functions(crate, file, homes):
                 yield Function(name, file, number + 1, body + 1, end + 1, clauses_at(lines, number))
 
 
-def read(crate, path, known):
+def read(crate, bug, known):
     """A planted bug: the clause that it breaks, its changes, each a piece of one line, and the functions whose bodies
     it changes. There are no changes where a piece is not in its file exactly once, as those before it left it, or where
     the crate has no such file."""
-    name, clause = f"{path.parent.relative_to(crate)}/{path.name}", None
-    changes, changed, texts, file, old = [], [], {}, None, None
-    for line in path.read_text().split("\n"):
-        word, _, text = line.partition(":")
-        text = text[1:] if text.startswith(" ") else text
-        if word == "clause":
-            clause = text.strip()
-        elif word == "file":
-            file = text.strip()
-        elif word == "old":
-            old = text
-        elif word == "new":
-            before = texts.get(file) or ((crate / file).read_text() if file in known else "")
-            if before.count(old) != 1:
-                return Edit(name, clause, [], [])
-            at = before[: before.index(old)].count("\n")
-            changes.append((file, at, old, text))
-            changed += [it for it in known[file] if it.first <= at + 1 <= it.last]
-            # a function that the bug adds
-            added = re.match(r"fn (\w+)", text)
-            if added and f"fn {added[1]}" not in old:
-                clauses = [it or "ensures" for it in re.findall(r"\bensures (?:(\w+) )?\{", text)]
-                changed.append(Function(module_of(file) + added[1], file, at + 1, at + 1, at + 1, clauses))
-            texts[file] = before.replace(old, text)
+    words = dict(bug.words)
+    edit = Edit(bug.name, words.get("clause"), MORE in words, [], [])
+    file = bug.file.removeprefix(f"crates/{crate.name}/")
+    text = (crate / file).read_text() if file in known else ""
+    changes, changed = [], []
+    for old, new in bug.changes:
+        if text.count(old) != 1:
+            return edit
+        at = text[: text.index(old)].count("\n")
+        changes.append((file, at, old, new))
+        changed += [it for it in known[file] if it.first <= at + 1 <= it.last]
+        # a function that the bug adds
+        added = re.match(r"fn (\w+)", new)
+        if added and f"fn {added[1]}" not in old:
+            clauses = [it or "ensures" for it in re.findall(r"\bensures (?:(\w+) )?\{", new)]
+            changed.append(Function(module_of(file) + added[1], file, at + 1, at + 1, at + 1, clauses))
+        text = text.replace(old, new)
     # a constant is every function's of its file
-    changed = changed or [it for file, *_ in changes for it in known[file]]
-    return Edit(name, clause, changes, sorted({it.name: it for it in changed}.values()))
+    changed = changed or known[file]
+    return edit._replace(changes=changes, functions=sorted({it.name: it for it in changed}.values()))
 
 
 def rounds(crate, edits):
@@ -128,12 +128,28 @@ def rounds(crate, edits):
         left = [it for it in left if it not in taken]
 
 
-def edits_of(folder, rooms, only):
+def crates_with_bugs():
+    """The names of the crates that have planted bugs."""
+    return sorted(it.name for it in PLANTED.iterdir())
+
+
+def bugs_of(name, with_more):
+    """The planted bugs of a crate, as its files have them: those of the gate, then all others if they are wanted."""
+    found = [bug for path in sorted((PLANTED / name).rglob("*.bugs")) for bug in of_text(path.read_text())]
+    twice = [name for name, count in collections.Counter(bug.name for bug in found).items() if count > 1]
+    if twice:
+        raise ValueError(f"several planted bugs of {name} have the name {twice[0]}")
+    of_gate = [bug for bug in found if MORE not in dict(bug.words)]
+    others = [bug for bug in found if MORE in dict(bug.words)]
+    return [bug for part in (of_gate, others if with_more else []) for bug in sorted(part)]
+
+
+def edits_of(folder, with_more, only):
     """Returns a crate's functions, its planted bugs, and those that cannot be applied."""
     files = [str(it.relative_to(folder)) for it in (folder / "src").rglob("*.rt")]
     homes = types(folder, files)
     known = {file: list(functions(folder, file, homes)) for file in files}
-    paths = [it for room in rooms for it in sorted((folder / room).glob("*.edit"))]
-    edits = [read(folder, it, known) for it in paths if not only or any(word in it.name for word in only)]
+    bugs = [it for it in bugs_of(folder.name, with_more) if not only or any(word in it.name for word in only)]
+    edits = [read(folder, it, known) for it in bugs]
     every = [it for file in files for it in known[file]]
     return every, [it for it in edits if it.changes], [it for it in edits if not it.changes]

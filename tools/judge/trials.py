@@ -67,7 +67,7 @@ def counts(goal, function, edit):
         return False
     if edit.clause:
         return edit.clause in clauses_of(goal.name, function)
-    return edit.name.startswith("planted/more/")
+    return edit.is_more
 
 
 def judged(edit, verdicts, found):
