@@ -31,7 +31,9 @@ SCRIPTS = ("python/tests/run_bundles.py", "python/tests/run_options.py", "tests/
            "python/tests/run_package.py", "python/tests/run_cores.py", "python/tests/run_pages.py",
            "tests/run_bounds.py", "tests/run_hints.py", "python/tests/random_verilog.py", "tests/run_library.py",
            "python/tests/run_circuit.py", "tests/run_gate.py", "python/tests/run_sva.py", "tests/tour.py",
-           "python/tests/run_netlists.py", "python/tests/run_reading.py")
+           "python/tests/run_netlists.py", "python/tests/run_reading.py", "python/tests/run_forger.py")
+# designs with known truth, which take longest
+DESIGNS = "python/tests/run_designs.py"
 # this tries some of the planted bugs of the package
 PLANTED = ("tools/planted_python.py", "--sample", "40")
 # this runs aig_tests
@@ -94,7 +96,7 @@ def commands(program):
     beside it."""
     steps = [f"{os.path.dirname(it)}/aig_tests" for it in program]
     comparing = (*COMPARED, *(word for it in program for word in ("--aig", it)))
-    scripts = [(*PLANTED, *program), (STEPS, *steps), *((name, *program) for name in SCRIPTS), comparing,
+    scripts = [(DESIGNS, *program), (*PLANTED, *program), (STEPS, *steps), *((name, *program) for name in SCRIPTS), comparing,
                *((name,) for name in READERS)]
     words = {name: [f"{REPOSITORY}/{name}", *rest] for name, *rest in scripts}
     return words if shutil.which("c++") else {**words, COMPARED[0]: NO_COMPILER}

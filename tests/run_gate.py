@@ -189,7 +189,7 @@ def side_by_side(_, tally, __):
 
 
 # These are not in the gate: docs/TESTING.md has what they need.
-APART = {"tests/run_tools.py", "python/tests/run_designs.py", "python/tests/run_probes.py"}
+APART = {"tests/run_tools.py", "python/tests/run_probes.py"}
 
 
 def scripts(_, tally, __):
