@@ -36,6 +36,8 @@ SCRIPTS = ("python/tests/run_bundles.py", "python/tests/run_options.py", "tests/
 DESIGNS = "python/tests/run_designs.py"
 # this tries some of the planted bugs of the package
 PLANTED = ("tools/planted_python.py", "--sample", "40")
+# this tries some of the mutants of the package, for so many processor seconds
+MUTANTS = ("tools/mutants.py", "--sample", "300")
 # this runs aig_tests
 STEPS = "tests/run_steps.py"
 # this compares with the C++ program of the benchmarks on broken files
@@ -47,7 +49,7 @@ READERS = ("tools/definitions.py", "tools/contracts.py", "tools/edges.py", "tool
 COUNTS = re.compile(r"(\d+) passed[,;] (\d+) failed")
 # what a script left out: its name, and why
 LEFT_OUT = re.compile(r"(?m)^(.*?): left out: (.*)$")
-SHOWN = re.compile(r"(?m)^.*(?: passed[,;] |left out|to believe|as the sources| compared, | pictures ).*\n")
+SHOWN = re.compile(r"(?m)^.*(?: passed[,;] |left out|not listed|to believe|as the sources| compared, | pictures ).*\n")
 
 # How a script ended: how many of its checks passed and failed, and a line for each thing that it left out.
 Ended = collections.namedtuple("Ended", "passed failed left")
@@ -96,7 +98,7 @@ def commands(program):
     beside it."""
     steps = [f"{os.path.dirname(it)}/aig_tests" for it in program]
     comparing = (*COMPARED, *(word for it in program for word in ("--aig", it)))
-    scripts = [(DESIGNS, *program), (*PLANTED, *program), (STEPS, *steps), *((name, *program) for name in SCRIPTS), comparing,
+    scripts = [(DESIGNS, *program), (*PLANTED, *program), (*MUTANTS, *program), (STEPS, *steps), *((name, *program) for name in SCRIPTS), comparing,
                *((name,) for name in READERS)]
     words = {name: [f"{REPOSITORY}/{name}", *rest] for name, *rest in scripts}
     return words if shutil.which("c++") else {**words, COMPARED[0]: NO_COMPILER}

@@ -11,7 +11,7 @@ import sys
 
 import all as every
 import wrong_bodies
-from gate_parts import costing, planting
+from gate_parts import costing, mutating, planting
 from gate_parts.planting import of_kit, replaced
 from library import runs, supervised
 from library.runs import REPOSITORY, TESTS, write
@@ -219,7 +219,7 @@ def with_kit(part):
 
 PARTS = {"cited": planting.cited, "sums": with_kit(planting.sums), "again": with_kit(planting.again),
          "bugs": planting.bugs_of_crates, "wrong": wrong, "left_out": left_out,
-         "planted": planted_of_python, "scripts": scripts, "lanes": side_by_side, "report": costing.report,
+         "planted": planted_of_python, "mutants": mutating.mutants, "scripts": scripts, "lanes": side_by_side, "report": costing.report,
          "functions": costing.of_functions}
 
 if __name__ == "__main__":

@@ -1,6 +1,6 @@
 #!/usr/bin/env python3
-"""A forger by chance: bundles are changed at random, with all sums right, and what `recheck` accepts is compared with what is
-true. Each seed gives another forgery of each bundle."""
+"""A forger by chance: bundles are changed at random, with all sums right, and what `recheck` accepts is compared with
+what is true. Each seed gives another forgery of each bundle."""
 
 import os
 import sys

@@ -1,5 +1,5 @@
-"""A forger by chance: what a bundle says is changed at random, and all sums are made right. What `recheck` accepts may say
-no more than what is true."""
+"""A forger by chance: what a bundle says is changed at random, and all sums are made right. What `recheck` accepts may
+say no more than what is true."""
 
 from __future__ import annotations
 
@@ -165,7 +165,8 @@ def is_true(row, true, is_doubted):
         return True
     bound, known = (BOUND.fullmatch(str(it)) for it in (result, right))
     if bound:
-        return int(bound[1]) <= (int(known[1]) if known else true["frames"] - 1 if true["by"] == "run" else MOST_FRAMES)
+        shorter = true["frames"] - 1 if true["by"] == "run" else MOST_FRAMES
+        return int(bound[1]) <= (int(known[1]) if known else shorter)
     return right == "vacuous" and result in ("holds", "never reached") and is_doubted
 
 
@@ -191,7 +192,7 @@ def wrong_in(accepted, true):
 
 
 def right_bundles():
-    """The bundles that are forged, in the current folder: two that are kept, and one with assumptions that some run keeps."""
+    """The bundles that are forged, in the current folder: two that are kept, and one with assumptions that a run keeps."""
     words = (HERE / "needs.aag", "--abc", "", "--solver", SMALL_SOLVER, "--frames", 4, "-q")
     called("run", *words, "--out", "assumed.verdicts")
     return [kept("every"), kept("contradiction"), Path("assumed.verdicts")]
