@@ -11,7 +11,7 @@ import sys
 
 import all as every
 import wrong_bodies
-from gate_parts import costing, packages, planting
+from gate_parts import costing, mutating, packages, planting
 from gate_parts.planting import of_kit, replaced
 from library import runs, supervised
 from library.runs import REPOSITORY, TESTS, write
@@ -189,7 +189,7 @@ def side_by_side(_, tally, __):
 
 
 # These are not in the gate: docs/TESTING.md has what they need.
-APART = {"tests/run_tools.py", "verdicts/tests/run_designs.py", "verdicts/tests/run_probes.py"}
+APART = {"tests/run_tools.py", "verdicts/tests/run_probes.py"}
 
 
 def scripts(_, tally, __):
@@ -219,8 +219,8 @@ def with_kit(part):
 
 PARTS = {"cited": planting.cited, "sums": with_kit(planting.sums), "again": with_kit(planting.again),
          "bugs": planting.bugs_of_crates, "wrong": wrong, "left_out": left_out,
-         "planted": planted_of_python, "scripts": scripts, "lanes": side_by_side, "report": costing.report,
-         "functions": costing.of_functions, "packages": packages.packages}
+         "planted": planted_of_python, "mutants": mutating.mutants, "scripts": scripts, "lanes": side_by_side,
+         "report": costing.report, "functions": costing.of_functions, "packages": packages.packages}
 
 if __name__ == "__main__":
     runs.main(__doc__, PARTS)

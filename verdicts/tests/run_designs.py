@@ -5,7 +5,8 @@ and each circuit made again by Yosys.
 
 Icarus Verilog plays each run that fails, and random ones, on the sources.
 
-usage: run_designs.py [PROGRAM] [NAME ..]. It needs yosys and cadical, and iverilog to play runs."""
+usage: run_designs.py [PROGRAM] [NAME ..]. It needs yosys and cadical, and iverilog to play runs. Without a program it
+tests the one that the gate built."""
 
 import json
 import os
@@ -20,6 +21,7 @@ from paths import PYTHONPATH, TESTS as HERE
 from aig_verdicts.search.search import WRONG_CERTIFICATE, WRONG_RUN
 from designs.truth import DESIGNS, FREE_CLOCK
 from library import supervised
+from library.runs import PROVED_PROGRAM
 from library.supervised import SCRIPT_SECONDS, SECONDS
 
 IS_PLAYED = shutil.which("iverilog") is not None
@@ -113,15 +115,19 @@ def checked(names=()):
 
 if __name__ == "__main__":
     words = sys.argv[1:]
-    if words and os.path.isfile(words[0]):
-        os.environ["AIG_PROGRAM"] = os.path.abspath(words.pop(0))
+    is_given = bool(words) and os.path.isfile(words[0])
+    os.environ["AIG_PROGRAM"] = os.path.abspath(words.pop(0) if is_given else PROVED_PROGRAM)
+    missing = [name for name in ("yosys", "cadical") if shutil.which(name) is None]
+    if missing:
+        print(f"designs: left out: there is no {missing[0]}")
+        sys.exit(0)
     rows = failed = designs = 0
     for known, wrong in checked(words):
         rows, designs = rows + len(known.answers), designs + 1
         failed += len(wrong)
         for line in wrong:
             print(f"FAILED: {known.name}: {line}", flush=True)
-    print(f"designs: {rows - failed} rows passed, {failed} failed")
+    print(f"designs: {rows - failed} passed, {failed} failed")
     if not IS_PLAYED:
         print(f"designs: left out: there is no iverilog to play the runs of {designs} designs")
     sys.exit(failed > 0)
