@@ -25,15 +25,21 @@ WHOLE_SECONDS = 15 * SECONDS
 # How many scripts run at once: each waits for programs now and then, also where there are two processors.
 AT_ONCE = 3
 # These take the program as their argument. The longest come first, so that none runs alone at the end.
-SCRIPTS = ("python/tests/run_bundles.py", "python/tests/run_options.py", "tests/run_random.py", "tests/run_program.py",
-           "tests/run_large.py", "tests/run_dist.py", "python/tests/run_explain.py", "tests/run_faults.py",
-           "python/tests/run_versions.py", "python/tests/run_dask.py", "python/tests/run_replay.py",
-           "python/tests/run_package.py", "python/tests/run_cores.py", "python/tests/run_pages.py",
-           "tests/run_bounds.py", "tests/run_hints.py", "python/tests/random_verilog.py", "tests/run_library.py",
-           "python/tests/run_circuit.py", "tests/run_gate.py", "python/tests/run_sva.py", "tests/tour.py",
-           "python/tests/run_netlists.py", "python/tests/run_reading.py")
+SCRIPTS = ("verdicts/tests/run_bundles.py", "verdicts/tests/run_options.py", "tests/run_random.py",
+           "tests/run_program.py", "tests/run_large.py", "tests/run_dist.py", "python/tests/run_explain.py",
+           "tests/run_faults.py",
+           "verdicts/tests/run_versions.py", "verdicts/tests/run_dask.py", "verdicts/tests/run_replay.py",
+           "python/tests/run_package.py", "verdicts/tests/run_cores.py", "verdicts/tests/run_pages.py",
+           "tests/run_bounds.py", "tests/run_hints.py", "verdicts/tests/random_verilog.py", "tests/run_library.py",
+           "verdicts/tests/run_circuit.py", "tests/run_gate.py", "verdicts/tests/run_sva.py", "tests/tour.py",
+           "verdicts/tests/run_netlists.py", "verdicts/tests/run_reading.py", "verdicts/tests/run_proving.py",
+           "verdicts/tests/run_forger.py")
+# designs with known truth, which take longest
+DESIGNS = "verdicts/tests/run_designs.py"
 # this tries some of the planted bugs of the package
 PLANTED = ("tools/planted_python.py", "--sample", "40")
+# this tries some of the mutants of the package, for so many processor seconds
+MUTANTS = ("tools/mutants.py", "--sample", "300")
 # this runs aig_tests
 STEPS = "tests/run_steps.py"
 # this compares with the C++ program of the benchmarks on broken files
@@ -45,7 +51,7 @@ READERS = ("tools/definitions.py", "tools/contracts.py", "tools/theorems.py", "t
 COUNTS = re.compile(r"(\d+) passed[,;] (\d+) failed")
 # what a script left out: its name, and why
 LEFT_OUT = re.compile(r"(?m)^(.*?): left out: (.*)$")
-SHOWN = re.compile(r"(?m)^.*(?: passed[,;] |left out|to believe|as the sources| compared, | pictures ).*\n")
+SHOWN = re.compile(r"(?m)^.*(?: passed[,;] |left out|not listed|to believe|as the sources| compared, | pictures ).*\n")
 
 # How a script ended: how many of its checks passed and failed, and a line for each thing that it left out.
 Ended = collections.namedtuple("Ended", "passed failed left")
@@ -94,8 +100,8 @@ def commands(program):
     beside it."""
     steps = [f"{os.path.dirname(it)}/aig_tests" for it in program]
     comparing = (*COMPARED, *(word for it in program for word in ("--aig", it)))
-    scripts = [(*PLANTED, *program), (STEPS, *steps), *((name, *program) for name in SCRIPTS), comparing,
-               *((name,) for name in READERS)]
+    scripts = [(DESIGNS, *program), (*PLANTED, *program), (*MUTANTS, *program), (STEPS, *steps),
+               *((name, *program) for name in SCRIPTS), comparing, *((name,) for name in READERS)]
     words = {name: [f"{REPOSITORY}/{name}", *rest] for name, *rest in scripts}
     return words if shutil.which("c++") else {**words, COMPARED[0]: NO_COMPILER}
 

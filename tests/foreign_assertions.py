@@ -26,8 +26,9 @@ from foreign.packages import PACKAGES, Package, sources, unpacked
 from library import supervised
 
 REPOSITORY = Path(__file__).resolve().parent.parent
-sys.path.insert(0, str(REPOSITORY / "python" / "src"))
-from aig.sva.translation import Untranslated, translated  # noqa: E402
+sys.path.insert(0, str(REPOSITORY / "verdicts" / "tests"))
+from paths import PYTHONPATH  # noqa: E402
+from aig_verdicts.sva.translation import Untranslated, translated  # noqa: E402
 
 SUITES = {("yosys", "0.23-6"): "tests/sva", ("verilator", "5.006-3"): "test_regress/t"}
 CONCURRENT = re.compile(r"(?m)\b(?:assert|assume|cover|restrict)\s+(?:property|sequence)\b|^\s*(?:property|sequence)\b")
@@ -82,8 +83,8 @@ def outcome(path: Path) -> str:
 def verdicts(path: Path, macros: List[str], program: str) -> str:
     """`holds`, `fails`, or why there are no verdicts."""
     with tempfile.TemporaryDirectory() as folder:
-        words = [sys.executable, "-m", "aig.verdicts", "run", str(path), "--top", "top", *macros, "-o", f"{folder}/out"]
-        settings = {**os.environ, "AIG_PROGRAM": program, "PYTHONPATH": str(REPOSITORY / "python" / "src")}
+        words = [sys.executable, "-m", "aig_verdicts", "run", str(path), "--top", "top", *macros, "-o", f"{folder}/out"]
+        settings = {**os.environ, "AIG_PROGRAM": program, "PYTHONPATH": PYTHONPATH}
         done = supervised.run([*words, "--no-simulator", "-j", "1"], env=settings, stdin=subprocess.DEVNULL,
                               capture_output=True, text=True, check=False, timeout=supervised.SCRIPT_SECONDS)
         if not Path(folder, "out", "MANIFEST.json").exists():

@@ -11,7 +11,7 @@ import sys
 
 import all as every
 import wrong_bodies
-from gate_parts import costing, planting, theorems
+from gate_parts import costing, mutating, packages, planting, theorems
 from gate_parts.planting import of_kit, replaced
 from library import runs, supervised
 from library.runs import REPOSITORY, TESTS, write
@@ -124,9 +124,9 @@ def planted_of_python(program, tally, _):
     """When a planted bug of Python is seen; its edits, and the bugs that a commit chooses."""
     copy = planted_python.Copy.__new__(planted_python.Copy)
     copy.folder, copy.program = pathlib.Path.cwd(), program.path
-    os.makedirs(planted_python.SCRIPTS)
+    os.makedirs(planted_python.SCRIPTS[0])
     for name, (text, is_seen) in SHOWN.items():
-        write(f"{planted_python.SCRIPTS}/{name}", f"import sys\n{text}\n")
+        write(f"{planted_python.SCRIPTS[0]}/{name}", f"import sys\n{text}\n")
         found = copy.shown(f"{name} one")
         tally.check(f"planted: a part that {name}", found.has_failed is is_seen, found)
     text = "file: a.py\n\none: It is 2.\nseen: b.py c\nold: = 1\nnew: = 2\nold: two = 2\nnew:\n\nthree: No.\nseen: d e"
@@ -153,9 +153,9 @@ def noted(tally):
     bug = planted_python.Bug("a.one", "It is 2.", "a.py", "run_b.py c", [("= 1", "= 2")])
     others = [bug._replace(name=f"a.{number}", seen="run_b.py f") for number in range(9)]
     bugs = [bug, *others]
-    os.makedirs(f"{planted_python.SCRIPTS}/b")
+    os.makedirs(f"{planted_python.SCRIPTS[0]}/b")
     files = {"a.py": True, "run_b.py": False, "b/c.py": True, "b/d.py": False}
-    paths = {name: name if name == "a.py" else f"{planted_python.SCRIPTS}/{name}" for name in files}
+    paths = {name: name if name == "a.py" else f"{planted_python.SCRIPTS[0]}/{name}" for name in files}
     for path in paths.values():
         write(path, "parts = c.c, d.e, f")
     tally.compare("planted: files of parts", [planted_python.file_of(it.seen).name for it in bugs[:2]],
@@ -189,16 +189,16 @@ def side_by_side(_, tally, __):
 
 
 # These are not in the gate: docs/TESTING.md has what they need.
-APART = {"tests/run_tools.py", "python/tests/run_designs.py", "python/tests/run_probes.py"}
+APART = {"tests/run_tools.py", "verdicts/tests/run_probes.py"}
 
 
 def scripts(_, tally, __):
     """Each file that names its interpreter can be run by its name, as `tests/all.py` and pages do. All scripts of tests
     are in the gate, but for those that are known."""
-    there = {str(path.relative_to(REPOSITORY)) for name in ("tests", "python/tests")
+    there = {str(path.relative_to(REPOSITORY)) for name in ("tests", "python/tests", "verdicts/tests")
              for path in pathlib.Path(REPOSITORY, name).glob("run_*.py")}
     tally.compare("scripts: those that are not in the gate", there - {*every.commands([])}, APART)
-    folders = ("tests", "tools", "benchmarks", "python", ".ci")
+    folders = ("tests", "tools", "benchmarks", "python", "verdicts", ".ci")
     for path in sorted(each for name in folders for each in pathlib.Path(REPOSITORY, name).rglob("*")):
         if path.is_file() and path.suffix in (".py", ".sh", "") and "verdicts" not in path.parent.suffix:
             with open(path, "rb") as file:
@@ -219,9 +219,9 @@ def with_kit(part):
 
 PARTS = {"cited": planting.cited, "sums": with_kit(planting.sums), "again": with_kit(planting.again),
          "bugs": planting.bugs_of_crates, "wrong": wrong, "left_out": left_out,
-         "planted": planted_of_python, "scripts": scripts, "lanes": side_by_side, "report": costing.report,
-         "functions": costing.of_functions, "theorems": theorems.pages, "between": theorems.between,
-         "shown": theorems.shown_text, "names": theorems.names}
+         "planted": planted_of_python, "mutants": mutating.mutants, "scripts": scripts, "lanes": side_by_side,
+         "report": costing.report, "functions": costing.of_functions, "packages": packages.packages,
+         "theorems": theorems.pages, "between": theorems.between, "shown": theorems.shown_text, "names": theorems.names}
 
 if __name__ == "__main__":
     runs.main(__doc__, PARTS)

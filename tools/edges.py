@@ -1,6 +1,6 @@
 #!/usr/bin/env python3
 """Compares crates.txt with the sources, and the table of crates in docs/ARCHITECTURE.md and the picture of them,
-docs/floors.svg, with crates.txt.
+docs/floors.svg, with crates.txt. And packages.txt with the imports of Python (tools/python_edges.py).
 
 - A crate lists the libraries that a file of its src/, specs/ or proofs/ names, and no others. Comments do not count.
 - The libraries of a crate are above it in crates.txt. A line with `#` begins a floor, and says what the crates of the
@@ -22,6 +22,7 @@ import re
 import sys
 
 import draw_floors
+import python_edges
 from sources.specs import ROOT
 
 LIST = ROOT / "crates.txt"
@@ -174,7 +175,7 @@ def main():
         PAGE.write_text("\n".join([*before, *new, *after]), encoding="utf-8")
         PICTURE.write_text(picture, encoding="utf-8")
         old = new
-    wrong = [*wrong_list(all_floors, libraries), *wrong_meanings(libraries)]
+    wrong = [*wrong_list(all_floors, libraries), *wrong_meanings(libraries), *python_edges.wrong()]
     wrong += [f"docs/ARCHITECTURE.md does not say what {name} holds" for name in libraries if not held.get(name)]
     for line in wrong:
         print(line)
@@ -189,6 +190,9 @@ def main():
         return 1
     count = sum(len(of) for of in below_each.values())
     print(f"{len(libraries)} crates on {len(all_floors)} floors, {count} edges: crates.txt is as the sources are")
+    packages = python_edges.listed(python_edges.LIST.read_text(encoding="utf-8"))
+    count = sum(map(len, packages.values()))
+    print(f"{len(packages)} packages of Python, {count} edges: packages.txt is as the sources are")
     print(f"the longest chain has {draw_floors.longest(below_each, lines).lines} lines of src and proofs")
     return 0
 

@@ -18,7 +18,8 @@ import re
 import sys
 
 ROOT = pathlib.Path(__file__).resolve().parent.parent
-PATTERNS = ("*.md", "docs/*.md", "docs/theorems/*.md", "examples/*.md", "python/*.md", "crates/*/README.md")
+PATTERNS = ("*.md", "docs/*.md", "docs/theorems/*.md", "examples/*.md", "python/*.md", "verdicts/*.md",
+            "verdicts/docs/*.md", "crates/*/README.md")
 # tools/contracts.py writes the lines of the one, and the tables of the other are as they were measured.
 LONG_LINES = ("docs/CONTRACTS.md", "docs/PERFORMANCE.md")
 COLUMNS = 120
@@ -26,9 +27,9 @@ CALLING = ROOT / "docs" / "CALLING.md"
 CALLERS = ROOT / "crates" / "aig_tests"
 MARK = re.compile(r" *(?:-|\d+\.) ")
 # What an auditor of a `recheck` reads, the pages that say so, and the most lines that such a file may have.
-AUDITED = tuple(ROOT / "python" / "src" / "aig" / "verdicts" / name
-                for name in ("checked.py", "decisions.py", "sentences.py"))
-NAMES_AUDITED = ("docs/VERDICTS.md", )
+AUDITED = tuple(ROOT / "verdicts" / "src" / "aig_verdicts" / "audit" / name
+                for name in ("checked.py", "decisions.py", "sentences.py", "table.py"))
+NAMES_AUDITED = ("verdicts/docs/VERDICTS.md", )
 MOST_AUDITED = 270
 
 

@@ -1,15 +1,16 @@
 #!/usr/bin/env python3
-"""Tries the planted bugs of the Python package: the wrong bodies in python/tests/planted/. Nothing is proved of Python,
-so only tests see them. Each bug names the part of a script of python/tests that has to see it. It is applied in a copy
-of the tree, and is seen if a check of that part fails, or ends with an exception of the package. A part that is stopped
-has seen nothing, nor one whose edit is no right Python. Without a bug each of these parts has to pass.
+"""Tries the planted bugs of the Python packages: the wrong bodies in python/tests/planted/ and verdicts/tests/planted/.
+Nothing is proved of Python, so only tests see them. Each bug names the part of a script of one of these tests that has
+to see it. It is applied in a copy of the tree, and is seen if a check of that part fails, or ends with an exception of
+the package. A part that is stopped has seen nothing, nor one whose edit is no right Python. Without a bug each of these
+parts has to pass.
 
 A file of bugs is one of those that crates have (tools/sources/planted.py): `file:` with the path of a source, and a
 paragraph for each bug, which has `seen:` with the script and its part. An edit that no longer applies fails, whatever
 is tried.
 
-seen.txt has a sum of each bug that was seen: of the bug, of its source, and of the file of its part. --new tries the
-bugs whose sum is another one, or is not there; --write notes those that are seen. A run that is stopped notes what it
+tools/seen.txt has a sum of each bug that was seen: of the bug, of its source, and of the file of its part. --new tries
+the bugs whose sum is another one, or is not there; --write notes those that are seen. A run that is stopped notes what it
 saw until then.
 
 With --sample N it tries so many bugs: first those that --new would try, then those that the commit chooses; each commit
@@ -38,11 +39,12 @@ ROOT = pathlib.Path(__file__).resolve().parent.parent
 sys.path.insert(0, str(ROOT / "tests"))
 from library import runs, supervised  # noqa: E402
 
-BUGS, SCRIPTS = "python/tests/planted", "python/tests"
+# The folders of scripts; below each, planted/ has the bugs.
+SCRIPTS = ("python/tests", "verdicts/tests")
 # The sums of the bugs that were seen.
-SEEN = ROOT / BUGS / "seen.txt"
+SEEN = ROOT / "tools" / "seen.txt"
 # What the scripts read.
-COPIED = ("python", "tests", "examples", "tools", "include", "docs")
+COPIED = ("python", "verdicts", "tests", "examples", "tools", "include", "docs")
 # Processor seconds that a part may take: a bug may go on for ever.
 MOST_SECONDS = 120
 
@@ -60,7 +62,8 @@ def bugs_of(path):
 
 
 def all_bugs():
-    found = [bug for path in sorted((ROOT / BUGS).glob("*.bugs")) for bug in bugs_of(path)]
+    found = [bug for folder in SCRIPTS
+             for path in sorted((ROOT / folder / "planted").glob("*.bugs")) for bug in bugs_of(path)]
     twice = [name for name, count in collections.Counter(bug.name for bug in found).items() if count > 1]
     if twice:
         sys.exit(f"several bugs have the name {twice[0]}")
@@ -85,10 +88,16 @@ def is_right_python(bug):
         return False
 
 
+def script_of(root, name):
+    """The path of a script in a tree."""
+    found = (root / folder / name for folder in SCRIPTS)
+    return next((path for path in found if path.is_file()), root / SCRIPTS[0] / name)
+
+
 def file_of(seen):
     """The file of a part: one in the folder of its script, else the script."""
     script, part = seen.split()
-    path = ROOT / SCRIPTS / script
+    path = script_of(ROOT, script)
     folder = path.with_name(path.stem.removeprefix("run_"))
     found = [folder / f"{name}.py" for name in re.findall(rf"(\w+)\.{part}_?\b", path.read_text())]
     return next((each for each in found if each.is_file()), path)
@@ -150,7 +159,7 @@ class Copy:
         script, part = seen.split()
         # Python takes a file that it made of a source for a newer one of the same size and second, so it makes none.
         environment = {**os.environ, runs.FIRST_FAILURE: "1", "PYTHONDONTWRITEBYTECODE": "1"}
-        words = [sys.executable, self.folder / SCRIPTS / script, "--part", part, self.program]
+        words = [sys.executable, script_of(self.folder, script), "--part", part, self.program]
         with tempfile.TemporaryFile() as output:
             try:
                 status = supervised.run(words, timeout=supervised.SCRIPT_SECONDS, env=environment, preexec_fn=bounded,

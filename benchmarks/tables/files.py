@@ -71,7 +71,7 @@ def circuit_of(name, design):
 
 def synthesized(programs):
     design = kept("large.v", lambda part: Run(
-        [sys.executable, f"{REPOSITORY}/python/tests/designs/large.py", CHANNELS], part))
+        [sys.executable, f"{REPOSITORY}/verdicts/tests/designs/large.py", CHANNELS], part))
     return circuit_of("large", design)
 
 

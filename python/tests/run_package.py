@@ -6,10 +6,9 @@ that are odd or ambiguous, each kind of row, gates after all sections, models as
 proofs and certificates, edits and replies of a bench, 50,000 lines at once and a row that is longer than a pipe
 (`names`, `rows`, `arrays` with numpy, `files`, `verdicts`, `certificates`, `bench`, `replies`); a circuit with 13
 properties, of which each answer is about the one that was asked for (`many`, `asked`, `zeros`, `models`); a program
-that is killed after it printed a verdict (`killed`); `aig.prove` and `aig.certify` with cadical: a bug, a bound, an
-induction, a right and a wrong certificate, and solvers that fail (`solvers`); the same without cadical (`small`);
-searches that a bound or another thread ends (`bounds`); verdicts beside the texts that they were (`texts`); programs in
-the place of ABC (`by_abc`); benches in the library beside those in a process, and calls that are wrong (`live`); where
+that is killed after it printed a verdict (`killed`); `aig.solve` with cadical (`solvers`), with a small solver
+(`small`), and ended by a bound or another thread (`bounds`); verdicts beside the texts that they were (`texts`); benches
+in the library beside those in a process, and calls that are wrong (`live`); where
 the library is looked for, and libraries of other versions (`libraries`); benches by names, in the library and in a
 process: vectors (`vectors`), outputs that were set (`moved`), buffers (`buffers`, `numpy`), what the prompt answers too
 (`prompt`), and the notebook and the program of examples/ (`notebook`, `lift`); two circuits side by side (`miters`); what notebooks show
@@ -36,7 +35,7 @@ from library.supervised import SCRIPT_SECONDS  # noqa: E402
 if "--installed" not in sys.argv:
     sys.path.insert(0, str(PYTHON / "src"))
 import aig  # noqa: E402
-from package import answers, bench, by_abc, failures, live, miters, named, notebooks, replies, searches  # noqa: E402
+from package import answers, bench, failures, live, miters, named, notebooks, replies, searches  # noqa: E402
 from package.common import CLAIMS_0, CLAIMS_1, CONFIRMED, PROOF_OF_0, STAYS  # noqa: E402
 from package.common import example, need, raised, running  # noqa: E402
 
@@ -213,13 +212,6 @@ def types(_, tally, __):
     words = ["mypy", "--strict", "--python-version", "3.9", "--cache-dir", os.devnull, str(PYTHON / "src" / "aig")]
     done = supervised.run(words, capture_output=True, timeout=SCRIPT_SECONDS)
     tally.compare("mypy", (done.returncode, done.stdout.decode().splitlines()[:-1]), (0, []))
-    path = PYTHON / "tests" / "package" / "refused.py"
-    wanted = [at for at, line in enumerate(path.read_text().splitlines(), 1) if "  # refused: " in line]
-    done = supervised.run([*words[:-1], str(path)], capture_output=True, timeout=SCRIPT_SECONDS,
-                          env={**os.environ, "MYPYPATH": str(PYTHON / "src")})
-    errors = re.findall(r"(?m)^[^\n:]*refused\.py:(\d+): error: ", done.stdout.decode())
-    tally.compare("mypy refuses verdicts without a check", sorted({int(at) for at in errors}), wanted)
-    tally.check("mypy: such lines", len(wanted) > 15)
 
 
 PARTS = {
@@ -227,7 +219,7 @@ PARTS = {
     "certificates": certificates, "many": answers.many, "asked": answers.asked, "zeros": answers.zeros,
     "models": answers.models,
     "killed": answers.killed, "solvers": searches.solvers, "small": searches.small, "bounds": searches.bounds,
-    "texts": searches.texts, "by_abc": by_abc.by_abc, "miters": miters.miters, "notebooks": notebooks.notebooks, "bench": bench.bench,
+    "texts": searches.texts, "miters": miters.miters, "notebooks": notebooks.notebooks, "bench": bench.bench,
     "live": live.live, "libraries": live.libraries, "vectors": named.vectors, "moved": named.moved,
     "buffers": named.buffers, "numpy": named.arrays_of_numpy, "prompt": named.prompt, "notebook": named.notebook, "lift": named.lift,
     "replies": replies.replies,

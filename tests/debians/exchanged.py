@@ -13,7 +13,8 @@ from collections import Counter
 from pathlib import Path
 
 REPOSITORY = Path(__file__).resolve().parents[2]
-sys.path[:0] = [str(REPOSITORY / "python/tests"), str(REPOSITORY / "tests")]
+sys.path.insert(0, str(REPOSITORY / "verdicts/tests"))
+from paths import PYTHONPATH  # noqa: E402
 from designs.truth import DESIGNS  # noqa: E402
 from library import supervised  # noqa: E402
 from library.supervised import SCRIPT_SECONDS  # noqa: E402
@@ -38,8 +39,8 @@ TAKEN = [*KINDS][:2]
 
 def called(*words):
     """The status of aig-verdicts, and what it prints."""
-    settings = {**os.environ, "PYTHONPATH": str(REPOSITORY / "python/src")}
-    done = supervised.run([sys.executable, "-m", "aig.verdicts", *map(str, words)], env=settings,
+    settings = {**os.environ, "PYTHONPATH": PYTHONPATH}
+    done = supervised.run([sys.executable, "-m", "aig_verdicts", *map(str, words)], env=settings,
                           stdin=subprocess.DEVNULL, stdout=subprocess.PIPE, stderr=subprocess.STDOUT, text=True,
                           timeout=SCRIPT_SECONDS, check=False)
     return done.returncode, done.stdout

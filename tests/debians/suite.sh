@@ -23,9 +23,9 @@ recheck() {
 for step; do
     case $step in
     tour) inside /aig/tests/tour.py "$program" ;;
-    probes) inside /aig/python/tests/run_probes.py "$program" overridden ;;
-    designs | bundles | replay) inside "/aig/python/tests/run_$step.py" "$program" ;;
-    random) inside /aig/python/tests/random_verilog.py "$program" 1 "$count" ;;
+    probes) inside /aig/verdicts/tests/run_probes.py "$program" overridden ;;
+    designs | bundles | replay) inside "/aig/verdicts/tests/run_$step.py" "$program" ;;
+    random) inside /aig/verdicts/tests/random_verilog.py "$program" 1 "$count" ;;
     tools | recheck) $step ;;
     esac || failed=1
 done

@@ -17,7 +17,7 @@ FILES = {
     "share/doc/aig/examples":
         "Circuits with stimuli, scripts of bench, witnesses, certificates and proofs; and designs in Verilog. README.md says "
         "what each file is. The folder is below /usr/local, /usr, or another folder that the program was installed into.",
-    "share/doc/aig/docs": "The documentation. FLOW.md goes from Verilog to checked verdicts with aig-verdicts.",
+    "share/doc/aig/docs": "The documentation.",
     "FILE.new": "What bench and unroll write before they rename it to FILE.",
 }
 
@@ -70,8 +70,8 @@ def explain_page(version):
 
 def arguments_of_verdicts():
     """The parser of aig-verdicts, those of its commands by name, and what its help says of statuses."""
-    sys.path.insert(0, f"{REPOSITORY}/python/src")
-    from aig.verdicts.arguments import STATUSES, parser
+    sys.path[:0] = [f"{REPOSITORY}/verdicts/src", f"{REPOSITORY}/python/src"]
+    from aig_verdicts.arguments import STATUSES, parser
 
     top = parser()
     return top, next(it.choices for it in top._actions if it.choices), STATUSES

@@ -14,13 +14,14 @@ from library.runs import REPOSITORY, LeftOut, leave_out
 from library.supervised import SCRIPT_SECONDS
 from tools.external import Tools
 
-sys.path[:0] = [f"{REPOSITORY}/python/src", f"{REPOSITORY}/python/tests"]
-from aig.verdicts import workers  # noqa: E402
-from aig.verdicts.decide import Bounds  # noqa: E402
-from aig.verdicts.design import Reading, read_verilog  # noqa: E402
-from aig.verdicts.session import Plan, Session  # noqa: E402
-from aig.verdicts.tools import Stop  # noqa: E402
-from aig.verdicts.workers import Work  # noqa: E402
+sys.path.insert(0, f"{REPOSITORY}/verdicts/tests")
+from paths import PYTHONPATH  # noqa: E402
+from aig_verdicts.search import workers  # noqa: E402
+from aig_verdicts.search.task import Bounds  # noqa: E402
+from aig_verdicts.reading.design import Reading, read_verilog  # noqa: E402
+from aig_verdicts.search.session import Plan, Session  # noqa: E402
+from aig.tools import Stop  # noqa: E402
+from aig_verdicts.search.workers import Work  # noqa: E402
 from bundles.common import (  # noqa: E402
     HERE, called, judged, manifest_of, rows_of, same_manifests, write_manifest,
 )
@@ -219,7 +220,8 @@ def same_bytes(tally):
 _DASK = """\
 import sys
 from dask.distributed import LocalCluster
-from aig.verdicts import command, workers
+from aig_verdicts import command
+from aig_verdicts.search import workers
 if __name__ == "__main__":
     with LocalCluster(n_workers=2, threads_per_worker=1, processes=True, dashboard_address=None) as cluster:
         words = ["run", sys.argv[1], "--frames", "6", "-q", "--dask", cluster.scheduler_address, "--out"]
@@ -238,7 +240,7 @@ def dask(program, tally, _):
     if has_dask.returncode != 0:
         raise LeftOut(f"{DASK} has no dask.distributed: apt-get install python3-distributed, or set AIG_DASK_PYTHON")
     run(EVERY, "--frames", "6", "-j", "1", out="alone")
-    environment = {**os.environ, "PYTHONPATH": f"{REPOSITORY}/python/src", "AIG_PROGRAM": program.path}
+    environment = {**os.environ, "PYTHONPATH": PYTHONPATH, "AIG_PROGRAM": program.path}
     written("by_dask.py", _DASK)
     done = supervised.run([DASK, "by_dask.py", str(EVERY)], env=environment, stdin=DEVNULL,
                           capture_output=True, timeout=SCRIPT_SECONDS)

@@ -1,4 +1,4 @@
-"""`aig-verdicts` on the designs with known truth of python/tests/designs: each row has the verdict and the length that
+"""`aig-verdicts` on the designs with known truth of verdicts/tests/designs: each row has the verdict and the length that
 another tool found. Each folder is checked again, and each circuit made again of its sources."""
 
 import importlib.util
@@ -11,7 +11,7 @@ from tools.external import Tools
 def designs(program, tally, _):
     Tools()
     os.environ["AIG_PROGRAM"] = program.path
-    place = importlib.util.spec_from_file_location("run_designs", f"{REPOSITORY}/python/tests/run_designs.py")
+    place = importlib.util.spec_from_file_location("run_designs", f"{REPOSITORY}/verdicts/tests/run_designs.py")
     run_designs = importlib.util.module_from_spec(place)
     place.loader.exec_module(run_designs)
     for known, wrong in run_designs.checked():

@@ -7,7 +7,8 @@ import sys
 from library.runs import REPOSITORY
 from tools.external import Tools
 
-sys.path[:0] = [f"{REPOSITORY}/python/src", f"{REPOSITORY}/python/tests"]
+sys.path.insert(0, f"{REPOSITORY}/verdicts/tests")
+import paths  # noqa: E402, F401
 from pages.browser import browser  # noqa: E402
 from pages.made import made  # noqa: E402
 

@@ -41,7 +41,7 @@ class Table(NamedTuple):
 
 def table(program, *words):
     """Runs `aig-verdicts run` with these arguments."""
-    done = supervised.run([sys.executable, "-m", "aig.verdicts", "run", *words], stdin=subprocess.DEVNULL,
+    done = supervised.run([sys.executable, "-m", "aig_verdicts", "run", *words], stdin=subprocess.DEVNULL,
                           env={**os.environ, "AIG_PROGRAM": program.path, "PYTHONPATH": SOURCE}, capture_output=True,
                           timeout=SCRIPT_SECONDS, check=False)
     rows = [row_of(line) for line in done.stdout.decode().splitlines()]

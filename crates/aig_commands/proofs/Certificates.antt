@@ -1,5 +1,5 @@
 -- How a command on a circuit and a certificate ends, and what the check of its proof shows.
-use Rattle.std.proofs.Common.{◌≡◌, ◌⊎◌, inl, inr, ℕ, List, [], Result, Ok, Err, OnErr, OnOk, refl}
+use Rattle.std.proofs.Common.{◌≡◌, inl, inr, ℕ, List, [], Result, Ok, Err, OnOk, refl}
 use Rattle.std.specs.Prelude.{Option}
 use Rattle.std.specs.Result.{IsErrAnd}
 use Rattle.aig_bytes.specs.Flow.{Flow, flow}
@@ -47,8 +47,3 @@ pub good_answer : {X : Type 0} (out : Flow X) (line : List ℕ) (checked result 
 good_answer out line (Ok done) (Ok value) P p ends = p
 good_answer out line (Err fault) (Ok value) P p (CommandEnds.writes_all bytes (same, is) got) = cc
 good_answer out line checked (Err fault) P p ends = tt
-
--- what holds of a refused check, or what holds of a good one
-pub none_or_true : (checked : Result (Unit {0}) RunFault) (P Q : Type 0) → OnOk checked P → OnErr checked Q → Q ⊎ P
-none_or_true (Ok done) P Q p q = inr p
-none_or_true (Err fault) P Q p q = inl q

@@ -20,24 +20,24 @@ if TYPE_CHECKING:
     from .formula import Formula
     from .miters import miter
     from .runs import Trace, Witness
-    from .solver import Solved, certify, prove, solve
+    from .solver import Solved, solve
     from .values import X
     from .verdict import Verdict
-    from .verdicts.tools import Stop, Stopped
+    from .tools import Stop, Stopped
 
 __version__ = "0.4.0"
 
 __all__ = [
     "AigError", "Bench", "Certified", "Circuit", "Crashed", "EditError", "Entry", "Formula", "OutOfMemory", "Solved",
-    "Stop", "Stopped", "Trace", "Unreadable", "Verdict", "Witness", "X", "certify", "miter", "prove", "read", "solve",
+    "Stop", "Stopped", "Trace", "Unreadable", "Verdict", "Witness", "X", "miter", "read", "solve",
 ]
 
 # The names of each module. It is read when one of them is used first, so that `aig-explain` starts with few.
 _NAMES = {
     "bench": ("Bench",), "certified": ("Certified",), "circuit": ("Circuit", "read"), "entries": ("Entry",),
     "errors": ("AigError", "Crashed", "EditError", "OutOfMemory", "Unreadable"), "formula": ("Formula",),
-    "miters": ("miter",), "rows": (), "runs": ("Trace", "Witness"), "solver": ("Solved", "certify", "prove", "solve"),
-    "values": ("X",), "verdict": ("Verdict",), "verdicts": (), "verdicts.tools": ("Stop", "Stopped"),
+    "miters": ("miter",), "rows": (), "runs": ("Trace", "Witness"), "solver": ("Solved", "solve"),
+    "values": ("X",), "verdict": ("Verdict",), "tools": ("Stop", "Stopped"),
 }
 
 if not TYPE_CHECKING:
@@ -50,6 +50,8 @@ if not TYPE_CHECKING:
         for module, names in _NAMES.items():
             if name in names:
                 return globals().setdefault(name, getattr(import_module(f".{module}", __name__), name))
+        if name in ("prove", "certify", "verdicts", "sva"):
+            raise AttributeError(f"aig.{name} is of the package aig_verdicts now")
         raise AttributeError(f"module {__name__!r} has no attribute {name!r}")
 
 

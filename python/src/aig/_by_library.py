@@ -15,7 +15,7 @@ from typing import Any, Callable, Dict, List, Optional, Tuple, Union
 
 from . import __version__
 from ._engine import FAULT, Edit, Kind
-from ._program import failed, held
+from .program import failed, held
 from .errors import EditError, OutOfMemory
 
 DONE, REFUSED, NO_ROOM, NO_MEMORY = 0, 1, 2, 3

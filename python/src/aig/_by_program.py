@@ -8,7 +8,7 @@ from pathlib import Path
 from typing import Iterable, List, NoReturn, Tuple
 
 from ._engine import FAULT, LETTERS, Edit
-from ._program import failed, held, program
+from .program import failed, held, program
 from .errors import EditError
 
 # So many lines go to the program before their replies are read: their replies fit into a pipe.

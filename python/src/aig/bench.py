@@ -12,7 +12,7 @@ from ._arrays import array_of, as_given, cell, number, numbers, question, room_o
 from ._by_program import ByProgram
 from ._engine import FAULT, LETTERS, NO_FRAME, NO_KIND, NO_VALUE, Edit, Engine, Kind
 from ._named import edits_of
-from ._program import answers, run
+from .program import answers, run
 from ._where import library
 from .entries import Entries, Signal
 from .errors import EditError

@@ -4,7 +4,7 @@ from __future__ import annotations
 
 from typing import TYPE_CHECKING
 
-from ._program import run
+from .program import run
 from .entries import Signal
 from .formula import Formula
 

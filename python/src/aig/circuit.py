@@ -6,8 +6,8 @@ import os
 from pathlib import Path
 from typing import Dict, Iterable, List, Optional, Tuple, Union
 
-from ._parts import parts_of
-from ._program import OftenRead, run
+from .parts import parts_of
+from .program import OftenRead, run
 from .bench import Bench
 from .certified import Certified
 from .entries import SECTIONS, Entries, Entry, Signal, listed

@@ -4,7 +4,7 @@ from __future__ import annotations
 
 from typing import TYPE_CHECKING, Dict, Iterable, Iterator, List, Optional, Sequence, Tuple, Union
 
-from ._program import run
+from .program import run
 from .runs import Witness
 
 if TYPE_CHECKING:

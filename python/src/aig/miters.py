@@ -4,7 +4,7 @@ from __future__ import annotations
 
 from typing import Dict, List, Tuple
 
-from ._parts import parts_of
+from .parts import parts_of
 from .circuit import Circuit
 from .entries import Entry
 

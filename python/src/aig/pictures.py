@@ -13,8 +13,8 @@ MOST_LANES = 24
 
 def svg_of_witness(witness: Witness) -> str:
     """The run of a witness, with the causes of its property in thick lines."""
-    from .verdicts.runs import Told, story
-    from .verdicts.svg import waveform
+    from .waves.runs import Told, story
+    from .waves.svg import waveform
 
     concrete = witness.concrete.text if witness.concrete else None
     told = story(Told(witness.circuit), witness.text, "", concrete)
@@ -23,8 +23,8 @@ def svg_of_witness(witness: Witness) -> str:
 
 def svg_of_trace(trace: Trace, before: Optional[Trace] = None) -> str:
     """The inputs, latches and outputs of a run. Thick lines are values that another run before does not have."""
-    from .verdicts.signals import Names, labels
-    from .verdicts.svg import Lane, waveform
+    from .waves.signals import Names, labels
+    from .waves.svg import Lane, waveform
 
     signals = Names(trace.entries.all).all
     lanes: List[Lane] = []
@@ -44,7 +44,7 @@ def scrolling(svg: str) -> str:
 
 def html_of_verdict(verdict: Verdict) -> str:
     """A verdict, what it was found by, and its run."""
-    from .verdicts.svg import escape
+    from .letters import escape
 
     ways = {"run": f": run of {verdict.frames}", "induction": f": induction of {verdict.frames}",
             "certificate": ": certificate"}

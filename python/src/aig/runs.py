@@ -5,7 +5,7 @@ from __future__ import annotations
 from itertools import zip_longest
 from typing import TYPE_CHECKING, Any, Dict, List, Optional, Sequence, Tuple, Union, overload
 
-from ._program import run
+from .program import run
 from .entries import Entries
 from .values import Value, number_of, numpy, value_of
 
@@ -91,7 +91,7 @@ Difference = Dict[str, Dict[int, Tuple[Optional[Value], Optional[Value]]]]
 def difference(one: Trace, other: Trace) -> Difference:
     """The values that two runs of circuits with the same inputs, latches, outputs and properties do not share. A frame
     that a run does not have has None."""
-    from .verdicts.signals import Names, Signal, labels
+    from .waves.signals import Names, Signal, labels
 
     properties = [Signal(it.label, "b", (it.position,)) for it in one.entries.section("b")]
     signals = [*Names(one.entries.all).all, *properties]

@@ -5,20 +5,11 @@ from __future__ import annotations
 import os
 import shutil
 import tempfile
-from dataclasses import replace
 from pathlib import Path
-from typing import Dict, NamedTuple, Optional, Sequence, Union
+from typing import NamedTuple, Optional, Sequence, Union
 
-from .certified import Certified
-from .circuit import Circuit
-from .entries import Signal
 from .formula import Formula
-from .runs import Witness
-from .verdict import Verdict
-from .verdicts.checked import Checked, Rejected, check, sum_of
-from .verdicts.decide import Bounds, Found, Programs, Task, decide
-from .verdicts.hints import by_name, claim_of
-from .verdicts.tools import Limits, Stop, Stopped, run
+from .tools import Limits, Stop, run
 
 Solver = Union[str, Sequence[str]]
 CADICAL = ("cadical", "-q")
@@ -44,7 +35,7 @@ def solve(
     stop       ends it when it is called, from a signal or another thread: `solve` then raises `aig.Stopped`
     """
     words = [solver] if isinstance(solver, str) else list(solver)
-    words[0] = _found(words[0])
+    words[0] = found(words[0])
     bounded = ["-c", str(conflicts)] if conflicts else []
     with tempfile.TemporaryDirectory(prefix="aig-") as name:
         folder = Path(name)
@@ -61,89 +52,9 @@ def solve(
     raise RuntimeError(f"{words[0]} ended with status {ran.status}: {ran.said}")
 
 
-def prove(
-    circuit: Circuit, property: Signal = 0, frames: int = 20, solver: Solver = CADICAL, *, abc: Optional[str] = None,
-    seconds: Optional[float] = None, conflicts: int = 0, stop: Optional[Stop] = None,
-) -> Verdict:
-    """The verdict on a property: a shortest run of at most so many frames, a proof by induction, an invariant that ABC
-    finds if its program is named, or a proof that no run of so many frames reaches it. The toolkit checks them all.
-
-    The bounds are for one question to a solver or to ABC. If they end the search, the verdict is `undecided`, or of
-    fewer frames. `stop` ends it when it is called, from a signal or another thread: `prove` then raises `aig.Stopped`.
-    """
-    if frames < 1:
-        raise ValueError("a run has one frame at least")
-    bounds = Bounds(frames=frames, conflicts=conflicts, seconds=NO_BOUND if seconds is None else seconds)
-    programs = Programs(_as_cadical(solver), abc and _found(abc))
-
-    def found(position: int) -> Found:
-        ended = decide(Task.of(circuit.file, position, bounds=bounds, programs=programs), stop)
-        if ended.stopped:
-            raise Stopped
-        return ended
-
-    found_of_it = found(circuit.position(property))
-    verdict = _verdict(circuit, found_of_it)
-    if verdict.line.startswith("unreachable") and circuit.info()["constraints"]:
-        alive = found(-1)
-        if alive.checked is not None and alive.checked.by == "alive":
-            return _verdict(circuit, found_of_it, alive)
-        return replace(verdict, notes=[*verdict.notes, *alive.notes])
-    return verdict
-
-
-def certify(
-    certified: Certified, solver: Solver = CADICAL, *, seconds: Optional[float] = None, conflicts: int = 0,
-    stop: Optional[Stop] = None,
-) -> Union[Witness, Verdict]:
-    """The verdict `unreachable`, if the certificate shows that no run reaches the property. Else a witness of the
-    strengthened circuit, which shows which claim of the certificate is wrong. The toolkit checks both. If a bound ends
-    the search, the verdict is `undecided`."""
-    formula = certified.cnf()
-    found = solve(formula, solver, seconds=seconds, conflicts=conflicts, stop=stop)
-    if found.model is not None:
-        return formula.witness(found.model)
-    if found.proof is None:
-        return Verdict("undecided", notes=["the solver found no answer within its bounds"])
-    files = {"certificate": certified.certificate, "proof": found.proof}
-    checked = _check_of(certified, files, stop or Stop())
-    return Verdict(checked.line, by=checked.by, files=files, checked=checked)
-
-
-def _check_of(certified: Certified, files: Dict[str, bytes], stop: Stop) -> Checked:
-    """The check of a certificate and its proof."""
-    claim = claim_of(certified.position, "certificate", 0, files)
-    try:
-        return check(claim, certified.circuit.file, by_name(claim, files), stop)
-    except Rejected as rejected:
-        raise rejected.error from None
-
-
-def _verdict(circuit: Circuit, found: Found, alive: Optional[Found] = None) -> Verdict:
-    """The verdict of a search, by the checks that it made. `alive` says that no run keeps the constraints."""
-    checked, vacuous, files = found.checked, "", dict(found.files)
-    if checked is None:
-        return Verdict("undecided", notes=list(found.notes))
-    if checked.circuit != sum_of(circuit.file):
-        raise RuntimeError("the check is about another circuit")
-    if alive is not None and alive.checked is not None:
-        vacuous, files = alive.checked.line, {**files, **alive.files}
-    witness = Witness(circuit, files["witness"], files.get("concrete")) if "witness" in files else None
-    return Verdict(checked.line, checked.by, checked.frames or None, witness, vacuous, files, list(found.notes),
-                   checked)
-
-
-def _found(program: str) -> str:
+def found(program: str) -> str:
     """The path of a program."""
     path = shutil.which(program)
     if path is None:
         raise FileNotFoundError(f"there is no program {program} on the path")
     return os.path.abspath(path)
-
-
-def _as_cadical(solver: Solver) -> str:
-    """The program of a solver that takes the options of cadical."""
-    words = [solver] if isinstance(solver, str) else list(solver)
-    if words[1:] not in ([], ["-q"]):
-        raise ValueError("name a solver that takes the options of cadical, as a text without options")
-    return _found(words[0])

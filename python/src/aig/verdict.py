@@ -3,12 +3,9 @@
 from __future__ import annotations
 
 from dataclasses import dataclass, field
-from typing import TYPE_CHECKING, Dict, List, Optional
+from typing import Dict, List, Optional
 
 from .runs import Witness
-
-if TYPE_CHECKING:
-    from .verdicts.checked import Checked
 
 
 @dataclass(frozen=True, eq=False, repr=False)
@@ -23,7 +20,7 @@ class Verdict:
     vacuous  `no run of K frames` if no run keeps the constraints for so many frames: nothing is asked of any run
     files    what shows the verdict, by its role: witness, shorter, base, step, certificate, proof, alive
     notes    what ended questions on the way
-    checked  the check that a verdict of `prove` or `certify` rests on; its `undecided` has none
+    checked  the check that a verdict of `aig_verdicts` rests on; its `undecided` has none
     """
 
     line: str
@@ -33,7 +30,7 @@ class Verdict:
     vacuous: str = ""
     files: Dict[str, bytes] = field(default_factory=dict)
     notes: List[str] = field(default_factory=list)
-    checked: Optional[Checked] = None
+    checked: Optional[object] = None
 
     @property
     def confirmed(self) -> bool:

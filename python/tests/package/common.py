@@ -4,9 +4,10 @@ import contextlib
 import importlib.util
 import os
 import shutil
+import sys
 
 import aig
-from library.runs import EXAMPLES, LeftOut
+from library.runs import EXAMPLES, TESTS, LeftOut, write
 
 CONFIRMED = "1\nb0\n00\n1\n1\n1\n1\n.\n"
 # Latch 4 takes input 2 and latch 4, so it stays 0 once it is. The certificate claims that it is 0.
@@ -67,6 +68,12 @@ def running(program):
     """The package runs this program, and takes no library."""
     with setting("AIG_PROGRAM", os.path.abspath(program)), setting("AIG_LIBRARY", ""):
         yield
+
+
+def small_solver(path):
+    """Writes a small solver as a program."""
+    write(path, f'#!/bin/sh\nexec "{sys.executable}" -S -E "{TESTS}/library/small_solver.py" "$@"\n')
+    os.chmod(path, 0o755)
 
 
 def example(name):

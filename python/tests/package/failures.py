@@ -34,7 +34,7 @@ def failures(program, tally, _):
         tally.check("out of memory", isinstance(error, aig.OutOfMemory), error)
     text = counter.to("aag")
     for most in (len(text), len(text) - 1):
-        error = raised(aig._program.run, "toaig", "--to", "aag", files=[counter.file], most=most)
+        error = raised(aig.program.run, "toaig", "--to", "aag", files=[counter.file], most=most)
         tally.compare(f"{most} bytes at most", isinstance(error, aig.OutOfMemory), most < len(text))
     runs.write("ends", f'#!/bin/sh\n"{program.path}" "$@"\n[ "$1" != bench ] || exit 3\n')
     os.chmod("ends", 0o755)

@@ -27,10 +27,6 @@ chain_none zero next at e = refl
 chain_none (suc n) next zero e = refl
 chain_none (suc n) next (suc v) e = absurd (omega arith)
 
-no_chain : (next : List ℕ) (at : ℕ) (xs : List ℕ) → IsChain next at xs → at ≡ 0 → xs ≡ []
-no_chain next at [] c e = refl
-no_chain next at (x ∷ xs) c e = absurd (omega (arith, c.0, c.1))
-
 -- the numbers of a chain, where so many are enough
 chain_is : (n : ℕ) (next : List ℕ) (at : ℕ) (xs : List ℕ) → IsChain next at xs → length xs ≤ n → chain n next at ≡ xs
 chain_is n next at [] c le = chain_none n next at c
@@ -416,28 +412,7 @@ module _ (head next : List ℕ) (first waiting : ℕ) (h : AreLevelChains head n
       sizes = sizes;
     }
 
--- a zero more
-pub zero_pushed : (xs : List ℕ) (l : ℕ) → get_or (xs ++ 0 ∷ []) l 0 ≡ get_or xs l 0
-zero_pushed [] zero = refl
-zero_pushed [] (suc l) = refl
-zero_pushed (x ∷ xs) zero = refl
-zero_pushed (x ∷ xs) (suc l) = zero_pushed xs l
-
 pub zeros : (n l : ℕ) → let none : ℕ = 0 in get_or (replicate n none) l none ≡ none
 zeros zero l = refl
 zeros (suc n) zero = refl
 zeros (suc n) (suc l) = zeros n l
-
--- no level below is filled, and this one is not
-pub empty_to : (head : List ℕ) (l : ℕ) → IsEmptyBelow head l → get_or head l 0 ≡ 0 → IsEmptyBelow head (l + 1)
-empty_to head l none e m lt = elim (cases_eq m l) [
-  | inl same ↦ ap (λ n. get_or head n 0) same ∙ e
-  | inr ne ↦ none m (omega arith)
-]
-
--- no level at all is filled
-pub empty_at_all : (head : List ℕ) (end : ℕ) → IsEmptyBelow head end → length head ≤ end → IsEmpty head
-empty_at_all head end none le l = elim (cases_lt l end) [
-  | inl lt ↦ none l lt
-  | inr past ↦ get_or_past head l 0 (omega arith)
-]

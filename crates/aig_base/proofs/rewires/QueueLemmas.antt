@@ -1,8 +1,7 @@
 -- What a variable that is queued does to the visits and the queue.
 use Rattle.std.proofs.Common.{◌≡◌, ◌≢◌, ◌⊎◌, inl, inr, ℕ, ◌+◌, ◌≤◌, List, [], ◌∷◌, ◌++◌, false, not, cond, nat_eq}
-use Rattle.std.proofs.Common.{count_by, length, get_or, set, All, Contains, IsPermutation, refl, sym, ◌∙◌, ap, subst}
-use Rattle.std.proofs.Common.{arith, get_or-set_other, length-set, ◌<◌}
-use Rattle.std.proofs.lemmas.Grind.{get_or-set_at}
+use Rattle.std.proofs.Common.{count_by, length, get_or, Contains, IsPermutation, refl, sym, ◌∙◌, ap, subst}
+use Rattle.std.proofs.Common.{arith}
 use Rattle.std.proofs.lemmas.Bool.{cases_eq, cases_Bool, eq-eqb, ne_eqb, false≢true}
 use Rattle.std.proofs.lemmas.List.Elements.{Contains-append_left, Contains-append_right, Contains-push_cases}
 use Rattle.std.proofs.lemmas.List.Sorted.{Contains-permutation, length_permutation, IsPermutation-sym, sum_by_pushed}
@@ -13,7 +12,7 @@ use Rattle.aig_base.specs.declared.level.worklist.Worklist.{Worklist}
 use Rattle.aig_base.specs.state.Queue.{Queued, copies, entry}
 use Rattle.aig_base.specs.state.Rewires.{Queues, mark}
 use Rattle.aig_base.specs.state.Visits.{IsVisited, VisitsAmong}
-use Rattle.aig_base.specs.state.Worklists.{CanWait, HasRoom, IsIdle}
+use Rattle.aig_base.specs.state.Worklists.{HasRoom, IsIdle}
 use Rattle.aig_base.proofs.lists.Positions.{Contains-cons}
 use Rattle.aig_base.proofs.checks.Walks.{only_element}
 use Rattle.aig_base.proofs.rewires.VisitLemmas.{visits_none}
@@ -169,19 +168,3 @@ room_left xs levels size w w' room queues = record {
         ]
       ]);
 }
-
--- what can wait still can where a variable gets a level below the number of variables
-pub still_wait : (xs levels : List ℕ) (w level : ℕ) → level < length levels → All (CanWait levels) xs
-    → All (CanWait (set levels w level)) xs
-still_wait xs levels w level lt all k d below =
-    let v = get_or xs k d in
-    let can = all k d below in
-    let size = length-set levels w level in
-    record {
-      positive = can.positive;
-      inside = omega (arith, can.inside);
-      low = elim (cases_eq v w) [
-        | inl e ↦ (let is = get_or-set_at levels w v level 0 e (omega (arith, can.inside)) in omega arith)
-        | inr ne ↦ (let is = get_or-set_other levels w v level 0 ne in omega (arith, can.low))
-      ];
-    }

@@ -10,7 +10,8 @@ import sys
 from typing import IO, List, Tuple
 
 from .._where import program
-from . import explanation, outputs
+from . import explanation
+from . import outputs
 from .arguments import Arguments
 
 # What is kept of what the program says: its message is at the end.

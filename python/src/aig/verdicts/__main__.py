@@ -1,7 +1,0 @@
-"""`python3 -m aig.verdicts`"""
-
-import sys
-
-from .command import main
-
-sys.exit(main())
