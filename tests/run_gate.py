@@ -144,8 +144,18 @@ def planted_of_python(program, tally, _):
     tally.check("planted: a sample", first == again != other and len({bug.name for bug in first}) == 40)
     missing = [bug.seen for bug in many if not planted_python.file_of(bug.seen).is_file()]
     tally.compare("planted: each part has a file", missing, [])
+    tally.compare("planted: each script has the part", sorted({bug.seen for bug in many if not has_part(bug.seen)}), [])
     with replaced(planted_python, "ROOT", pathlib.Path.cwd()), replaced(planted_python, "SEEN", pathlib.Path("seen")):
         noted(tally)
+
+
+def has_part(seen):
+    """Whether a script, or a file whose parts it takes, names the part that has to see a bug."""
+    script, part = seen.split()
+    path = planted_python.script_of(planted_python.ROOT, script)
+    text = path.read_text()
+    others = [path.with_name(f"{name}.py").read_text() for name in re.findall(r"\*(\w+)\.PARTS", text)]
+    return any(re.search(rf"\b{part}_?\b", it) for it in (text, *others))
 
 
 def noted(tally):

@@ -131,6 +131,12 @@ def whole(tally):
     """A table has all rows of the circuit, or there is none."""
     made = rows("assert", "proof", "proof", alive="no run of 4 frames")
     tally.compare("judging: all rows", [it.words for it in judge_all(made, 2)], ["vacuous"])
+    several = [rows("assert", "open")[0], _row(0, "cover", "run"), _row(1, "assert", "bound"), _row(2, "assert", "open"),
+               _row(3, "cover", "open")]
+    table = judge_all(several, 4, moment=lambda row: f"cycle {row.position + 4}")
+    tally.compare("judging: all rows in their order", [(it.row.position, it.words) for it in table],
+                  [(0, "reached"), (1, "holds within 4"), (2, "undecided"), (3, "undecided")])
+    tally.compare("judging: the cycle of a run alone", [it.moment for it in table], ["cycle 4", None, None, None])
     for name, some in (("without the assumptions", made[1:]), ("without the condition", [made[0], *made[2:]]), ("in another order", made[::-1]),
                        ("the first ones alone", made[2:]), ("one twice", [*made, made[-1]]), ("none", [])):
         try:

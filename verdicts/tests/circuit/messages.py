@@ -3,7 +3,7 @@
 import unittest
 
 from aig_verdicts.reading import warnings
-from aig_verdicts.reading.messages import failure
+from aig_verdicts.reading.messages import Reason, failure
 from aig_verdicts.reading.sources import Sources
 from aig.tools import Ran
 from aig_verdicts.reading.versions import untried
@@ -27,7 +27,19 @@ class OfMessages(Folder):
             (7, "no\nnothing\n", "yosys ended with status 7: nothing"), (7, "", "yosys ended with status 7: nothing"),
             (7, "word " * 99, f"yosys ended with status 7: {'word ' * 79}.."),
         ):
-            self.assertEqual(failure(Ran(status, b"", said.encode())), message)
+            self.assertEqual(failure(Ran(status, b"", said.encode())).said, message)
+
+    def test_reasons(self):
+        """The reason is in the error, and not in the path of a file."""
+        for said, reason in (
+            ("a.v:2: ERROR: syntax error, unexpected '@'", Reason.SYNTAX),
+            ("Yosys: syntax error/a.v:2: ERROR: Unsupported", Reason.OTHER),
+            ("a.v:2: ERROR: No syntax error, but this", Reason.OTHER),
+            ("a.v:3: ERROR: System task `$finish' outside initial block is unsupported.", Reason.ENDS),
+            ("a.v:3: ERROR: Cannot add procedural assertion `\\a' because a signal has its name", Reason.REPEATED),
+        ):
+            self.assertEqual(failure(Ran(1, b"", said.encode())).reason, reason)
+        self.assertEqual(failure(Ran(-11, b"", b"syntax error")).reason, Reason.OTHER)
 
     def test_versions(self):
         """A version of Yosys that was not tried has a note, and so has one that does not say which it is."""

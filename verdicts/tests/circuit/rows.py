@@ -33,7 +33,7 @@ class Rows(WithYosys):
                            "`ifdef NEVER\nalways @* z: cover (a);\n`endif\nendmodule", top="m")
         self.assertEqual([it.name for it in design.assertions], ["y"])
         self.assertTrue(design.notes[0].startswith("x.v:1, x.v:5: no row"), design.notes)
-        self.assertEqual([(it.why, it.place) for it in design.unread], [(Why.ELSEWHERE, "x.v:1"), (Why.ELSEWHERE, "x.v:5")])
+        self.assertEqual([(it.why, it.place) for it in design.unread], [(Why.ELSEWHERE, "x.v:5")])
 
     def test_what_asks_for_liveness_has_no_row(self):
         """Yosys reads one by itself, and the translation leaves out the others; of two on a line each counts."""
@@ -59,7 +59,7 @@ class Rows(WithYosys):
             endmodule""", top="m")
         self.assertEqual(len([it for it in design.assertions if it.kind != "condition"]), 6)
         self.assertTrue(design.notes[0].startswith("x.v:3, x.v:6, x.v:7: no row"), design.notes)
-        self.assertEqual([it.place for it in design.unread], ["x.v:3", "x.v:6", "x.v:7", "x.v:7"])
+        self.assertEqual([it.place for it in design.unread], ["x.v:6", "x.v:7", "x.v:7"])
 
     def test_macros_with_the_names_of_checks(self):
         """Each use is one assertion or cover, and no text of its own is in a note."""

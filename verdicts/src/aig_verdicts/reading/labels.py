@@ -16,8 +16,7 @@ from typing import Callable, Dict, List, Optional, Sequence, Set, Tuple
 from .lowered import FLAVORS
 from .text.rtlil import Item, Module
 
-# What Yosys says where two assertions have one name, and what a script says where that is mended.
-REPEATED = "Cannot add procedural assertion"
+# What a script says where the names of two assertions that are one for Yosys are mended.
 AS_BLOCKS = "# here aig-verdicts has made a named block of each label of an assertion, as one is in a loop"
 
 _WIRE = "aig_verdicts_label"

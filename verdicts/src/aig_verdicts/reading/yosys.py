@@ -9,10 +9,10 @@ from typing import Any, Dict, List, Optional, Sequence, Set, Tuple
 
 from . import block_locals, comparisons, left_out, processes
 from .text import rtlil
-from .labels import REPEATED, Label, as_blocks, give_names, labels
+from .labels import Label, as_blocks, give_names, labels
 from .text.lax import ends_of_simulation, wired_outputs
 from .lowered import lower
-from .messages import failure
+from .messages import NotMade, Reason, failure
 from .misread.rules import own_warnings
 from .places import with_place
 from .registers import with_even_lines
@@ -21,10 +21,6 @@ from ..listing import places
 from aig.tools import Limits, Stop, ToolFailed, run, version
 from .warnings import differing
 from .wiring import driven_inouts, free_z, has_loop, has_z, loops
-
-_SYNTAX = "Yosys: syntax error"
-# What Yosys says of `$finish` and `$stop` in a clocked block.
-_ENDS = "outside initial block is unsupported"
 
 
 class Yosys:
@@ -46,7 +42,8 @@ class Yosys:
         self.warnings += _warnings((ran.err + ran.out).decode("utf-8", "replace").splitlines())
         if ran.status != 0:
             lines = self.text("tree").splitlines() if (self.folder / "tree").is_file() else []
-            raise ToolFailed(with_place(failure(ran), lines, (self.folder / "read.il").is_file()))
+            why = failure(ran)
+            raise NotMade(with_place(why.said, lines, (self.folder / "read.il").is_file()), why.reason)
 
     def read(self, commands: Sequence[str]) -> bool:
         """Reads the sources. Whether labels of assertions had to become blocks in the copies that Yosys reads."""
@@ -55,11 +52,11 @@ class Yosys:
             try:
                 self.run(commands)
                 return bool(known)
-            except ToolFailed as error:
-                if _ENDS in str(error):
+            except NotMade as error:
+                if error.reason is Reason.ENDS:
                     found_ends = ends_of_simulation(self.text("tree").splitlines())
                     raise ToolFailed(f"{places(found_ends)}: `$finish` or `$stop` outside of an `initial`: use an assertion") from None
-                if REPEATED not in str(error):
+                if error.reason is not Reason.REPEATED:
                     raise
                 found = labels(self.text("tree").splitlines())
                 if found <= known:
@@ -75,8 +72,8 @@ class Yosys:
         commands = reading(sources, top, defines)
         try:
             return commands, self.read(commands)
-        except ToolFailed as error:
-            if _SYNTAX not in str(error) or not all(name.endswith(".v") for name in sources):
+        except NotMade as error:
+            if error.reason is not Reason.SYNTAX or not all(name.endswith(".v") for name in sources):
                 raise
             self.warnings, first = [], error
         commands = reading(sources, top, defines, "")

@@ -8,6 +8,7 @@ from typing import Optional
 from .constants import literal
 from .declared import Signal, Signals
 from .expressions import BRACKETS, PRIMARY, UNARY, Node
+from .truth import ALWAYS, NEVER, both, either
 from .words import Kind, Rejected, Word, split, text_of
 
 _NOT_KNOWN = "in a function of the past, whose value before the first edge is not known here"
@@ -26,11 +27,16 @@ class Default:
     """
 
     value: str
-    true: str = "1'b0"
-    false: str = "1'b0"
+    true: str = NEVER
+    false: str = NEVER
     mask: str = ""
     is_signed: bool = False
     inner: str = ""
+
+    @property
+    def is_x(self) -> bool:
+        """Whether all of its bits are x: it is neither true nor false, whatever the known operands are."""
+        return not self.value and self.true == self.false == NEVER
 
 
 class Defaults:
@@ -61,7 +67,7 @@ class Defaults:
     def beyond(self, default: Default, other: str, word: Word) -> str:
         """That a value has bits above those of one whose bits are all x."""
         if other == default.inner:
-            return "1'b0"
+            return NEVER
         if default.is_signed or not default.mask:
             raise Rejected(word, "compared, and its first value is not known here")
         return f"(|(({other}) & ~{default.mask}))"
@@ -142,8 +148,7 @@ class Defaults:
             node = node.parts[0]
         if node.operator != PRIMARY or not node.at.is_name:
             return False
-        found = self.of(node)
-        return not found.value and found.false == "1'b0"
+        return self.of(node).is_x
 
     def _is_bit(self, node: Node) -> bool:
         """Whether an operand is one bit, and x."""
@@ -160,9 +165,7 @@ class Defaults:
                  ("||", left.false, right.false, left.true, right.true))
         for operator, one, other, this, that in pairs:
             if node.operator == operator:
-                all_of = "1'b0" if "1'b0" in (one, other) else f"({one} && {other})"
-                any_of = " || ".join(it for it in (this, that) if it != "1'b0") or "1'b0"
-                any_of = f"({any_of})" if " || " in any_of else any_of
+                all_of, any_of = both(one, other), either(this, that)
                 true, false = (all_of, any_of) if operator == "&&" else (any_of, all_of)
         return self._settled(true, false, node)
 
@@ -177,7 +180,7 @@ class Defaults:
             text = f"({left.value} == {right.value})"
             return Default(text, text, f"!{text}", "1'b1", inner=text_of(node.words))
         unknown, known = (left, right) if not left.value else (right, left)
-        if unknown.false != "1'b0":
+        if not unknown.is_x:
             raise Rejected(node.at, _NOT_KNOWN)
-        false = self.beyond(unknown, known.value, node.at) if known.value else "1'b0"
-        return Default("", "1'b0", false, "1'b1", inner=text_of(node.words))
+        false = self.beyond(unknown, known.value, node.at) if known.value else NEVER
+        return Default("", NEVER, false, ALWAYS, inner=text_of(node.words))

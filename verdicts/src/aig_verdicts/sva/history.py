@@ -16,7 +16,7 @@ from .constants import constant
 from .defaults import Default, Defaults
 from .expressions import BRACKETS, CHANGES, CHOICE, HISTORY, PAST, PRIMARY, UNARY, Node, expression
 from .model import Module
-from .truth import Truth, both, either
+from .truth import ALWAYS, NEVER, Truth, both, either
 from .words import Rejected, Word, has_any, text_of
 
 # How far `$past` may look back.
@@ -247,7 +247,7 @@ class History:
         while node.operator == BRACKETS:
             node = node.parts[0]
         found = self._pasts.get(id(node))
-        return found if found is not None and found.default.false == "1'b0" else None
+        return found if found is not None and found.default.is_x else None
 
     def _expect_plain(self, node: Node) -> None:
         if self._plain(node) is None:
@@ -267,9 +267,9 @@ class History:
         """That an operand whose bits are x is not equal to another one, as that has bits beyond its width."""
         past, depth = self._plain(node), self._depth(other)
         if past is None or depth >= past.depth:
-            return "1'b0"
+            return NEVER
         beyond = self._defaults.beyond(past.default, self._text(other), past.node.at)
-        return both(f"!{self._ok(past.depth)}", self._ok(depth) if depth else "1'b1", beyond)
+        return both(f"!{self._ok(past.depth)}", self._ok(depth) if depth else ALWAYS, beyond)
 
     def _same(self, node: Node) -> Truth:
         """`===`, which is never x: an x is not the same as a value without one."""
