@@ -25,6 +25,7 @@ def case(p: Processes, node: Node, run: Run) -> None:
     """12.5: the first item that matches. Verilator may not say which `case` it is: the source does."""
     word = node.get("keyword") or p.source.word(node, tuple(_WILD))
     wild = "xz" if p.source.is_inside(node) else _WILD[word]
+    _refuse_mixed(p, node)
     subject = p.meaning.word(node.children[0], run)
     arms: List[Arm] = []
     other: List[Node] = []
@@ -45,6 +46,17 @@ def case(p: Processes, node: Node, run: Run) -> None:
             break
         arms.append(Arm(condition, body))
     _run(p, arms, other, run)
+
+
+def _refuse_mixed(p: Processes, node: Node) -> None:
+    """12.5.1: if one value of a `case` has no sign, none has. Verilator extends each pair of values by itself."""
+    asked = [it for item in node.of("caseitem") for it in item.children[:int(item.get("conditions") or 0)]]
+    values = [node.children[0], *(it for it in asked if it.tag != "insiderange")]
+    inner = [it.children[0] if it.tag in ("extend", "extends") else it for it in values]
+    signs = [number(it.name).signed if it.tag == "const" else p.tree.shape(it).signed for it in inner]
+    is_negative = [it.tag == "const" and number(it.name).signed and number(it.name).bits[-1] != "0" for it in inner]
+    if not all(signs) and (any(is_negative) or any(it.tag == "extends" for it in values)):
+        raise node.error("a case of signed and unsigned values")
 
 
 def _is_chosen(p: Processes, node: Node, subject: int, it: Node, wild: str, run: Run) -> int:

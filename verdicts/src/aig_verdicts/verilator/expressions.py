@@ -26,6 +26,22 @@ def _unary(tag: str) -> Expression:
     return lambda m, node, run: make(m.words, m.word(node.children[0], run))
 
 
+def _is_signed(m: Meaning, node: Node) -> bool:
+    return number(node.name).signed if node.tag == "const" else m.tree.shape(node).signed
+
+
+def _unsigned_comparison(tag: str) -> Expression:
+    """11.4.4: an order of two signed values is a signed one. Where Verilator writes the other one, its types are wrong:
+    5.006 to 5.048 do that for `inside` in a concatenation."""
+    make = _binary(tag)
+
+    def compare(m: Meaning, node: Node, run: Run) -> int:
+        if all(_is_signed(m, it) for it in node.children):
+            raise node.error("signed values that Verilator compares as unsigned ones")
+        return make(m, node, run)
+    return compare
+
+
 def constant(m: Meaning, node: Node, run: Run) -> int:
     """5.7: a constant. Its bits x and z are open."""
     w = m.words
@@ -165,6 +181,7 @@ def with_effect(m: Meaning, node: Node, run: Run) -> int:
 
 TABLE: Dict[str, Expression] = {
     **{tag: _binary(tag) for tag in BINARY}, **{tag: _unary(tag) for tag in UNARY},
+    **{tag: _unsigned_comparison(tag) for tag in ("lt", "gt", "lte", "gte")},
     **{tag: division for tag in DIVISIONS}, **{tag: case_equality for tag in EQUALS},
     **{tag: power for tag in ("pow", "powsu", "powss", "powus")},
     "const": constant, "sel": part, "replicate": repetition, "extend": zero_extension, "extends": sign_extension,
