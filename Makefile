@@ -7,8 +7,8 @@
 #   make bench      measures the program that the gate proved, else build/aig, beside a C++ program: ten minutes
 #   make lib        builds the library for C without its proofs, as build/lib/libaig.a and libaig.so
 #   make install    installs the program and the library that the gate proved, else those of build with a warning; and
-#                   aig-explain and aig-verdicts
-#   make wheel      writes the wheel of the Python package with that program and library into build
+#                   aig-explain and aig-verdicts. `make install-toolkit` and `make install-verdicts` install one product
+#   make wheel      writes the wheel of `aig` with that program and library into build, and that of `aig_verdicts`
 #   make dist       packs a release of a commit whose gate has passed, into build/dist
 #   make clean      removes build/aig, build/aig_tests, build/lib and build/dist
 #
@@ -59,22 +59,21 @@ prove:
 bench: $(PROGRAM)
 	@benchmarks/measure.py --aig "$(PROGRAM)" --times 3 goals refute memory
 
-install: $(PROGRAM) $(addsuffix /libaig.a,$(LIBRARY))
+install: install-toolkit install-verdicts
+
+install-toolkit: $(PROGRAM) $(addsuffix /libaig.a,$(LIBRARY))
 	@[ "$(PROGRAM)" != build/aig ] || echo "make install: warning: nothing of this program is proved" >&2
 	install -D "$(PROGRAM)" "$(ROOT)/bin/aig"
-	for name in aig-explain aig-verdicts; do install -D "tools/$$name" "$(ROOT)/bin/$$name"; done
-	for file in $$(cd python/src && find aig -name '*.py' -o -name '*.v'); do \
+	install -D -t "$(ROOT)/bin" tools/aig-explain
+	for file in $$(cd python/src && find aig -name '*.py'); do \
 	    install -D -m 644 "python/src/$$file" "$(ROOT)/share/aig/python/$$file"; \
 	done
-	for page in man/*.[15]; do \
-	    install -D -m 644 "$$page" "$(ROOT)/share/man/man$${page##*.}/$${page#man/}"; \
+	install -D -m 644 -t "$(ROOT)/share/man/man1" man/aig.1 man/aig-explain.1
+	install -D -m 644 -t "$(ROOT)/share/man/man5" man/aig-formats.5
+	for name in aig aig-explain; do \
+	    install -D -m 644 completions/aig.bash "$(ROOT)/share/bash-completion/completions/$$name"; \
 	done
-	for name in aig aig-verdicts; do \
-	    install -D -m 644 "completions/$$name.bash" "$(ROOT)/share/bash-completion/completions/$$name"; \
-	done
-	install -D -m 644 completions/aig.bash "$(ROOT)/share/bash-completion/completions/aig-explain"
-	install -D -m 644 -t "$(ROOT)/share/zsh/site-functions" completions/_aig completions/_aig-verdicts
-	install -D -m 644 -t "$(ROOT)/share/fish/vendor_completions.d" completions/aig-verdicts.fish
+	install -D -m 644 -t "$(ROOT)/share/zsh/site-functions" completions/_aig
 	if [ "$(LIBRARY)" ]; then \
 	    install -D -m 644 include/aig.h "$(ROOT)/include/aig.h" && \
 	    install -D -m 644 "$(LIBRARY)/libaig.a" "$(ROOT)/lib/libaig.a" && \
@@ -88,10 +87,24 @@ install: $(PROGRAM) $(addsuffix /libaig.a,$(LIBRARY))
 	cp --parents include/aig.h python/README.md benchmarks/README.md crates/*/README.md $(SPECS) "$(DOCUMENTS)"
 	chmod -R u=rwX,go=rX "$(DOCUMENTS)"
 
+install-verdicts:
+	install -D -t "$(ROOT)/bin" tools/aig-verdicts
+	for file in $$(cd verdicts/src && find aig_verdicts -name '*.py' -o -name '*.v'); do \
+	    install -D -m 644 "verdicts/src/$$file" "$(ROOT)/share/aig-verdicts/python/$$file"; \
+	done
+	install -D -m 644 -t "$(ROOT)/share/man/man1" man/aig-verdicts.1
+	install -D -m 644 completions/aig-verdicts.bash "$(ROOT)/share/bash-completion/completions/aig-verdicts"
+	install -D -m 644 -t "$(ROOT)/share/zsh/site-functions" completions/_aig-verdicts
+	install -D -m 644 -t "$(ROOT)/share/fish/vendor_completions.d" completions/aig-verdicts.fish
+	install -D -m 644 -t "$(DOCUMENTS)/verdicts" verdicts/*.md
+	install -D -m 644 -t "$(DOCUMENTS)/verdicts/docs" verdicts/docs/*
+	install -D -m 644 -t "$(ROOT)/share/doc/aig-verdicts" LICENSE-*
+
 wheel: $(PROGRAM) $(addsuffix /libaig.a,$(LIBRARY))
 	@[ "$(PROGRAM)" != build/aig ] || echo "make wheel: warning: nothing of this program is proved" >&2
 	@mkdir -p build
 	@python/make_wheel.py build "$(PROGRAM)" $(if $(LIBRARY),"$(LIBRARY)/libaig.so")
+	@verdicts/make_wheel.py build
 
 dist:
 	@tools/pack.py
@@ -99,5 +112,5 @@ dist:
 clean:
 	rm -rf build/aig build/aig_tests build/lib build/dist
 
-.PHONY: aig demo lib test prove bench install wheel dist clean
+.PHONY: aig demo lib test prove bench install install-toolkit install-verdicts wheel dist clean
 .DELETE_ON_ERROR:

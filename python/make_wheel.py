@@ -5,7 +5,7 @@ usage: make_wheel.py FOLDER [PROGRAM [LIBRARY]]
 
 With a PROGRAM, the wheel has it as a script, so pip puts it on the path, and with a LIBRARY, a libaig.so, the package
 has that; the wheel is for this platform only. Without them, the wheel is pure Python, and the package finds the program
-on the path. Both have the commands `aig-explain` and `aig-verdicts`.
+on the path. Both have the command `aig-explain`.
 `pip install` of this folder calls `build_wheel`: there AIG_PROGRAM and AIG_LIBRARY name what to pack, if they are
 set."""
 
@@ -33,7 +33,6 @@ Description-Content-Type: text/markdown
 ENTRY_POINTS = """\
 [console_scripts]
 aig-explain = aig.explain.command:main
-aig-verdicts = aig.verdicts.command:main
 """
 
 
@@ -53,7 +52,7 @@ def files_of(binaries, tag):
     facts = f"aig-{VERSION}.dist-info"
     readme = (HERE / "README.md").read_text(encoding="utf-8")
     source = HERE / "src"
-    paths = sorted(it for it in source.rglob("*") if it.suffix in (".py", ".v") or it.name == "py.typed")
+    paths = sorted(it for it in source.rglob("*") if it.suffix == ".py" or it.name == "py.typed")
     files = {path.relative_to(source).as_posix(): (path.read_bytes(), 0o644) for path in paths}
     files.update((name, (Path(path).read_bytes(), 0o755)) for name, path in binaries.items())
     wheel = f"Wheel-Version: 1.0\nGenerator: make_wheel\nRoot-Is-Purelib: {str(not binaries).lower()}\nTag: {tag}\n"

@@ -1,7 +1,7 @@
 #!/bin/sh
 # Runs what needs Yosys with the Yosys, ABC, cadical, Icarus Verilog and Python of other versions of Debian. In each
 # version: the tour of README.md, what newer versions of Yosys lose, designs with known truth, bundles, run_tools.py
-# with the commands of docs/FLOW.md, COUNT random programs (500), and whether this Yosys makes the circuit of the
+# with the commands of verdicts/docs/FLOW.md, COUNT random programs (500), and whether this Yosys makes the circuit of the
 # shipped bundle, or one that does the same (debians/suite.sh). Each version also makes bundles, and checks those of
 # the others. Then the package and the wheel are installed as README says, each where nothing else is, and README and
 # FLOW are typed there (debians/installed.sh).

@@ -1,7 +1,7 @@
 #!/usr/bin/env python3
 """Installs the program into empty folders: by `make install`, from the archive of a release, and from its Debian
-package. The tour of README.md has to run from there, and all pages, completions and documents have to be there. The
-package of Python is installed by pip, from its wheel and from its folder, and its tests run there.
+packages. The tour of README.md has to run from there, and all pages, completions and documents have to be there. The
+packages of Python are installed by pip, from their wheels and from their folders, and tests run there.
 
 These releases are of no gate, and their PROVENANCE says so. `make dist` itself needs a gate, so a test calls the
 function that decides what it refuses."""
@@ -21,12 +21,10 @@ from library.supervised import SCRIPT_SECONDS
 from library.tour import take
 
 sys.path.insert(0, REPOSITORY + "/tools")
-sys.path.insert(0, REPOSITORY + "/python")
 import gate  # noqa: E402
-import make_wheel  # noqa: E402
 import pack  # noqa: E402
 
-PYTHON = f"{REPOSITORY}/python/src"
+make_wheel, make_verdicts = pack.make_wheel, pack.make_verdicts
 DOCUMENTS = ("LICENSE-APACHE", "LICENSE-MIT", "docs/BEHAVIOUR.md", "docs/FORMATS.md", "docs/PROVED.md", "docs/wave.svg")
 PROVENANCE = "This is a test. No gate has passed.\n"
 SECONDS = 1_764_000_000
@@ -80,12 +78,13 @@ def look_for_library(library, tally, way, root):
 def look_for_verdicts(program, tally, way, root):
     """Checks the installed command `aig-verdicts`: it has all of its Python and the design of its demo, runs the
     program beside it, and leaves nothing behind. The tour has re-checked a bundle with it."""
-    package = f"{root}/share/aig/python/aig"
-    sources = {os.path.relpath(it, f"{PYTHON}/aig"): contents(it) for kind in ("py", "v")
-               for it in glob.glob(f"{PYTHON}/aig/**/*.{kind}", recursive=True)}
-    found = {os.path.relpath(it, package): contents(it) for it in glob.glob(f"{package}/**/*", recursive=True)
-             if os.path.isfile(it)}
-    tally.check(f"{way}: the Python of aig-verdicts", found == sources, sorted(found.keys() ^ sources.keys()))
+    for product, name, folder in (("python", "aig", "aig"), ("verdicts", "aig_verdicts", "aig-verdicts")):
+        source, package = f"{REPOSITORY}/{product}/src/{name}", f"{root}/share/{folder}/python/{name}"
+        sources = {os.path.relpath(it, source): contents(it) for kind in ("py", "v")
+                   for it in glob.glob(f"{source}/**/*.{kind}", recursive=True)}
+        found = {os.path.relpath(it, package): contents(it) for it in glob.glob(f"{package}/**/*", recursive=True)
+                 if os.path.isfile(it)}
+        tally.check(f"{way}: the Python of {folder}", found == sources, sorted(found.keys() ^ sources.keys()))
     said = supervised.run([os.path.abspath(f"{root}/bin/aig-verdicts"), "--version"], env={"PATH": os.environ["PATH"]},
                           cwd="/", stdin=DEVNULL, capture_output=True, timeout=runs.SECONDS, check=False)
     version = f"aig {pack.version_of(program.path)}".encode()
@@ -160,30 +159,45 @@ def archive(program, tally, _):
         tally.check("archive: a second one is the same", contents(f"one/{file}") == contents(f"two/{file}"), file)
     versions = re.findall(r"(?m)^## (.*) \(\d{4}-\d\d-\d\d\)$", contents(f"{REPOSITORY}/CHANGELOG.md").decode())
     tally.compare("archive: the version of CHANGELOG", versions[:1], [pack.version_of(program.path)])
+    versions = re.findall(r"(?m)^## (.*) \(\d{4}-\d\d-\d\d\)$", contents(f"{REPOSITORY}/verdicts/CHANGELOG.md").decode())
+    tally.compare("archive: the version of CHANGELOG of aig-verdicts", versions[:1], [make_verdicts.VERSION])
 
 
 def package(program, tally, _):
-    """The same of a copy from the Debian package."""
+    """The same of a copy from the Debian packages: each file is of one of them."""
     need("make", "bash", "objdump", "dpkg-deb")
-    name = release(program, "made")[1]
+    name, other = release(program, "made")[1:3]
     version, libc = pack.version_of(program.path), pack.libc_of(program.path)
     names = ("Package", "Version", "Architecture", "Depends", "Recommends", "Suggests")
     fields = supervised.run(["dpkg-deb", "-f", f"made/{name}", *names], capture_output=True, text=True,
                             check=True).stdout
     wanted = (f"Package: aig\nVersion: {version}\nArchitecture: amd64\nDepends: libc6 (>= {libc})\n"
-              "Recommends: python3 (>= 3.9), yosys, cadical, iverilog\nSuggests: gtkwave\n")
+              "Recommends: python3 (>= 3.9)\nSuggests: aig-verdicts, gtkwave\n")
     tally.compare("package: its fields", fields, wanted)
-    supervised.run(["dpkg-deb", "-x", f"made/{name}", "root"], check=True)
+    fields = supervised.run(["dpkg-deb", "-f", f"made/{other}", *names], capture_output=True, text=True,
+                            check=True).stdout
+    wanted = (f"Package: aig-verdicts\nVersion: {make_verdicts.VERSION}\nArchitecture: all\n"
+              f"Depends: aig (>= {make_verdicts.NEEDS}), python3 (>= 3.9)\nRecommends: yosys, cadical, iverilog\n"
+              "Suggests: gtkwave\n")
+    tally.compare("package: the fields of aig-verdicts", fields, wanted)
+    for file in (name, other):
+        supervised.run(["dpkg-deb", "-x", f"made/{file}", f"of_{file}"], check=True)
+        supervised.run(["dpkg-deb", "-x", f"made/{file}", "root"], check=True)
+    files = [{os.path.relpath(it, f"of_{file}") for it in glob.glob(f"of_{file}/**/*", recursive=True)
+              if os.path.isfile(it)} for file in (name, other)]
+    tally.check("package: each file is of one", not files[0] & files[1], sorted(files[0] & files[1]))
+    tally.check("package: verdicts are of the second", not [it for it in files[0] if "verdicts" in os.path.basename(it)
+                                                           and "examples" not in it], sorted(files[0])[:9])
     look(program, tally, "package", "root/usr", "zsh/vendor-completions")
     tally.compare("package: PROVENANCE", contents("root/usr/share/doc/aig/PROVENANCE").decode(), PROVENANCE)
 
 
 def in_environment(program, name, given, tally):
-    """Installs the Python package into an environment of its own, without a network, and runs its tests there."""
+    """Installs the Python packages into an environment of their own, without a network, and runs tests there."""
     supervised.run([sys.executable, "-m", "venv", name], check=True, timeout=SCRIPT_SECONDS)
     library = shared(program)
     settings = {**os.environ, "AIG_PROGRAM": program.path, "AIG_LIBRARY": library or ""}
-    pip = supervised.run([f"{name}/bin/pip", "install", "-q", "--no-index", "--disable-pip-version-check", given],
+    pip = supervised.run([f"{name}/bin/pip", "install", "-q", "--no-index", "--disable-pip-version-check", *given],
                          env=settings, capture_output=True, text=True, check=False, timeout=SCRIPT_SECONDS)
     tally.compare(f"{name}: pip", (pip.returncode, pip.stderr), (0, ""))
     tally.check(f"{name}: the program", contents(f"{name}/bin/aig") == contents(program.path))
@@ -219,9 +233,9 @@ def shared(program):
 
 
 def wheel(program, tally, _):
-    """The wheel of the Python package is the same bytes each time and has the program's version. `pip install
-    --no-index` takes it, and the folder python/, into fresh environments; parts of run_package.py pass there on the
-    program and the library that pip installed."""
+    """The wheels of the Python packages are the same bytes each time; that of `aig` has the program's version. `pip
+    install --no-index` takes them, and the folders python/ and verdicts/, into fresh environments; parts of
+    run_package.py pass there on the program and the library that pip installed."""
     need("objdump")
     for module in ("venv", "ensurepip"):
         if importlib.util.find_spec(module) is None:
@@ -232,12 +246,16 @@ def wheel(program, tally, _):
     name = make_wheel.make("one", *given)
     tally.compare("wheel: a second one is the same", contents(f"one/{name}"),
                   contents(f"two/{make_wheel.make('two', *given)}"))
+    verdicts = make_verdicts.make("one")
+    tally.compare("wheel: a second one of verdicts", contents(f"one/{verdicts}"),
+                  contents(f"two/{make_verdicts.make('two')}"))
     tally.compare("wheel: without a program", make_wheel.make("pure"), f"aig-{make_wheel.VERSION}-py3-none-any.whl")
     tally.compare("wheel: its version", make_wheel.VERSION, pack.version_of(program.path))
-    in_environment(program, "of_wheel", os.path.abspath(f"one/{name}"), tally)
+    in_environment(program, "of_wheel", [os.path.abspath(f"one/{it}") for it in (name, verdicts)], tally)
     # pip writes beside the sources that it installs
-    shutil.copytree(f"{REPOSITORY}/python", "python", ignore=shutil.ignore_patterns("__pycache__"))
-    in_environment(program, "of_folder", os.path.abspath("python"), tally)
+    for folder in ("python", "verdicts"):
+        shutil.copytree(f"{REPOSITORY}/{folder}", folder, ignore=shutil.ignore_patterns("__pycache__"))
+    in_environment(program, "of_folder", [os.path.abspath(it) for it in ("python", "verdicts")], tally)
 
 
 def refusals(_, tally, __):

@@ -1,6 +1,6 @@
 #!/usr/bin/env python3
 """Runs the built program beside Yosys and ABC, on files that these write and on runs that they find, its dumps beside
-those of Icarus Verilog and in GTKWave, the commands of docs/FLOW.md, proofs of cadical and of cryptominisat,
+those of Icarus Verilog and in GTKWave, the commands of verdicts/docs/FLOW.md, proofs of cadical and of cryptominisat,
 certificates of what ABC proves, traces of Yosys, and models of the SAT solvers that are installed. It is no part of the
 gate: the tools are Debian's packages `yosys` (which brings ABC), `cadical`, `picosat`, `minisat`, `cryptominisat`,
 `iverilog`, `gtkwave`, `xvfb`, `xauth`, `python3-click`, `z3` and `python3-distributed`, and a run takes some

@@ -1,5 +1,6 @@
 #!/usr/bin/env python3
-"""Runs the tour of README.md in an empty folder, and prints it. Each command has to print what README shows."""
+"""Runs the tours of README.md and verdicts/README.md in an empty folder, and prints them. Each command has to print what
+the page shows."""
 
 from library import runs
 from library.tour import take

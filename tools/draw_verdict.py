@@ -1,4 +1,4 @@
-"""Draws docs/verdict.svg for tools/pictures.py: what a page of `aig-verdicts` shows of an assertion that fails. The
+"""Draws verdicts/docs/verdict.svg for tools/pictures.py: what a page of `aig-verdicts` shows of an assertion that fails. The
 texts and the waveform are those of the page. The colours are its light ones, and the picture has a paper of its own, so
 it looks the same on a dark screen."""
 

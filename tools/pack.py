@@ -1,12 +1,13 @@
 #!/usr/bin/env python3
-"""Packs a release into build/dist: an archive and a Debian package, which have what `make install` installs, the wheel
-of the Python package with program and library, and their sums in SHA256SUMS.
+"""Packs a release into build/dist: an archive, which has what `make install` installs, for each of the two products a
+Debian package and a wheel, that of `aig` with program and library, and their sums in SHA256SUMS.
 
 It refuses unless the tree is clean and the gate has passed this commit. Program and library are those that the gate
 proved. The same commit, program and library give the same files, byte for byte."""
 
 import collections
 import gzip
+import importlib.util
 import itertools
 import os
 import pathlib
@@ -19,9 +20,16 @@ import textwrap
 
 import gate
 
-sys.path.insert(0, gate.ROOT + "/python")
-import make_wheel  # noqa: E402
 
+def wheel_maker(product):
+    """The module that makes the wheel of a product."""
+    place = importlib.util.spec_from_file_location(f"{product}_wheel", f"{gate.ROOT}/{product}/make_wheel.py")
+    module = importlib.util.module_from_spec(place)
+    place.loader.exec_module(module)
+    return module
+
+
+make_wheel, make_verdicts = wheel_maker("python"), wheel_maker("verdicts")
 # How long a program may take that packs.
 SECONDS = 600
 
@@ -34,15 +42,30 @@ Architecture: amd64
 Maintainer: Vollirka maintainers <maintainers@users.noreply.vollirka.example>
 Installed-Size: {size}
 Depends: libc6 (>= {libc})
-Recommends: python3 (>= 3.9), yosys, cadical, iverilog
-Suggests: gtkwave
+Recommends: python3 (>= 3.9)
+Suggests: aig-verdicts, gtkwave
 Description: verified AIGER toolkit
  Converts, simulates, edits, unrolls and checks and-inverter graphs in the
  AIGER formats, and writes their runs as waves. It is for people who run
  hardware model checkers and have to trust a verdict. The package has the
- program, a library for C, aig-explain, which says why a command failed, and
- aig-verdicts, which finds the verdicts on the assertions of a Verilog design
- with Yosys, cadical and ABC.
+ program, a library for C, and aig-explain, which says why a command failed.
+"""
+
+VERDICTS_CONTROL = """\
+Package: aig-verdicts
+Version: {version}
+Section: electronics
+Priority: optional
+Architecture: all
+Maintainer: Vollirka maintainers <maintainers@users.noreply.vollirka.example>
+Installed-Size: {size}
+Depends: aig (>= {needs}), python3 (>= 3.9)
+Recommends: yosys, cadical, iverilog
+Suggests: gtkwave
+Description: checked verdicts on the assertions of a Verilog design
+ Finds which assertions of a Verilog design fail, which hold, and what shows
+ it, with Yosys, cadical and ABC, and has aig check what these find. It writes
+ a table, a page with waveforms, and a bundle that anyone can check again.
 """
 
 COPYRIGHT = """\
@@ -51,6 +74,8 @@ this folder: LICENSE-APACHE and LICENSE-MIT.
 """
 
 
+# The targets of the Makefile that install one product.
+TOOLKIT_TARGET, VERDICTS_TARGET = "install-toolkit", "install-verdicts"
 # A program, and the folder of a library for C, or nothing.
 Made = collections.namedtuple("Made", "program library")
 
@@ -68,18 +93,19 @@ def libc_of(program):
     return ".".join(map(str, max(tuple(map(int, it.split("."))) for it in re.findall(r"GLIBC_([0-9.]+)", symbols))))
 
 
-def install(made, root, prefix, provenance):
+def install(made, root, prefix, provenance, target="install"):
     """Installs a program and the library of a folder below `root`, as `make install` does, and beside the documents
-    what they were made from. The library is left out if there is no folder."""
-    words = ["make", "-sC", gate.ROOT, "install", f"DESTDIR={root}", f"PREFIX={prefix}", f"PROGRAM={made.program}",
+    what they were made from. The library is left out if there is no folder. Other targets install one product."""
+    words = ["make", "-sC", gate.ROOT, target, f"DESTDIR={root}", f"PREFIX={prefix}", f"PROGRAM={made.program}",
              f"LIBRARY={made.library or ''}"]
     settings = {name: text for name, text in os.environ.items() if not name.startswith("MAKE")}
     made = subprocess.run(words, env=settings, stdin=subprocess.DEVNULL, capture_output=True, text=True, check=False,
                           timeout=SECONDS)
     if made.returncode:
         sys.exit(f"make install failed: {made.stderr}")
-    with open(f"{root}{prefix}/share/doc/aig/PROVENANCE", "w", encoding="utf-8") as file:
-        file.write(provenance)
+    if target != VERDICTS_TARGET:
+        with open(f"{root}{prefix}/share/doc/aig/PROVENANCE", "w", encoding="utf-8") as file:
+            file.write(provenance)
 
 
 def files_below(root):
@@ -102,28 +128,38 @@ def make_archive(made, provenance, seconds, folder):
     return f"{name}.tar.gz"
 
 
-def make_package(made, provenance, seconds, folder):
-    """Writes the Debian package: the same files, where Debian has them."""
+def make_packages(made, provenance, seconds, folder):
+    """Writes the Debian packages of the two products, and returns their names."""
     version = version_of(made.program)
-    name = f"aig_{version}_amd64.deb"
+    toolkit = make_package(made, provenance, seconds, f"{folder}/aig_{version}_amd64.deb", TOOLKIT_TARGET,
+                           CONTROL.format(version=version, size="{size}", libc=libc_of(made.program)))
+    own = make_verdicts.VERSION
+    verdicts = make_package(made, provenance, seconds, f"{folder}/aig-verdicts_{own}_all.deb", VERDICTS_TARGET,
+                            VERDICTS_CONTROL.format(version=own, size="{size}", needs=make_verdicts.NEEDS))
+    return [toolkit, verdicts]
+
+
+def make_package(made, provenance, seconds, path, target, control):
+    """Writes a Debian package of the files of a target, where Debian has them, and returns its name."""
     with tempfile.TemporaryDirectory() as root:
-        install(made, root, "/usr", provenance)
+        install(made, root, "/usr", provenance, target)
         share = f"{root}/usr/share"
         for page in files_below(f"{share}/man"):
             with open(f"{share}/man/{page}", "rb") as plain, open(f"{share}/man/{page}.gz", "wb") as packed:
                 packed.write(gzip.compress(plain.read(), 9, mtime=0))
             os.remove(f"{share}/man/{page}")
         os.rename(f"{share}/zsh/site-functions", f"{share}/zsh/vendor-completions")
-        with open(f"{share}/doc/aig/copyright", "w", encoding="utf-8") as file:
+        documents = f"{share}/doc/{'aig' if target == TOOLKIT_TARGET else 'aig-verdicts'}"
+        with open(f"{documents}/copyright", "w", encoding="utf-8") as file:
             file.write(COPYRIGHT)
         size = sum(os.path.getsize(f"{root}/{it}") for it in files_below(root)) // 1024
         os.mkdir(f"{root}/DEBIAN")
         with open(f"{root}/DEBIAN/control", "w", encoding="utf-8") as file:
-            file.write(CONTROL.format(version=version, size=size, libc=libc_of(made.program)))
+            file.write(control.format(size=size))
         os.chmod(root, 0o755)
-        subprocess.run(["dpkg-deb", "--root-owner-group", "--build", root, f"{folder}/{name}"], capture_output=True,
+        subprocess.run(["dpkg-deb", "--root-owner-group", "--build", root, path], capture_output=True,
                        env={**os.environ, "SOURCE_DATE_EPOCH": str(seconds)}, check=True, timeout=SECONDS)
-    return name
+    return os.path.basename(path)
 
 
 def pack(made, provenance, seconds, folder):
@@ -131,8 +167,9 @@ def pack(made, provenance, seconds, folder):
     os.umask(0o022)
     names = [make_archive(made, provenance, seconds, folder)]
     if shutil.which("dpkg-deb"):
-        names.append(make_package(made, provenance, seconds, folder))
+        names += make_packages(made, provenance, seconds, folder)
     names.append(make_wheel.make(folder, made.program, made.library and f"{made.library}/libaig.so"))
+    names.append(make_verdicts.make(folder))
     with open(f"{folder}/SHA256SUMS", "w", encoding="utf-8") as file:
         file.writelines(f"{gate.sum_of(f'{folder}/{name}')}  {name}\n" for name in names)
     return [*names, "SHA256SUMS"]

@@ -27,8 +27,8 @@ CALLERS = ROOT / "crates" / "aig_tests"
 MARK = re.compile(r" *(?:-|\d+\.) ")
 # What an auditor of a `recheck` reads, the pages that say so, and the most lines that such a file may have.
 AUDITED = tuple(ROOT / "verdicts" / "src" / "aig_verdicts" / "audit" / name
-                for name in ("checked.py", "decisions.py", "sentences.py"))
-NAMES_AUDITED = ("docs/VERDICTS.md", )
+                for name in ("checked.py", "decisions.py", "sentences.py", "table.py"))
+NAMES_AUDITED = ("verdicts/docs/VERDICTS.md", )
 MOST_AUDITED = 270
 
 

@@ -1,7 +1,7 @@
 #!/usr/bin/env python3
 """Draws pictures of the pages, each of what is in the repository:
 
-- docs/verdict.svg, of README.md: the assertion that fails, on the page examples/queue.verdicts/index.html
+- verdicts/docs/verdict.svg, of verdicts/README.md: the assertion that fails, on the page of examples/queue.verdicts
 - docs/wave.svg, of examples/README.md: the run of examples/counter.aag over examples/counter.stim
 - docs/checks.svg, of docs/PERFORMANCE.md: the table of proofs with hints
 
@@ -39,7 +39,7 @@ def checks():
     return draw_checks.drawn(read("docs/PERFORMANCE.md"))
 
 
-PICTURES = {"docs/verdict.svg": verdict, "docs/wave.svg": wave, "docs/checks.svg": checks}
+PICTURES = {"verdicts/docs/verdict.svg": verdict, "docs/wave.svg": wave, "docs/checks.svg": checks}
 
 
 def main():

@@ -2,7 +2,7 @@
 """Compares the places that have the version of the program, and fails where two differ.
 
 With a VERSION and a DATE, as `tools/version.py 0.3.0 2026-11-29`, it writes them into all these places, and gives the
-section `Unreleased` of CHANGELOG.md this head. Then run `tools/contracts.py --write`, build the program, and run
+section `Unreleased` of both CHANGELOGs this head. Then run `tools/contracts.py --write`, build the program, and run
 `tools/make_manual.py` with it. It proves nothing: `aig_cli` and `aig_c` have the version in what is proved."""
 
 import argparse
@@ -21,13 +21,17 @@ PLACES = {
     "tools/aig.pc": (rf"Version: {NUMBER}",),
     "python/make_wheel.py": (rf'VERSION = "{NUMBER}"',),
     "python/src/aig/__init__.py": (rf'__version__ = "{NUMBER}"',),
+    "verdicts/make_wheel.py": (rf'VERSION = "{NUMBER}"', rf'NEEDS = "{NUMBER}"'),
+    "verdicts/src/aig_verdicts/__init__.py": (rf'__version__ = "{NUMBER}"',),
+    "verdicts/README.md": (rf"aig-verdicts_{NUMBER}_all", rf"aig_verdicts-{NUMBER}-py3", rf"from version {NUMBER} on"),
     "tests/program/words.py": (rf'b"aig {NUMBER} \(',),
-    "README.md": (rf"aig-{NUMBER}-(?:py3|x86)", rf"aig_{NUMBER}_amd64"),
+    "README.md": (rf"aig-{NUMBER}-(?:py3|x86)", rf"aig_{NUMBER}_amd64", rf"aig-verdicts_{NUMBER}_all",
+                  rf"aig_verdicts-{NUMBER}-py3"),
     "python/README.md": (rf"aig-{NUMBER}-py3",),
     "docs/CALLING.md": (rf"aig-{NUMBER}-py3",),
 }
 DATED = {"tests/library/manual.py": r'DATE = "([\d-]+)"'}
-CHANGES = "CHANGELOG.md"
+CHANGES = ("CHANGELOG.md", "verdicts/CHANGELOG.md")
 
 
 def found():
@@ -47,7 +51,7 @@ def replaced(text, pattern, new):
 def write(version, date):
     named = {**{name: [(it, version) for it in patterns] for name, patterns in PLACES.items()},
              **{name: [(it, date)] for name, it in DATED.items()},
-             CHANGES: [("(?m)^## (Unreleased)$", f"{version} ({date})")]}
+             **{name: [("(?m)^## (Unreleased)$", f"{version} ({date})")] for name in CHANGES}}
     for name, pairs in named.items():
         path = ROOT / name
         text = path.read_text(encoding="utf-8")

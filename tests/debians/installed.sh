@@ -22,7 +22,7 @@ pipx)
     # pipx fetches a newer pip first; Debian's own one will do where there is no way to PyPI
     typed="export PIP_FIND_LINKS=/usr/share/python-wheels
 $(echo "$lines" | sed -n '/^apt/s/python3-venv/pipx/p')
-$(tr '\n' ' ' < "$pages/docs/FLOW.md" | grep -o 'pipx install [^`]*')"
+$(tr '\n' ' ' < "$pages/verdicts/docs/FLOW.md" | grep -o 'pipx install [^`]*')"
     named=/root/.local/bin/aig path=/root/.local/bin:
     ;;
 esac

@@ -17,7 +17,7 @@ FILES = {
     "share/doc/aig/examples":
         "Circuits with stimuli, scripts of bench, witnesses, certificates and proofs; and designs in Verilog. README.md says "
         "what each file is. The folder is below /usr/local, /usr, or another folder that the program was installed into.",
-    "share/doc/aig/docs": "The documentation. FLOW.md goes from Verilog to checked verdicts with aig-verdicts.",
+    "share/doc/aig/docs": "The documentation.",
     "FILE.new": "What bench and unroll write before they rename it to FILE.",
 }
 

@@ -1,5 +1,5 @@
-"""Commands that a document shows, and what it shows below each: those of README.md and of docs/FLOW.md. A command that
-needs a program which is not there is left out."""
+"""Commands that a document shows, and what it shows below each: those of the two first pages, and of
+verdicts/docs/FLOW.md. A command that needs a program which is not there is left out."""
 
 import os
 import re
@@ -12,10 +12,12 @@ from library import supervised
 from library.runs import REPOSITORY, contents, leave_out, write
 from library.supervised import SCRIPT_SECONDS
 
+# The first pages of the two products.
+FIRST_PAGES = ("README.md", "verdicts/README.md")
 SOURCE = f"{REPOSITORY}/verdicts/src:{REPOSITORY}/python/src"
 
 
-def steps(document="README.md"):
+def steps(document):
     """Yields the commands of a document, each with the output that it shows. A command goes on after a line that ends
     with a backslash, and up to the line `END` of a text that it reads (`<< 'END'`)."""
     text = contents(f"{REPOSITORY}/{document}").decode()
@@ -25,12 +27,12 @@ def steps(document="README.md"):
 
 
 def take(program, examples, tally, prints=False):
-    """Runs the commands of README.md in a new folder `tour`, with these examples and with the program on the path. A
+    """Runs the commands of the first pages in a new folder `tour`, with these examples and with the program on the path. A
     folder that `aig-verdicts run` makes is then checked again, from another folder and by the name that it has
     there."""
     room(program, examples, "tour")
     verdicts_on_path(program)
-    for command, shown in steps():
+    for command, shown in (step for page in FIRST_PAGES for step in steps(page)):
         if missing(command):
             leave_out(f"tour: {command}", f"there is no {missing(command)}")
             continue

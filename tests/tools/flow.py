@@ -1,5 +1,5 @@
-"""Each command of docs/FLOW.md, and then of examples/README.md, in their order and in one folder, prints what the page
-shows. README has the same table of the queue, and GTKWave shows in the page's waveform how the queue overflows."""
+"""Each command of verdicts/docs/FLOW.md, and then of examples/README.md, in their order and in one folder, prints what
+the page shows. verdicts/README.md has the same table of the queue, and GTKWave shows in the page's waveform how the queue overflows."""
 
 import os
 
@@ -23,11 +23,11 @@ def typed_page(program, tally):
     room(program, EXAMPLES, "page")
     verdicts_on_path(program)
     os.symlink(built("drat2lrat"), "path/drat2lrat")
-    for command, shown in (*steps("docs/FLOW.md"), *steps("examples/README.md")):
+    for command, shown in (*steps("verdicts/docs/FLOW.md"), *steps("examples/README.md")):
         tally.compare(f"flow: {command}", as_shown(typed("page", command)), as_shown(shown))
         if command == FIRST:
             table = "".join(f"    {line}\n" for line in shown.splitlines() if line.startswith("b"))
-            tally.check("flow: the table of README", table in contents(f"{REPOSITORY}/README.md").decode(), table)
+            tally.check("flow: the table of README", table in contents(f"{REPOSITORY}/verdicts/README.md").decode(), table)
 
 
 def in_gtkwave(tally):

@@ -39,10 +39,15 @@ def called(*words):
     return done.returncode, done.stdout, done.stderr
 
 
+def rows_of(table):
+    """The lines of rows; those of properties that nobody looks at begin with a dash."""
+    return [line for line in table.splitlines() if not line.startswith("- ")]
+
+
 def answers(table):
     """What the table says of each name: the length of a run, or a word."""
     found = {}
-    for line in table.splitlines():
+    for line in rows_of(table):
         _, _, _, name, word, *more = line.split()
         found[name] = int(more[2].rstrip(",")) if word in ("fails", "reached") else word
     return found
@@ -68,8 +73,11 @@ def wrong_in(known, folder):
     wrong += [f"{row['name']}: {note}" for row in rows for note in row.get("notes", [])
               if note.endswith((WRONG_RUN, WRONG_CERTIFICATE))]
     said = "\n".join(manifest["notes"])
-    if len(rows) != len(known.answers) or len(table.splitlines()) != len(rows):
+    if len(rows) != len(known.answers) or len(rows_of(table)) != len(rows):
         wrong.append(f"{len(rows)} rows, wanted {len(known.answers)}")
+    unread = len(table.splitlines()) - len(rows_of(table))
+    if unread != len(manifest.get("unread", [])) or unread < said.count("no row") or unread and status == 0:
+        wrong.append(f"{unread} properties are not looked at, and the status is {status}")
     wrong += [f"no note has {note!r}: {said}" for note in known.notes if note not in said]
     if known.one_clock == (FREE_CLOCK in said):
         wrong.append(f"frames are {'not ' if known.one_clock else ''}cycles of one clock: {said}")

@@ -7,7 +7,7 @@ import shutil
 
 import paths  # noqa: F401
 from library import runs
-from options import free, kept, lists, parameters
+from options import free, kept, lists, parameters, unread
 
 
 def with_tools(part):
@@ -24,7 +24,7 @@ def with_tools(part):
 
 PARTS = {part.__name__: with_tools(part) for part in (
     parameters.values, parameters.places, parameters.refused, parameters.everywhere, parameters.hostile,
-    free.signals, free.kept, free.rejected, kept.circuits, lists.lists)}
+    free.signals, free.kept, free.rejected, kept.circuits, lists.lists, unread.unread, unread.same_top)}
 
 if __name__ == "__main__":
     runs.main(__doc__, PARTS)

@@ -1,6 +1,6 @@
 #!/usr/bin/env python3
 """Plays designs in Icarus Verilog beside their circuits: what both read alike, what has another meaning in a simulation
-(the table of docs/VERDICTS.md), the testbenches that `replay` writes, and simulators that fail. It needs Yosys and
+(the table of verdicts/docs/VERDICTS.md), the testbenches that `replay` writes, and simulators that fail. It needs Yosys and
 Icarus Verilog."""
 
 import json
@@ -13,6 +13,7 @@ from pathlib import Path
 import paths  # noqa: F401
 from bundles.common import called, manifest_of, tool, write_manifest
 from library import runs, supervised
+import replays
 
 # A search of one frame is enough: the circuit is compared.
 SHORT = ("--frames", "1", "--seconds", "5", "--abc", "", "--no-conditions", "--no-simulator", "--jobs", "1", "--quiet")
@@ -213,7 +214,8 @@ def simulators(_, tally, __):
         is_open = said["agrees"] is None and "cannot play" in said["circuit"]
         tally.check(f"simulator: {name}: what it says", is_open, f"{said} {err}")
         last = err.rstrip().split("\n")[-1]
-        tally.check(f"simulator: {name}: the last line", f"; not compared with a simulator: {name}/index.html" in last, last)
+        is_said = "; not compared with a simulator: " in last and "cannot play the design: " in last
+        tally.check(f"simulator: {name}: the last line", is_said and last.endswith(f": {name}/index.html"), last)
     right = called("run", "m.v", "--out", "right", *shown)
     tally.compare("simulator: one that works", (right[0], right[1]), plain[:2])
     said = json.loads(Path("right/MANIFEST.json").read_text())["simulated"]
@@ -380,4 +382,4 @@ def in_folder(part):
 
 if __name__ == "__main__":
     runs.main(__doc__, {part.__name__: in_folder(part) for part in (
-        alike, unlike, testbenches, simulators, hidden, denied, auditors, forged, senders, nothing)})
+        alike, unlike, testbenches, simulators, hidden, denied, auditors, forged, senders, nothing, *replays.PARTS)})

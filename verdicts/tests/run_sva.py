@@ -10,7 +10,7 @@ from sva import parts
 
 
 PARTS = {
-    "operators": parts.operators, "first_edges": parts.first_edges, "sample": parts.sample, "rejected": parts.rejected,
+    "operators": parts.operators, "first_edges": parts.first_edges, "sample": parts.sample, "rejected": parts.rejected, "live": parts.live,
     "bounded": parts.bounded, "copies": parts.copies, "texts": parts.texts, "many": parts.many,
 }
 

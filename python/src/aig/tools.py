@@ -81,7 +81,7 @@ class Stop:
                 _kill(process)
             raises = self._raises and not self._running and threading.current_thread() is threading.main_thread()
         if raises:
-            raise Stopped
+            self.look()
 
     @contextmanager
     def at_once(self) -> Iterator[None]:

@@ -4,22 +4,21 @@ from __future__ import annotations
 
 import sys
 from pathlib import Path
-from typing import TYPE_CHECKING, Callable, Optional, Sequence
+from typing import TYPE_CHECKING, Callable, Optional
 
 from aig.waves.concrete import comes_back
 
-from .audit.checked import CIRCUIT
-from .audit.decisions import Judged
 from .audit.folder import write_whole
-from .audit.manifest import asked_of
 from .audit.row import Row
 from .audit.sentences import no_proof_needs, short_runs
-from .audit.simulated import of_facts
-from .audit.table import plain, table_of
+from .audit.table import Table, plain
 
 if TYPE_CHECKING:
     from .pages.page import Results
     from .pages.sections import Pictures
+
+# So many notes on rows are printed.
+MOST_NOTES = 12
 
 
 def tell(line: str) -> None:
@@ -33,7 +32,7 @@ def say_of_assumptions(alive: Row, circuit: bytes, read: Callable[[str], bytes])
             tell(short_runs(alive))
 
 
-def say_of_needs(table: Sequence[Judged], circuit: bytes) -> None:
+def say_of_needs(table: Table, circuit: bytes) -> None:
     """Says which assumptions no proof needs."""
     if all(it.needs is None for it in table):
         return
@@ -44,11 +43,9 @@ def say_of_needs(table: Sequence[Judged], circuit: bytes) -> None:
         tell(text)
 
 
-def write_page(to: Path, results: Results, is_unfinished: bool, pictures: Optional[Pictures] = None) -> None:
+def write_page(to: Path, results: Results, table: Table, is_unfinished: bool, pictures: Optional[Pictures] = None) -> None:
     """The page of results."""
     from .pages.page import Page
 
-    said = of_facts(results.manifest.get("simulated", {}))
-    table = table_of(results.rows, results.read(CIRCUIT), asked_of(results.manifest), said)
     page = Page(results, table, is_unfinished, pictures)
     write_whole(to, page.html().encode("utf-8", "replace"))

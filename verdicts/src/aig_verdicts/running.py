@@ -17,29 +17,28 @@ from .command import SIGNALS, TOTAL
 from .audit.bundle import Bundle
 from .search.bundled import session_of
 from .search.task import Bounds, Hint, Narrow
-from .audit.decisions import INTERRUPTED, Judged, exit_status, line_of_run
+from .audit.decisions import INTERRUPTED
 from .demo import written
 from .reading.design import Design, read_aiger
 from .reading.file_lists import listed
-from .audit.folder import PAGE, pack, write_whole
+from .audit.folder import PAGE, folder_of, pack, write_whole
 from .reading.made import made, reading_of
 from .audit.manifest import as_json
 from .pages.page import Results
 from .search.programs import lost_without, programs_of, tracing
-from .notes import tell, say_of_assumptions, say_of_needs, write_page
+from .notes import MOST_NOTES, tell, say_of_assumptions, say_of_needs, write_page
 from .progress import Progress, waiting
 from .replay.run import Bounds as PlayBounds, simulated
 from .pages.sections import Pictures
 from .search.session import STOPPED, Plan, Session
 from .compare.since import Since, opened, since_of
+from .audit.sentences import NOT_SIMULATED
 from .audit.simulated import Simulated
 from .reading.store import Store, folder_of_user
-from .audit.table import junit, next_command, open_notes, plain, text, table_of
+from .audit.table import Table, next_command, open_notes, plain
 from aig.tools import Clock, Stop, ToolFailed, missing
 from .search.workers import Dask, Work
 
-# So many notes on rows are printed.
-MOST_NOTES = 12
 
 
 def _design(words: argparse.Namespace, stop: Stop) -> Design:
@@ -93,13 +92,14 @@ def _run(words: argparse.Namespace, stop: Stop) -> int:
     if design.was_made_before and not words.quiet:
         tell("an earlier run made the circuit, of the same sources, options and programs; --fresh makes it again")
     only = chosen(design, words.only)
-    path = words.out or Path(f"{design.name}.verdicts")
+    path = folder_of(words.out, design.name, [*words.files, *words.asserts])
     bounds = Bounds(words.frames, words.conflicts, words.seconds, words.megabytes, words.proof_megabytes)
     named = opened(words.since, path)
     depths = {it: frames for name, frames in words.depths for it in chosen(design, [name]) or ()}
     session = Session(design, path, Plan(bounds, programs, only, depths), stop)
     with contextlib.closing(session):
         session.open(words.jobs)
+        session.folder.note_files([*words.files, *words.asserts])
         since = since_of(named, str(words.since), session)
         session.hints = since.hints(words.keep_open) if since else {}
         if not words.quiet:
@@ -121,7 +121,7 @@ def _renewing(session: Session) -> Callable[[bool], None]:
         folder = session.folder
         try:
             results = Results(session.manifest(), session.rows, folder.read, session.seconds)
-            write_page(folder.path / PAGE, results, is_unfinished, pictures)
+            write_page(folder.path / PAGE, results, session.table, is_unfinished, pictures)
         except (AigError, Crashed):
             folder.remove(PAGE)  # it is about what was known before
             if not is_unfinished:  # else the search goes on without a page
@@ -184,7 +184,9 @@ def cores(words: argparse.Namespace, stop: Stop) -> int:
 
 def _simulate(words: argparse.Namespace, session: Session, seconds: float) -> None:
     """Has a simulator play the runs, and compare the circuit, if there are sources and a simulator."""
-    if session.design.sources and not missing(words.simulator):
+    if session.design.sources and missing(words.simulator):
+        session.simulated = Simulated(why=missing(words.simulator))
+    elif session.design.sources:
         session.write(True)
         rows = [row for row in session.rows if session.only is None or row.position in session.only]
         try:
@@ -192,11 +194,11 @@ def _simulate(words: argparse.Namespace, session: Session, seconds: float) -> No
             bounds = PlayBounds(seconds, words.jobs)
             session.simulated = simulated(bundle, rows, words.simulator, bounds, session.stop)
         except (ToolFailed, Crashed) as error:
-            session.simulated = Simulated(circuit=f"Not compared with a simulator: {error}")
+            session.simulated = Simulated(circuit=f"{NOT_SIMULATED}: {error}", why=str(error))
         session.write(True)
 
 
-def _say_notes(table: Sequence[Judged], said: Collection[str]) -> None:
+def _say_notes(table: Table, said: Collection[str]) -> None:
     """Says the notes on open rows, but for what was said."""
     notes = [note for note in open_notes(table) if not note.endswith((STOPPED, *said))]
     for note in notes[:MOST_NOTES]:
@@ -211,21 +213,19 @@ def _results(words: argparse.Namespace, session: Session, is_complete: bool, sai
     if not is_complete:  # what was done is written, whatever else the user presses
         for number in SIGNALS:
             signal.signal(number, signal.SIG_IGN)
-    table = table_of(session.rows, session.design.circuit, session.asked_of, session.simulated)
-    if session.only is not None:
-        table = [it for it in table if it.row.position in session.only]
+    table = session.table.only(session.only)
     changed = since.difference(table, session.only) if since and (since.is_asked or is_complete) else None
     is_asked = since is not None and since.is_asked
     if words.junit:
         seconds = session.seconds
-        cases = changed.junit(seconds) if changed and is_asked else junit(session.design.name, table, seconds)
+        cases = changed.junit(seconds) if changed and is_asked else table.junit(session.design.name, seconds)
         write_whole(words.junit, cases.encode("utf-8", "replace"))
     if words.zip:
         pack(session.folder.path, words.zip)
     if words.json:
-        sys.stdout.write(as_json(session.manifest()).decode())
+        sys.stdout.write(as_json(table.json(session.manifest())).decode())
     else:
-        sys.stdout.write(text(table) + (f"\n{changed.text()}" if changed and is_asked else ""))
+        sys.stdout.write(table.text() + (f"\n{changed.text()}" if changed and is_asked else ""))
     sys.stdout.flush()
     if not words.quiet:
         following = next_command(table, session.folder.path)
@@ -239,13 +239,13 @@ def _results(words: argparse.Namespace, session: Session, is_complete: bool, sai
         if not is_complete:
             tell(f"{TOTAL if session.stop.is_late else 'stopped'}; the same command goes on")
         page = plain(str(session.folder.path / PAGE))
-        said_last = line_of_run(table, bool(session.design.sources), session.simulated)
+        said_last = table.line_of_run(bool(session.design.sources), session.simulated)
         print(f"{plain(said_last)}: {page}", file=sys.stderr)
         if since and changed:
             print(plain(since.last_line(changed)), file=sys.stderr)
     if is_complete:
         session.folder.forget_before()
-    status = changed.status if changed and is_asked else exit_status(table, session.asked)
+    status: int = changed.status if changed and is_asked else table.status
     return status if is_complete or session.stop.is_late else INTERRUPTED
 
 

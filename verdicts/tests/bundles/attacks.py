@@ -24,7 +24,7 @@ from bundles.common import (
 )
 
 TERA = 10**12
-RESULTS = ("MANIFEST.json", "circuit.aig", "index.html", "recheck.sh", "times.json", "2.wit", "0.base.drat")
+RESULTS = ("MANIFEST.json", "circuit.aig", "index.html", "recheck.sh", "times.json", "files.json", "2.wit", "0.base.drat")
 
 
 def folders_of_others(program, tally, _):

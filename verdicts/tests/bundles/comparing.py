@@ -5,16 +5,19 @@ from __future__ import annotations
 
 import json
 import re
+import shutil
 import xml.etree.ElementTree as tree
 from dataclasses import replace
+from pathlib import Path
 
 from aig_verdicts.compare.changes import Beside, Known, Pairs, changes, status_of, summary
 from aig_verdicts.audit.checked import Wrong
-from aig_verdicts.audit.decisions import Judge, judge
+from aig_verdicts.audit.decisions import Asked, Judge
 from aig_verdicts.compare.difference import difference
 from aig_verdicts.compare.matching import Lines, Version
 from aig_verdicts.audit.row import Row
 from aig_verdicts.compare.sides import CHECKED, side_of
+from aig_verdicts.audit.table import Table
 from believed import believed
 
 from .attempts import ATTEMPTS, HARMLESS
@@ -134,7 +137,7 @@ def side(source, letters, options=None, more=None):
                          *(f"c{at} {name}" for at, name in enumerate(assumed)), ""])
     version = Version("f", rows, circuit.encode(), {name: text.encode() for name, text in sources.items()},
                       {"top": "", "defines": [], "conditions": True, **(options or {})})
-    return side_of(version, judge(rows), lambda name: version.sources[name.split("/")[-1]])
+    return side_of(version, Table.of(rows, circuit.encode(), Asked()), lambda name: version.sources[name.split("/")[-1]])
 
 
 def found_of(attempt):
@@ -177,6 +180,21 @@ def moved(_, tally, __):
 # -- the command
 
 
+def words_of_others(tally, manifest):
+    """A page of a comparison has no note of a bundle, and no sentence of its simulator."""
+    said = "Praise of both simulators"
+    path = Path(shutil.copytree(kept("every"), "others"))
+    for row in manifest["rows"][1:]:
+        row["notes"] = [said]
+    failing = next(it["position"] for it in manifest["rows"] if it.get("result") == "fails")
+    manifest["simulated"] = {"by": said, "circuit": said, "agrees": False, "rows": {str(failing): ["disagrees", said]}}
+    write_manifest(path, manifest)
+    status, out, err = called("compare", kept("every"), path, "--all", "--page", "others.html", "--junit", "others.xml")
+    texts = (out, err, open("others.html", encoding="utf-8").read(), open("others.xml", encoding="utf-8").read())
+    tally.check("compares: no words of a bundle", status in (0, 4) and not any(said in it for it in texts), (status, [said in it for it in texts]))
+    tally.check("compares: the word of its simulator counts", "disagrees" in out, out)
+
+
 def compares(_, tally, __):
     """The command: text, JSON, JUnit and the page, of the same bundle, of a changed one, and of ones that lie."""
     one = kept("every")
@@ -195,6 +213,7 @@ def compares(_, tally, __):
                   [str(len(rows)), "0", "0", str(bad)])
     page = open("page.html", encoding="utf-8").read()
     tally.compare("compares: rows of the page", page.count("<tr class="), len(rows))
+    words_of_others(tally, manifest_of(one))
     tally.compare("compares: runs of both sides", (page.count("<section id=\"old-"), page.count("<section id=\"b")),
                   (bad, bad))
     tally.check("compares: what the page believes", CHECKED in page)
@@ -218,6 +237,8 @@ def fewer(tally, one):
     row.update(verdict="undecided", result="undecided")
     write_manifest(less, manifest, mends_sums=False)
     for sides, wanted, word in (((one, less), 4, "weaker"), ((less, one), 0, "stronger")):
+        status, out, _ = called("compare", *sides, "--json", "-j", "2")
+        tally.compare(f"compares: the status with JSON, {word}", (status, json.loads(out)["status"]), (wanted, wanted))
         status, out, _ = called("compare", *sides, "-j", "2")
         tally.compare(f"compares: {word}", (status, [line.split()[0] for line in out.splitlines()].count(word)),
                       (wanted, 1))

@@ -4,8 +4,8 @@ from __future__ import annotations
 
 from pathlib import Path
 
-from aig_verdicts.audit.decisions import line_of_run
-from aig_verdicts.audit.simulated import Said, Simulated, are_facts, of_facts
+from aig_verdicts.audit.simulated import AsIn, Said, Simulated, are_facts, of_facts
+from aig_verdicts.audit.table import Table, compared
 from bundles.common import called, judged, kept, manifest_of, write_manifest
 from bundles.judging import FOUND, _row, judge
 
@@ -71,8 +71,26 @@ def facts(tally):
     unknown = Simulated("S 1", "S 1 cannot play the design", None, {})
     table = judge([_row(0, "assert", "proof")])
     tally.compare("denying: nothing compared", (of_facts(unknown.facts()), are_facts(unknown.facts()),
-                                                unknown.beside(table)[0].status, line_of_run(table, True, unknown)),
+                                                unknown.beside(table)[0].status, Table(table).line_of_run(True, unknown)),
                   (unknown, True, 0, "1 assertion: 1 hold; not compared with a simulator"))
+    why = unknown._replace(why="S 1 cannot play the design")
+    tally.compare("denying: why", Table(table).line_of_run(True, why),
+                  "1 assertion: 1 hold; not compared with a simulator: S 1 cannot play the design")
+    as_in = AsIn("S 1", 3, 4000, 1, 2, 1, ("m.v:3",), 1, True, 7, "no x")
+    tally.compare("denying: what was compared", as_in.said,
+                  "3 signals, 4,000 values: as in S 1; 1 is x there; not compared: 2 signals, 1 assertion, 1 run; no row is about "
+                  "m.v:3; no x; concurrent assertions as they were translated (seed 7)")
+    same = Simulated("S 1", as_in.said, True, {}, as_in)
+    tally.compare("denying: of a sender it is no comparison", of_facts(same.facts()), same._replace(as_in=None))
+    tally.check("denying: facts of a comparison", are_facts(same.facts()) and same.facts()["compared"]["seed"] == 7)
+    for name, (it, wanted) in {"of ours": (same, "which is no proof"), "a sentence alone": (
+            Simulated("S 1", "9 signals, 9 values: as in S 1", True), "so nothing is said of the sources")}.items():
+        tally.check(f"denying: as in, {name}", compared(True, "", it).endswith(wanted), compared(True, "", it))
+    try:
+        AsIn("S 1", 0, 0)
+        tally.check("denying: as in, without a value", False)
+    except ValueError:
+        tally.check("denying: as in, without a value", True)
     tally.compare("denying: no facts", (Simulated().facts(), of_facts({})), ({}, Simulated()))
     tally.compare("denying: right facts", [are_facts(it) for it in (RIGHT, {}, denied.facts())], [True] * 3)
     for name, wrong in WRONG.items():

@@ -28,7 +28,7 @@ SAID = {
 }
 # Nothing is known without the first two. Nothing needs the others.
 OTHERS = {"MANIFEST.json": "MANIFEST.json is no JSON", "circuit.aig": "circuit.aig: circuit: text", "index.html": None,
-          "recheck.sh": None, "times.json": None, ".lock": None}
+          "recheck.sh": None, "times.json": None, "files.json": None, ".lock": None}
 # Of a bundle that Yosys and ABC made. Without --yosys its sources and the script are not read, and that is said.
 OF_YOSYS = {"6.cert.aag": "b6: aig refute: certificate: text", "6.cert.drat": "b6: aig refute: proof: no refutation",
             "1.cert.drat": "b1: aig refute: proof: no refutation", "sources/every.v": None, "yosys.ys": None}
@@ -82,7 +82,7 @@ def emptied(_, tally, __):
         is_there = name in SAID or name == ".lock" or (path / name).read_bytes() != b""
         tally.check(f"emptied: {name}: after a run", is_there and why_rejected(path) is None, why_rejected(path))
     run("ends", ENDS, SMALL_SOLVER)
-    tally.compare("emptied: a contradiction", verdicts_of("ends.verdicts")[-1], f"no run of {FRAMES} frames")
+    tally.compare("emptied: a contradiction", verdicts_of("ends.verdicts")[-1], f"no run of 20 frames")
     without(tally, Path("ends.verdicts"), "alive.drat", "constraints: aig refute: proof: no refutation")
     for name, said in OF_YOSYS.items():
         without(tally, kept("every"), name, said)

@@ -280,7 +280,7 @@ def other_circuit(tally):
     status, _, _ = called("run", "other.aag", "--out", "out", "--abc", "", "--solver", SMALL_SOLVER, "--frames", "3")
     tally.compare("folders: another circuit", (status, [it["frames"] for it in rows_of("out").values()]), (5, [2]))
     names = sorted(it.name for it in Path("out").iterdir())
-    wanted = [".lock", "0.shorter.drat", "0.wit", "MANIFEST.json", "circuit.aig", "index.html", "notes.txt",
+    wanted = [".lock", "0.shorter.drat", "0.wit", "MANIFEST.json", "circuit.aig", "files.json", "index.html", "notes.txt",
               "recheck.sh", "times.json"]
     tally.compare("folders: another circuit: its files", names, wanted)
     tally.check("folders: another circuit: re-checked", judged("out") is not None)

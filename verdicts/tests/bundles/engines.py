@@ -79,9 +79,9 @@ def depths(_, tally, __):
     run("--since", "base", "--keep-open", "--depth", f"later={LATER}")
     tally.compare("depths: an old bound is not enough", verdicts()["later"], "confirmed")
     Path("assumes.aag").write_text("aag 2 1 1 0 0 1 1\n2\n4 4\n4\n2\n")
-    run("--depth", "b0=7", circuit="assumes.aag")
+    run("--depth", "b0=27", circuit="assumes.aag")
     rows = manifest_of("out")["rows"]
-    tally.compare("depths: assumptions are kept as long", (rows[0]["by"], rows[0]["frames"]), ("kept", 7))
+    tally.compare("depths: assumptions are kept as long", (rows[0]["by"], rows[0]["frames"]), ("kept", 27))
     run("--depth", "stops=1", circuit=CIRCUIT)
     tally.compare("depths: its condition goes with it", by_symbol("out")["if:stops"]["verdict"], "unreachable within 1")
     for word, status in {"nothing=3": 1, "later": 2, "later=0": 2, "=3": 2, "later=65537": 2, "later=x": 2}.items():

@@ -8,17 +8,18 @@ from pathlib import Path
 
 from aig_verdicts.audit import checked as checked_module
 from aig_verdicts.audit.checked import Wrong
-from aig_verdicts.audit.decisions import Asked, Judge, checked, exit_status, summary
+from aig_verdicts.audit.decisions import Asked, Judge
 from aig_verdicts.audit.decisions import judge as judge_all
 from aig_verdicts.audit.row import Row
-from aig_verdicts.audit.table import junit, next_command, open_notes, plain, text
+from aig_verdicts.audit.table import Table, next_command, open_notes, plain
+from aig_verdicts.audit.unread import Unread, Why, more_than
 from believed import SUM, believed, check_of
 
 # How a row was decided: the verdict, by what, the frames.
 FOUND = {
     "run": ("confirmed", "run", 3), "proof": ("unreachable", "induction", 2),
     "invariant": ("unreachable", "certificate", 0),
-    "bound": ("unreachable within 4", "bound", 4), "open": ("undecided", "", 0), "left": ("left out", "", 0),
+    "bound": ("unreachable within 4", "bound", 4), "far": ("unreachable within 30", "bound", 30), "open": ("undecided", "", 0), "left": ("left out", "", 0),
 }
 # For each kind and what was found: the words, and the status.
 ALONE = {
@@ -55,7 +56,7 @@ def judge(rows, asked=Asked()):
 
 def status(table):
     """The exit status of a whole table."""
-    return exit_status(table, len(table))
+    return Table(table).status
 
 
 def judging(_, tally, __):
@@ -72,12 +73,15 @@ def judging(_, tally, __):
         tally.compare(f"judging: under {found}", (table[0].words, status(table)), wanted)
         tally.compare(f"judging: doubt under {found}", bool(table[0].doubt), found in ("bound", "open", "left"))
     tally.compare("judging: a failure under an open condition", status(judge(rows("assert", "run", "open"))), 5)
-    tally.compare("judging: nothing", (exit_status([], 0), checked([], 0)), (4, "0 of 0 checked by aig"))
+    tally.compare("judging: nothing", (Table([]).status, Table([]).checked), (4, "0 of 0 checked by aig"))
     for missing, wanted in (("proof", 4), ("run", 5)):
-        table = judge([_row(0, "assert", missing)])
-        tally.compare(f"judging: a row that has no answer beside {missing}", (exit_status(table, 2), checked(table, 2)),
+        table = Table(judge([_row(0, "assert", missing)]), [Unread(Why.LIVENESS, "file.v", 9)])
+        tally.compare(f"judging: a property without a verdict beside {missing}", (table.status, table.checked),
                       (wanted, "1 of 2 checked by aig"))
     whole(tally)
+    one, other = Unread(Why.LIVENESS, "file.v", 9), Unread(Why.LIVENESS, "file.v", 12)
+    tally.compare("judging: what is unread now", [more_than([one], [other]), more_than([one], [other, one]), more_than([], [one])],
+                  [[], [one], [one]])
     notes(tally)
     following(tally)
     together(tally)
@@ -105,14 +109,15 @@ def assumptions(tally):
         it, = judge([none, made])
         tally.check(f"judging: no assumptions: {kind}, {found}", not it.doubt)
     for frames, is_lasting, asked, found, is_doubted in (
-            (3, False, 4, "proof", True), (4, False, 4, "proof", False), (3, True, 4, "proof", False), (9, False, 4, "proof", False),
-            (3, False, 0, "bound", True), (4, False, 0, "bound", False), (3, False, 0, "proof", False), (1, False, 20, "bound", True),
-            (19, False, 20, "invariant", True), (20, False, 20, "invariant", False), (1, True, 20, "bound", False)):
+            (19, False, 4, "proof", True), (20, False, 4, "proof", False), (3, True, 4, "proof", False), (29, False, 30, "proof", True),
+            (30, False, 30, "proof", False), (19, False, 0, "bound", True), (20, False, 0, "bound", False), (19, False, 0, "proof", True),
+            (1, False, 20, "bound", True), (19, False, 20, "invariant", True), (20, False, 20, "invariant", False),
+            (29, False, 20, "far", True), (30, False, 20, "far", False), (1, True, 20, "bound", False)):
         first = Row(-1, "constraints", "")
         first.take(replace(check_of(-1, "kept", frames), is_lasting=is_lasting, key=checked_module._KEY), SUM)
         it, = judge([first, _row(0, "assert", found)], asked=Asked(asked))
         tally.compare(f"judging: kept for {frames}, {asked} asked, lasting {is_lasting}, {found}", (bool(it.doubt), it.status),
-                      (is_doubted, max(ALONE["assert", found][1], 4 if is_doubted else 0)))
+                      (is_doubted, 4 if is_doubted or found in ("bound", "far") else 0))
     for kind, found in ALONE:
         it, = judge([none, _row(0, kind, found)], asked=Asked(0, False))
         is_doubted = kind == "assert" and found in ("proof", "invariant", "bound")
@@ -125,11 +130,11 @@ def assumptions(tally):
 def whole(tally):
     """A table has all rows of the circuit, or there is none."""
     made = rows("assert", "proof", "proof", alive="no run of 4 frames")
-    tally.compare("judging: all rows", [it.words for it in judge_all(made)], ["vacuous"])
+    tally.compare("judging: all rows", [it.words for it in judge_all(made, 2)], ["vacuous"])
     for name, some in (("without the assumptions", made[1:]), ("without the condition", [made[0], *made[2:]]), ("in another order", made[::-1]),
                        ("the first ones alone", made[2:]), ("one twice", [*made, made[-1]]), ("none", [])):
         try:
-            judge_all(some)
+            judge_all(some, 2)
             said = "a table"
         except Wrong as error:
             said = str(error)
@@ -162,16 +167,16 @@ def together(tally):
         table = judge(order)
         tally.compare(f"judging: conditions of their own{name}", [(it.row.position, it.words) for it in table], wanted)
         tally.compare(f"judging: doubts of their own{name}", [bool(it.doubt) for it in table], [False] * 3 + [True])
-    tally.compare("judging: the sentence of these", summary(judge(made)),
-                  "3 assertions: 2 hold, 1 vacuous; 1 cover: 1 reached")
+    tally.compare("judging: the sentence of these", Table(judge(made)).summary,
+                  "3 assertions: 2 hold, 1 vacuous; 1 cover: 1 reached; 1 in doubt")
     constraints = Row(-1, "constraints", "")
     waits = Judge([constraints, *made]).waits_for(made[2])
     tally.compare("judging: what a verdict waits for", waits, [made[2], constraints, made[3]])
     for found, wanted in ((("run", "proof"), "all checked by aig"), (("run", "open"), "1 of 2 checked by aig"),
                           (("open", "open"), "0 of 2 checked by aig"), (("open",) * 60, "0 of 60 checked by aig")):
         table = judge([_row(at, "assert", how) for at, how in enumerate(found)])
-        tally.compare(f"judging: what is checked, {found[:2]}", checked(table, len(table)), wanted)
-    tally.compare("judging: a vacuous row is checked", checked(judge(rows("assert", "proof", "proof")), 1),
+        tally.compare(f"judging: what is checked, {found[:2]}", Table(table).checked, wanted)
+    tally.compare("judging: a vacuous row is checked", Table(judge(rows("assert", "proof", "proof"))).checked,
                   "all checked by aig")
 
 
@@ -191,33 +196,35 @@ def said_of_each(tally):
     """What JUnit and the table say of each kind of row, of a vacuous one, and of one in doubt."""
     for (kind, found), (tag, message, way) in JUNIT.items():
         table = judge([_row(0, kind, found)])
-        case, = tree.fromstring(junit("d", table, {0: 2.5})).iter("testcase")
+        case, = tree.fromstring(Table(table).junit("d", {0: 2.5})).iter("testcase")
         tally.compare(f"judging: JUnit of {kind}, {found}", [(it.tag, it.get("message"), it.text) for it in case],
                       [(tag, message, way or None)])
         tally.compare(f"judging: its place, {kind}, {found}", {key: case.get(key) for key in ("file", "line", "time")},
                       {"file": "file.v", "line": "2", "time": "2.5"})
         words = [it for it in (ALONE[kind, found][0], way) if it]
-        tally.compare(f"judging: the table of {kind}, {found}", text(table).rstrip("\n").split("  "),
+        tally.compare(f"judging: the table of {kind}, {found}", Table(table).text().rstrip("\n").split("  "),
                       ["b0", "file.v:2", kind, "name", *words])
     vacuous, doubted = judge(rows("assert", "proof", "proof")), judge(rows("assert", "proof", "open",
                                                                          files={"base": "0.base.drat"}))
     vacuous[0].row.notes[:] = ["a note", "another"]
     for name, table, tag, said in (
             ("vacuous", vacuous, "failure", ["induction of 2", vacuous[0].why, "a note", "another"]),
-            ("doubt", doubted, "system-out", ["induction of 2", doubted[0].doubt, "0.base.drat"])):
-        case, = tree.fromstring(junit("d", table, {})).iter("testcase")
+            ("doubt", doubted, "skipped", ["induction of 2", doubted[0].doubt, "0.base.drat"])):
+        case, = tree.fromstring(Table(table).junit("d", {})).iter("testcase")
         tally.compare(f"judging: JUnit of {name}", [(it.tag, it.text.split("\n")) for it in case], [(tag, said)])
-    tally.check("judging: the table of a doubt", f"  induction of 2; {doubted[0].doubt}  0.base.drat" in text(doubted))
+        tally.compare(f"judging: the reason in JUnit of {name}", case[0].get("message"),
+                      f"holds: {doubted[0].doubt}" if name == "doubt" else "vacuous")
+    tally.check("judging: the table of a doubt", f"  induction of 2; {doubted[0].doubt}  0.base.drat" in Table(doubted).text())
     denied(tally)
     unfound = rows("assert", "bound", "proof")
-    tally.check("judging: the table of a vacuous one", f"  vacuous  {judge(unfound)[0].why}\n" in text(judge(unfound)))
+    tally.check("judging: the table of a vacuous one", f"  vacuous  {judge(unfound)[0].why}\n" in Table(judge(unfound)).text())
     for tag, found in (("failure", "run"), ("skipped", "bound"), ("error", "open")):
         table = judge([_row(at, "assert", found) for at in range(60)])
-        suite = tree.fromstring(junit("d", table, {})).find("testsuite")
+        suite = tree.fromstring(Table(table).junit("d", {})).find("testsuite")
         counts = {it: suite.get(f"{it}s" if it != "skipped" else it) for it in ("failure", "error", "skipped")}
         tally.compare(f"judging: 60 of {found}", (suite.get("tests"), len(suite), counts),
                       ("60", 60, {it: "60" if it == tag else "0" for it in counts}))
-        tally.compare(f"judging: a table of 60 of {found}", text(table).count("\n"), 60)
+        tally.compare(f"judging: a table of 60 of {found}", Table(table).text().count("\n"), 60)
 
 
 def notes(tally):
@@ -248,32 +255,32 @@ def denied(tally):
     circuit_denied = replace(judge([_row(0, "assert", "proof")])[0], denied="the circuit is another")
     for name, found, words, tag, said in (
             ("a row", row_denied, "disagrees", "error", ["run of 3", "it has another value"]),
-            ("a circuit", circuit_denied, "holds", "system-out", ["induction of 2", "the circuit is another"])):
+            ("a circuit", circuit_denied, "holds", "error", ["induction of 2", "the circuit is another"])):
         tally.compare(f"judging: {name} is denied", (found.words, status([found])), (words, 4))
-        case, = tree.fromstring(junit("d", [found], {})).iter("testcase")
+        case, = tree.fromstring(Table([found]).junit("d", {})).iter("testcase")
         tally.compare(f"judging: {name} is denied: JUnit", [(each.tag, each.text.split("\n")) for each in case],
                       [(tag, said)])
-        tally.check(f"judging: {name} is denied: the table", f"  {words}  {'; '.join(said)}" in text([found]))
+        tally.check(f"judging: {name} is denied: the table", f"  {words}  {'; '.join(said)}" in Table([found]).text())
 
 
 def texts(tally):
     """Names that would be orders to a terminal, or parts of XML, are text."""
     made = [Row(-1, "constraints", ""), *(_row(k, kind, found) for k, (kind, found) in enumerate(ALONE))]
     table = judge(made)
-    tally.compare("judging: the sentence", summary(table),
+    tally.compare("judging: the sentence", Table(table).summary,
                   "6 assertions: 1 fail, 2 hold, 1 hold for the frames searched, 1 undecided, 1 left out; "
-                  "6 covers: 1 reached, 2 never reached, 1 not reached within the bound, 1 undecided, 1 left out")
-    tally.compare("judging: checked", [checked(table, 12), checked(table[:4], 4)],
+                  "6 covers: 1 reached, 2 never reached, 1 not reached within the bound, 1 undecided, 1 left out; 6 in doubt")
+    tally.compare("judging: checked", [Table(table).checked, Table(table[:4]).checked],
                   ["8 of 12 checked by aig", "all checked by aig"])
-    suite = tree.fromstring(junit("d", table, {0: 1.5})).find("testsuite")
+    suite = tree.fromstring(Table(table).junit("d", {0: 1.5})).find("testsuite")
     tally.compare("judging: JUnit", [suite.get(it) for it in ("tests", "failures", "errors", "skipped")],
-                  ["12", "3", "2", "4"])
+                  ["12", "3", "2", "6"])
     for name in ("\x1b[2J", "a\nb", "\r", "<a b='c'>&", 'a"b', "]]>", "\u202e", "\ud800", "\0", "\ufffe", "x" * 9999,
                  "\u6f22"):
         made[1].name = name
-        said = text(judge(made))
+        said = Table(judge(made)).text()
         tally.check(f"judging: the table of {name[:9]!r}",
                     said.count("\n") == 12 and all(it.isprintable() for it in said.split("\n")))
-        case = tree.fromstring(junit(name, judge(made), {}).encode("utf-8", "replace")).find("testsuite/testcase")
+        case = tree.fromstring(Table(judge(made)).junit(name, {}).encode("utf-8", "replace")).find("testsuite/testcase")
         tally.check(f"judging: JUnit of {name[:9]!r}", case is not None and case.get("name"))
         tally.check(f"judging: plain {name[:9]!r}", plain(name).isprintable())

@@ -9,7 +9,8 @@ from pathlib import Path
 
 import aig
 from aig_verdicts import prove
-from aig_verdicts.audit.table import junit
+from aig_verdicts.audit.decisions import LEAST_KEPT
+from aig_verdicts.audit.table import Table
 from bundles.common import SMALL_SOLVER, called, manifest_of, row, why_rejected, write_manifest
 from bundles.many import AT_1, AT_2, AT_3, AT_6, LATCHES, NEVER
 
@@ -20,9 +21,11 @@ BOUNDED = {"dead": AT_6, "if:dead": NEVER, "open": AT_6, "if:open": AT_6, "met":
 # For each its words, and its tag of JUnit.
 WORDS = {"dead": ("vacuous", "failure"), "open": ("holds within 3", "skipped"), "met": ("holds within 3", "skipped"),
          "free": ("holds within 3", "skipped")}
-# Latch 16 has to be 0, and is 1 from frame 6 on: no run has 7 frames.
-ENDS = 17
-LAST = 6
+# More latches after latch 16, which is 1 from frame 6 on. The last one has to be 0: no run has 22 frames. Of fewer than 20
+# frames nothing is asked.
+MORE = 15
+ENDS = 2 * (9 + MORE) + 1
+LAST = 6 + MORE
 PROPERTIES = {"third": AT_3, "fifth": AT_5, "never": NEVER, "cover:second": AT_2, "cover:never": NEVER}
 # The words of each before the contradiction, and with it: what a run shows stays.
 BEFORE = {"third": "fails", "fifth": "fails", "never": "holds", "cover:second": "reached",
@@ -31,10 +34,12 @@ WITH_IT = {**BEFORE, "never": "vacuous", "cover:never": "vacuous"}
 
 
 def circuit(properties, *constraints):
-    """The latches of many.py with these properties."""
-    counts = f"aag 9 1 7 0 1 {len(properties)} {len(constraints)}"
+    """The latches of many.py with these properties, and more if a constraint is about the last one."""
+    more = MORE if ENDS in constraints else 0
+    counts = f"aag {9 + more} 1 {7 + more} 0 1 {len(properties)} {len(constraints)}"
+    after = [f"{20 + 2 * at} {18 + 2 * at if at else 16}" for at in range(more)]
     symbols = [f"b{at} {name}" for at, name in enumerate(properties)]
-    lines = [counts, "2", *LATCHES, *map(str, properties.values()), *map(str, constraints), "18 4 2", *symbols, ""]
+    lines = [counts, "2", *LATCHES, *after, *map(str, properties.values()), *map(str, constraints), "18 4 2", *symbols, ""]
     return "\n".join(lines)
 
 
@@ -61,13 +66,13 @@ def dead(_, tally, __):
     tally.compare("dead: the table", dict(table), wanted)
     tags = {case.get("name"): case[0].tag for case in tree.parse("j.xml").iter("testcase")}
     tally.compare("dead: JUnit", tags, {name: tag for name, (_, tag) in WORDS.items()})
-    times = [tree.fromstring(junit("d", [], seconds)).find("testsuite").get("time") for seconds in ({}, {1: 1.5, 7: 2})]
+    times = [tree.fromstring(Table([]).junit("d", seconds)).find("testsuite").get("time") for seconds in ({}, {1: 1.5, 7: 2})]
     tally.compare("dead: the time of all", times, ["0.0", "3.5"])
     page = Path("dead.verdicts/index.html").read_text()
     tally.compare("dead: the page", [page.count(it) for it in (">Vacuous:</b> its condition is never true",
                                                               ">Perhaps vacuous:</b> whether its condition")], [1, 1])
     status, _, err = called("recheck", "dead.verdicts")
-    tally.check("dead: re-checked", status == 4 and "3 hold for the frames searched, 1 vacuous; all" in err, err)
+    tally.check("dead: re-checked", status == 4 and "3 hold for the frames searched, 1 vacuous; 1 in doubt; all" in err, err)
     assumed(tally)
     for name, word in (("dead", "holds within 3"), ("open", "vacuous"), ("met", "vacuous"), ("free", "holds")):
         manifest = manifest_of("dead.verdicts")
@@ -79,8 +84,8 @@ def dead(_, tally, __):
 
 
 def late(_, tally, __):
-    """Assumptions that can be kept for 6 frames, and not for 7: with 6 frames all is as it seems, and each last line
-    says that more is not known. With 7, all that no run shows is vacuous. A contradiction is not told before its
+    """Assumptions that can be kept for 21 frames, and not for 22: with 21 frames all is as it seems, and each last line
+    says that more is not known. With 22, all that no run shows is vacuous. A contradiction is not told before its
     frame."""
     Path("late.aag").write_text(circuit(PROPERTIES, ENDS))
     path = Path("late.verdicts")
@@ -117,7 +122,7 @@ def assumed(tally):
     status, _, _ = run("assumed", FRAMES)
     rows = manifest_of("assumed.verdicts")["rows"]
     tally.compare("dead: assumptions", [it["verdict"] for it in rows],
-                  [f"no run of {FRAMES} frames", *[f"unreachable within {FRAMES}"] * 2])
+                  [f"no run of {LEAST_KEPT} frames", *[f"unreachable within {FRAMES}"] * 2])
     tally.compare("dead: assumptions: words", (status, words_of("assumed.verdicts")),
                   (4, {"late": "vacuous", "cover:late": "vacuous"}))
     status, _, err = called("recheck", "assumed.verdicts")

@@ -182,7 +182,7 @@ def others(tally, run):
                   [row for row in rows if row["verdict"] not in ("undecided", "alive") and not row.get("origin")], [])
     tally.check("taken over: and only that", judged(path) is not None)
     tally.compare("taken over: its files", sorted(it.name for it in path.iterdir()), sorted(
-        [".lock", "MANIFEST.json", "index.html", "recheck.sh", "times.json", *manifest_of(path)["sums"]]))
+        [".lock", "MANIFEST.json", "files.json", "index.html", "recheck.sh", "times.json", *manifest_of(path)["sums"]]))
     path = made("changed")
     manifest = manifest_of(path)
     manifest["rows"][-1].update(name="other")

@@ -15,7 +15,6 @@ from aig_verdicts.audit import recheck
 from aig_verdicts.audit.bundle import Bundle, Wrong, sum_of
 from aig_verdicts.reading.design import Assertion, Design
 from aig_verdicts.audit.manifest import rows_as_json
-from aig_verdicts.audit.sentences import SAME_CIRCUIT
 from bundles.common import called, judged, kept, manifest_of, raises, tool, why_rejected, write_manifest
 
 CIRCUIT = "circuit.aig"
@@ -201,7 +200,7 @@ def rechecked(_, tally, __):
     """`recheck` with each option: what it checks, what it asks Yosys, its last line and its status."""
     asked = []
     usual = once_more.same_design
-    once_more.same_design = lambda bundle, stop: asked.append(bundle) or SAME_CIRCUIT
+    once_more.same_design = lambda bundle, stop: asked.append(bundle) or once_more.Remade.SAME
     try:
         for words in ((), ("-q",), ("--json",), ("--jobs", "1"), ("--page", "page.html"), ("-q", "--junit", "j.xml")):
             for more in ((), ("--yosys",)):

@@ -283,7 +283,7 @@ def options(tally):
                   ["3", "2", "0", "0"])
     tally.compare("words: --zip", judged("b.zip"), judged("out"))
     status, out, err = run(*only, "--json", "-q")
-    tally.compare("words: --json", (status, json.loads(out)), (5, manifest_of("out")))
+    tally.compare("words: --json", (status, json.loads(out)), (5, {**manifest_of("out"), "status": 5, "unread": []}))
     tally.compare("words: -q", err, "")
     status, out, err = called("recheck", "out", "--junit", "k.xml", "--page", "page.html")
     tally.compare("words: recheck", (status, sorted(line.split()[1] for line in out.splitlines())),

@@ -8,6 +8,7 @@ import random
 import shutil
 from pathlib import Path
 
+from aig_verdicts.audit.decisions import LEAST_KEPT
 from aig_verdicts.audit.manifest import FORMAT, FORMULAS, OLDER
 from bundles.common import (
     FEW, SMALL_SOLVER, called, forged, judged, kept, manifest_of, row, why_rejected, write_manifest)
@@ -110,32 +111,40 @@ def alive(_, tally, __):
     path = Path("one.verdicts")
     first = manifest_of(path)["rows"][0]
     tally.compare("alive: the row", (first["verdict"], first["frames"], first["files"]),
-                  ("alive", 4, {"witness": "alive.wit"}))
+                  ("alive", LEAST_KEPT, {"witness": "alive.wit"}))
     _, said, err = called("recheck", path)
     tally.check("alive: it is said", said.startswith("constraints  alive\n") and "solver" not in err, (said, err))
-    ending = "aag 3 0 2 0 0 1 1\n2 1\n4 2\n0\n5\n"
+    count = LEAST_KEPT + 1  # latches, each of which follows the one before: the last one is 1 after so many frames
+    latches = "".join(f"{2 * at + 4} {2 * at + 2}\n" for at in range(count - 1))
+    ending = f"aag {count} 0 {count} 0 0 1 1\n2 1\n{latches}0\n{2 * count + 1}\n"
     for name, text, is_told in (("come to an end", ending, True),
-                                ("can be kept for ever", ending.replace("2 1", "2 0"), False)):
+                                ("can be kept for ever", ending.replace("\n2 1\n", "\n2 0\n"), False)):
         Path("ends.aag").write_text(text)
         for words in (("run", "ends.aag", "--abc", "", "--solver", SMALL_SOLVER, "--frames", 2),
                       ("recheck", "ends.verdicts")):
             err = called(*words)[2]
-            tally.compare(f"alive: they {name}, {words[0]}", "kept for 2 frames; whether for more" in err, is_told)
+            tally.compare(f"alive: they {name}, {words[0]}", "kept for 20 frames; whether for more" in err, is_told)
         page = Path("ends.verdicts/index.html").read_text()
         tally.compare(f"alive: they {name}, on the page", ("for ever is not known" in page, "kept for ever" in page),
                       (is_told, not is_told))
+        manifest = manifest_of("ends.verdicts")
+        manifest["bounds"]["frames"] = LEAST_KEPT + 10
+        write_manifest(Path("ends.verdicts"), manifest)
+        status, _, err = called("recheck", "ends.verdicts")
+        tally.check(f"alive: they {name}, and more frames were asked", (status, "in doubt: the assumptions are known" in err)
+                    == ((4, True) if is_told else (0, False)), (status, err))
     witness = (path / "alive.wit").read_bytes()
-    for text, frames, why in ((witness.replace(b"\n1", b"\nx", 3), 4, "prints 'constraint 0 0'"),
-                              (witness, 5, "prints 'frames 4'"), (b"", 4, "aig check: witness: text")):
+    for text, frames, why in ((witness.replace(b"\n1", b"\nx", 3), LEAST_KEPT, "prints 'constraint 0 0'"),
+                              (witness, LEAST_KEPT + 1, f"prints 'frames {LEAST_KEPT}'"), (b"", 4, "aig check: witness: text")):
         (path / "alive.wit").write_bytes(text)
         manifest = manifest_of(path)
         manifest["rows"][0]["frames"] = frames
         write_manifest(path, manifest)
         tally.check(f"alive: {why}", why in (why_rejected(path) or ""), why_rejected(path))
-        manifest["rows"][0]["frames"] = 4
+        manifest["rows"][0]["frames"] = LEAST_KEPT
         (path / "alive.wit").write_bytes(witness)
         write_manifest(path, manifest)
-    for frames, wanted in ((2, 4), (6, 6), (1, 6)):
+    for frames, wanted in ((2, 20), (26, 26), (1, 26)):
         run(frames)
         tally.compare(f"alive: {frames} frames", manifest_of(path)["rows"][0]["frames"], wanted)
     manifest = manifest_of(path)
@@ -157,8 +166,8 @@ def alive(_, tally, __):
         manifest["format"] = form
         manifest["rows"][0].update(row)
         write_manifest(path, manifest)
-        status, _, err = called("recheck", path, "--page", "page.html", "--junit", "j.xml")
-        is_said = all("keeps the assumptions is not decided" in Path(it).read_text() for it in ("page.html", "j.xml"))
+        status, out, err = called("recheck", path, "--page", "page.html", "--junit", "j.xml", "--json")
+        is_said = all("keeps the assumptions is not decided" in it for it in (Path("page.html").read_text(), Path("j.xml").read_text(), out))
         tally.check(f"alive: {name}: no row is good", status == 4 and is_said, (status, err))
 
 

@@ -7,6 +7,7 @@ import random
 import shutil
 import stat
 import subprocess
+import sys
 import warnings
 import zipfile
 from pathlib import Path
@@ -16,6 +17,7 @@ from aig_verdicts.audit.folder import pack
 from aig_verdicts.audit.folder import script as script_of
 from bundles.common import called, judged, kept, manifest_of, tool, why_rejected
 from library import runs, supervised
+from paths import PYTHONPATH
 
 FLIPS = 60
 EXAMPLES = Path(runs.EXAMPLES).resolve()
@@ -124,6 +126,40 @@ def bombs(tally, path, written):
             data[at + 24 : at + 28] = (100).to_bytes(4, "little")
     Path("w.zip").write_bytes(bytes(data))
     tally.check("hostile zips: a bomb that lies about its size", why_rejected("w.zip") is not None)
+    tight(tally, path)
+
+
+# Reads a .zip, and prints why it is rejected, the megabytes that it took, and the seconds of a processor.
+COSTS = """import resource, sys
+from pathlib import Path
+from aig_verdicts.audit.bundle import Bundle
+try:
+    Bundle(Path(sys.argv[1])).circuit()
+    why = "nothing"
+except Exception as error:
+    why = str(error)
+used = resource.getrusage(resource.RUSAGE_SELF)
+print(why, used.ru_maxrss >> 10, int(used.ru_utime + used.ru_stime), sep="\\n")
+"""
+
+
+def tight(tally, path):
+    """Files that are small in a .zip, and would take a thousand times as much memory."""
+    for name, megabytes, word in (("circuit.aig", 400, "times as many as in the .zip"), ("circuit.aig", 60, "another sum"),
+                                  ("MANIFEST.json", 50, "times as many as in the .zip")):
+        with zipfile.ZipFile("tight.zip", "w", zipfile.ZIP_DEFLATED) as file:
+            for entry, data in _entries(path):
+                if not entry.filename.endswith(f"/{name}"):
+                    file.writestr(entry, data)
+            large = zipfile.ZipInfo(f"every.verdicts/{name}", (1980, 1, 1, 0, 0, 0))
+            large.compress_type = zipfile.ZIP_DEFLATED
+            with file.open(large, "w") as stream:
+                for _ in range(megabytes):
+                    stream.write(b"[" * (1 << 20))
+        environment = {**os.environ, "PYTHONPATH": PYTHONPATH}
+        done = supervised.run([sys.executable, "-c", COSTS, "tight.zip"], env=environment, capture_output=True, text=True, check=False)
+        why, most, seconds = done.stdout.splitlines()
+        tally.check(f"hostile zips: {megabytes} MB of {name}", word in why and int(most) < 320 and int(seconds) < 20, done)
 
 
 def places(data, mark):

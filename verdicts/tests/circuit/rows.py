@@ -2,6 +2,7 @@
 
 from aig_verdicts.audit.cycles import cycles_of
 from aig_verdicts.audit.row import Row
+from aig_verdicts.audit.unread import Why
 from believed import believed
 from circuit.common import WithYosys
 
@@ -32,6 +33,16 @@ class Rows(WithYosys):
                            "`ifdef NEVER\nalways @* z: cover (a);\n`endif\nendmodule", top="m")
         self.assertEqual([it.name for it in design.assertions], ["y"])
         self.assertTrue(design.notes[0].startswith("x.v:1, x.v:5: no row"), design.notes)
+        self.assertEqual([(it.why, it.place) for it in design.unread], [(Why.ELSEWHERE, "x.v:5")])
+
+    def test_what_asks_for_liveness_has_no_row(self):
+        """Yosys reads one by itself, and the translation leaves out the others; of two on a line each counts."""
+        design = self.read("module m(input c, input a);\nx: assert property (@(posedge c) a |=> a);\n"
+                           "always @(posedge c) assert property (s_eventually a);\n"
+                           "y: assert property (@(posedge c) s_eventually a); assert property (@(posedge c) s_always a);\nendmodule")
+        self.assertEqual([it.name for it in design.assertions if it.kind == "assert"], ["x"])
+        self.assertEqual([(it.why, it.place) for it in design.unread],
+                         [(Why.LIVENESS, "x.v:3"), (Why.LIVENESS, "x.v:4"), (Why.LIVENESS, "x.v:4")])
 
     def test_each_text_without_a_row_is_in_a_note(self):
         """Also beside one that has a row, and where a macro hides it."""
@@ -48,6 +59,7 @@ class Rows(WithYosys):
             endmodule""", top="m")
         self.assertEqual(len([it for it in design.assertions if it.kind != "condition"]), 6)
         self.assertTrue(design.notes[0].startswith("x.v:3, x.v:6, x.v:7: no row"), design.notes)
+        self.assertEqual([it.place for it in design.unread], ["x.v:6", "x.v:7", "x.v:7"])
 
     def test_macros_with_the_names_of_checks(self):
         """Each use is one assertion or cover, and no text of its own is in a note."""

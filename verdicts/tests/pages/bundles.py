@@ -5,6 +5,7 @@ from believed import judge_some as judge
 from aig_verdicts.pages.page import Page, Results
 from aig_verdicts.audit.row import Row
 from aig_verdicts.audit.simulated import of_facts
+from aig_verdicts.audit.table import Table
 from believed import believed
 
 HOSTILE = [
@@ -74,5 +75,5 @@ class Bundle:
 
     def page(self, unfinished=True):
         times = {row.position: 1.25 for row in self.rows[::2]}
-        table = of_facts(self.manifest.get("simulated", {})).beside(judge(self.rows))
+        table = Table(of_facts(self.manifest.get("simulated", {})).beside(judge(self.rows)))
         return Page(Results(self.manifest, self.rows, self.files.__getitem__, times), table, unfinished).html()

@@ -5,7 +5,7 @@ from believed import judge_some as judge
 from aig_verdicts.pages.page import Page, Results
 from aig_verdicts.audit.row import Row
 from aig.waves.concrete import comes_back
-from aig_verdicts.audit.table import junit, text
+from aig_verdicts.audit.table import Table
 from believed import believed
 
 # The names of an input and of three latches, what the property reads (its own literals, and those of a gate), and the
@@ -55,10 +55,10 @@ def tables(tally):
                                 {"base": "0.base.drat", "step": "0.step.drat"})]
     for bad, wanted in ((10, "run of 5, at cycle 3"), (8, "run of 5, at cycle 4"), (12, "run of 5  ")):
         table = judge(rows, cycles_of(circuit("a", ("value_6", "when_6", "n"), bad)).at)
-        said = text(table).splitlines()
+        said = Table(table).text().splitlines()
         tally.check(f"moments: the table, {bad}", f"  fails  {wanted}" in said[0] and said[0].endswith("0.wit"), said)
         tally.check(f"moments: the table of another row, {bad}", "  holds  induction of 2 " in said[1], said)
-        tally.check(f"moments: JUnit, {bad}", f">{wanted.strip()}\n" in junit("d", table, {}))
+        tally.check(f"moments: JUnit, {bad}", f">{wanted.strip()}\n" in Table(table).junit("d", {}))
 
 
 # A shift register of one input: the property reads the first latch, or an assertion at an edge samples the input.
@@ -83,7 +83,7 @@ def pages(tally):
         files = {"circuit.aig": SHIFT % names, "0.wit": WITNESS}
         table = judge([row], cycles_of(files["circuit.aig"]).at)
         manifest = {"name": "moments", "notes": [], "versions": {}, "sums": {}}
-        page = Page(Results(manifest, [row], files.__getitem__), table).html()
+        page = Page(Results(manifest, [row], files.__getitem__), Table(table)).html()
         said, first, sentence, marked = wanted
         title = f"moments: {names}, {kind}"
         tally.compare(f"{title}: the words", page.count(f"</i>{said}</span>"), 2)

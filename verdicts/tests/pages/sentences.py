@@ -5,11 +5,13 @@ import html
 import re
 from dataclasses import replace
 
+from aig_verdicts.audit import checked
 from aig_verdicts.audit.cycles import cycles_of
 from believed import judge_some as judge
 from aig_verdicts.pages.page import Page, Results
 from aig_verdicts.audit.row import Row
-from believed import believed
+from aig_verdicts.audit.table import Table
+from believed import SUM, believed, check_of
 
 LATCHES = 30
 # A certificate of two claims over one latch, without a gate.
@@ -51,7 +53,7 @@ class Bundle:
 
     def page(self, unfinished=False):
         seconds = {0: 1.5, 1: 2.5, 3: 4.5}
-        table = judge(self.rows, cycles_of(self.files["circuit.aig"]).at)
+        table = Table(judge(self.rows, cycles_of(self.files["circuit.aig"]).at))
         return Page(Results(self.manifest, self.rows, self.files.__getitem__, seconds), table, unfinished).html()
 
 
@@ -80,7 +82,8 @@ def each_kind(constraints=1):
     for _ in range(5):
         made.add("assert", "induction", 1, base=proof, step=step)
     made.add("assert", "run", 1, witness=run_of(19, 1))
-    kept = believed(Row(-1, "constraints", ""), "alive", "kept", 3, {"witness": "alive.wit"})
+    kept = Row(-1, "constraints", "")
+    kept.take(replace(check_of(-1, "kept", 3, {"witness": "alive.wit"}), is_lasting=True, key=checked._KEY), SUM)
     made.files["alive.wit"] = b"1\nb0\n" + b"0" * LATCHES + b"\n0\n0\n0\n.\n"
     made.rows.insert(0, kept)
     return made
@@ -141,7 +144,7 @@ WANTED = {
 # What the page says above, and of each group.
 ABOVE = (
     "15 assertions: 3 fail, 9 hold, 1 hold for the frames searched, 1 vacuous, 1 undecided; 3 covers: 1 reached, "
-    "1 never reached, 1 not reached within the bound.",
+    "1 never reached, 1 not reached within the bound; 1 in doubt.",
     "Circuit of 1 input, 30 latches and 0 gates, 1 assumption. A run of 31 frames keeps the assumptions: 0.witness. "
     "alive.wit comes back to a state, so they can be kept for ever. SHA-256 0123456789abcdef…",
     "Note: note 0.Note: note 1.Note: note 2.Note: note 3.2 more notesNote: note 4.Note: note 5.",
@@ -232,7 +235,7 @@ def denied(tally):
     table = judge(made.rows, cycles_of(made.files["circuit.aig"]).at)
     table[0] = table[0].denied_by("at 30 the simulator has another value")
     table[3] = replace(table[3], denied="the circuit is not as in a simulator")
-    page = Page(Results(made.manifest, made.rows, made.files.__getitem__), table).html()
+    page = Page(Results(made.manifest, made.rows, made.files.__getitem__), Table(table)).html()
     sections = sections_of(page)
     for at, look, words, said in ((0, "warn", "≠disagrees", "at 30 the simulator has another value."),
                                   (3, "warn", "✓holds", "")):

@@ -8,6 +8,7 @@ from believed import judge_some as judge
 from aig_verdicts.pages.page import Page, Results
 from aig_verdicts.audit.row import Row
 from aig.waves.svg import Lane, waveform
+from aig_verdicts.audit.table import Table
 from believed import believed
 from pages.tags import read
 
@@ -17,7 +18,7 @@ NO_ROOM = "The page has no picture of this run"
 def page_of(circuit, rows, files):
     held = {"circuit.aig": aig.Circuit(circuit).file, **files}
     manifest = {"name": "sizes", "notes": [], "versions": {}, "sums": {}}
-    return Page(Results(manifest, rows, held.__getitem__), judge(rows)).html()
+    return Page(Results(manifest, rows, held.__getitem__), Table(judge(rows))).html()
 
 
 def of_run(position, frames):

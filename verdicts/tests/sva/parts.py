@@ -99,6 +99,29 @@ def rejected(_, tally, __):
     tally.compare("all at once", [line.split(":")[1] for line in got.splitlines()], [str(at) for at in range(3, 8)])
 
 
+def live(_, tally, __):
+    """An assertion or a cover that asks for liveness is left out with its line, and the others go on. An assumption is not
+    dropped, and what Yosys reads by itself is left to it."""
+    for words, said in rejections.LIVE:
+        for kind in ("assert", "cover") if "s_" in words else ("assert",):
+            text = f"{rejections.MODULE}x:\n{kind} property (@(posedge clk) {words});\ny: assert property (@(posedge clk) a |=> b);\nendmodule\n"
+            found = translated({"x.sv": text}, ["x.sv"], [])
+            made = found.texts["x.sv"]
+            tally.compare(f"live: {kind} {words}", (found.left, "x:" in made, made.count("assert ("), made.count("\n")),
+                          (["x.sv:4"], False, 1, text.count("\n")))
+        got = said_of(f"{rejections.MODULE}assume property (@(posedge clk) {words});\nendmodule\n")
+        tally.check(f"live: assume {words}", (got or "").endswith(said), got)
+    branch = f"{rejections.MODULE}if (1) assert property (@(posedge clk) s_always a); else assert property (@(posedge clk) a |=> b);\nendmodule\n"
+    made = translated({"x.sv": branch}, ["x.sv"], []).texts["x.sv"]
+    tally.check("live: a branch stays one", "if (1) begin end" in " ".join(made.split()), made)
+    for words in ("assert property (s_eventually b);", "always @(posedge clk) assert property (eventually b);"):
+        text = f"{rejections.MODULE}{words}\ny: assert property (@(posedge clk) a |=> b);\nendmodule\n"
+        found = translated({"x.sv": text}, ["x.sv"], [])
+        tally.check(f"live: left to Yosys: {words}", words in found.texts["x.sv"] and found.left == [], found)
+    got = said_of(f"{rejections.MODULE}assert property (s_eventually a |=> b);\nendmodule\n")
+    tally.check("live: more than an expression is not Yosys' own", got is not None, got)
+
+
 def bounded(_, tally, __):
     """A property that grows without a bound is rejected by its line, within a second of a processor."""
     for words in rejections.GROWING + rejections.LARGE:
@@ -128,6 +151,26 @@ def copies(_, tally, __):
         else:
             wanted = r"\s*(//.*)?" if found[1] == "goes" else f".*{found[2] or ''}.*"
             tally.check(f"line {at}", re.fullmatch(wanted, new), new)
+    doubled(tally)
+
+
+def doubled(tally):
+    """Macros that use each other twice, and macros with their argument in them several times: a limit ends them."""
+    lines = [f"`define X{at} (`X{at - 1} & `X{at - 1})" for at in range(1, 25)]
+    twice = "\n".join(["`define X0 a", *lines, "module m(input c, a); assert property (@(posedge c) `X24 |-> a); endmodule"])
+    many = ("`define A(x) x x x x x x x x x x\n`define B(x) `A(`A(`A(`A(`A(`A(`A(x)))))))\n"
+            "module m(input c, a); assert property (@(posedge c) `B(a) |-> a); endmodule")
+    uses = "\n".join(["`define X0 a a", *(it.replace("&", " ") for it in lines[:9]), "`define Y `X9 `X9 `X9 `X9 `X9 `X9", "module m(input c, a);",
+                      *["`Y"] * 10000, "assert property (@(posedge c) a |-> a); endmodule"])
+    for name, text, wanted in (("twice", twice, "a macro of more than 20,000 words"), ("arguments", many, "a macro of more than 20,000 words"),
+                               ("uses", uses, "macros that mean too much text in all")):
+        begin, why = time.process_time(), "nothing"
+        try:
+            translated({"x.sv": text}, ["x.sv"], [])
+        except Untranslated as error:
+            why = str(error)
+        seconds = time.process_time() - begin
+        tally.check(f"macros that double: {name}", wanted in why and "x.sv:" in why and seconds < 60, f"{why} {seconds}")
 
 
 def texts(_, tally, __):

@@ -1,12 +1,15 @@
 """What the translation rejects, by its word: the property, and what is said."""
 
-# A text of None stands for any.
-ROWS = [
+# What asks for liveness: an assertion is left out, and an assumption is rejected with these words.
+LIVE = [
     ("a |-> s_eventually b", "`s_eventually`: asks for liveness"),
     ("s_always a", "`s_always`: asks for liveness"),
     ("a s_until b", "`s_until`: asks for liveness"),
     ("a |-> strong(##[1:$] b)", "`strong`: of a property without a bound asks for liveness"),
     ("not (a ##[1:$] b)", "`not`: of a property without a bound asks for liveness"),
+]
+# A text of None stands for any.
+ROWS = [
     ("(a, x = b) |=> b", "`,`: an assignment in a sequence is not translated"),
     ("a[*0:2] |-> b", "`|->`: the sequence on its left can be empty"),
     ("a |-> ##N b", "`N`: is no constant that is known here"),

@@ -4,12 +4,14 @@ and what a simulator said there could be anything."""
 from __future__ import annotations
 
 from dataclasses import replace
-from typing import Any, Dict, List, NamedTuple
+from typing import Any, Dict, List, NamedTuple, Sequence
 
 from .bundle import Bundle, Wrong
+from .manifest import asked_of
 from .properties import modules_and_signals
 from .row import Row
 from .simulated import Simulated
+from .table import Table
 
 
 class Audited(NamedTuple):
@@ -55,3 +57,8 @@ def options_of(bundle: Bundle, is_made_again: bool) -> str:
             f"with {', '.join(options['asserts'])} in module {options['module']}" if options.get("asserts") else ""]
     begin = "" if is_made_again else "the bundle says that "
     return f"{begin}the sources are read {', '.join(filter(None, said))}"
+
+
+def table_of(bundle: Bundle, rows: Sequence[Row], simulated: Simulated = Simulated()) -> Table:
+    """The table of a bundle, whose rows are these."""
+    return Table.of(rows, bundle.circuit(), asked_of(bundle.manifest), bundle.unread, simulated)

@@ -14,11 +14,15 @@ from aig.program import OftenRead
 from .checked import CIRCUIT, Wrong, expect, sum_of
 from .manifest import MANIFEST, PLAIN, WITH_CUTS, files_of, parsed, row_of
 from .row import Row
+from .unread import Unread, of_sources
 
 MOST_BYTES = 1 << 30
 # Of all files of a .zip together, once they are unpacked.
 MOST_UNPACKED = 1 << 34
 MOST_OF_MANIFEST = 1 << 26
+# A file of a .zip may be so large, or so many times as large as it is packed: 1 MB of a .zip can be 1 GB of zeros.
+MOST_TIGHT, TIGHT_MANIFEST, MOST_TIMES = 1 << 26, 1 << 22, 100
+_PIECE = 1 << 20
 # Of the list of files in a .zip.
 MOST_OF_LIST = 1 << 25
 PLAIN_FILE = 0o100000
@@ -104,8 +108,11 @@ class _Zip:
         try:
             entry = self._file.getinfo(self._top + name)
             expect(entry.file_size <= most, f"{name} is too large")
+            tight = TIGHT_MANIFEST if name == MANIFEST else MOST_TIGHT
+            expect(entry.file_size <= max(tight, MOST_TIMES * entry.compress_size),
+                   f"{name} has {entry.file_size >> 20:,} MB, over {MOST_TIMES} times as many as in the .zip: unpack it yourself")
             with self._file.open(entry) as file:
-                return file.read(most + 1)
+                return b"".join(iter(lambda: file.read(_PIECE), b""))
         except Wrong:
             raise
         except Exception as error:
@@ -120,6 +127,7 @@ class Bundle:
         self._most = most_bytes
         self.manifest: Dict[str, Any] = parsed(self._read(MANIFEST, min(most_bytes, MOST_OF_MANIFEST)))
         self.rows: List[Row] = [row_of(value) for value in self.manifest["rows"]]
+        self.unread: List[Unread] = of_sources(self.manifest["unread"])
         has_cuts = any(row.claim is not None and row.claim.cut for row in self.rows)
         expect((self.manifest["format"] == WITH_CUTS) == has_cuts, "format of MANIFEST.json")
         names = files_of(self.manifest, self.rows)

@@ -1,6 +1,5 @@
-"""Where each verdict begins. `check` has `aig` answer the commands of a claim, and makes a `Checked` of its answers.
-Nothing else makes one, and nothing else is a verdict: rows, tables, pages and exit statuses take a `Checked`, and
-decisions.py says what it means. Who audits a `recheck` reads these two files."""
+"""Where each verdict begins. `check` has `aig` answer the commands of a claim, and makes a `Checked` of its answers. Nothing
+else makes one, or is a verdict: rows, tables, pages and statuses take a `Checked`, and decisions.py says what it means."""
 
 from __future__ import annotations
 
@@ -151,11 +150,9 @@ class Claim:
         if self.by == "bound":
             return [self._bounded(self.frames, files["base"])]
         if self.by == "kept":
-            words = ["check", "--alive", f"--frames={self.frames}", CIRCUIT, files["witness"]]
-            return [Command(self.line, words)]
+            return [Command(self.line, ["check", "--alive", f"--frames={self.frames}", CIRCUIT, files["witness"]])]
         if self.by == "alive":
-            words = ["refute", "--alive", f"--frames={self.frames}", self.circuit, files["alive"]]
-            return [Command(self.line, words)]
+            return [Command(self.line, ["refute", "--alive", f"--frames={self.frames}", self.circuit, files["alive"]])]
         return []
 
     def _bounded(self, frames: int, proof: str) -> Command:
@@ -178,6 +175,7 @@ class Checked:
     sums     those of the files, by role
     key      that of this module
     cuts     the file of what was cut from the circuit; none if the commands were about all of it
+    is_lasting  whether it is a run that comes back to a state, so that it can go on for ever
     """
 
     claim: Claim
@@ -218,8 +216,7 @@ def check(claim: Claim, circuit: bytes, read: Callable[[str], bytes], stop: Stop
     says what is not as claimed."""
     texts: Dict[str, bytes] = {}
 
-    def text(name: str) -> bytes:
-        """The file, which is read once: it may change meanwhile."""
+    def text(name: str) -> bytes:  # which is read once: it may change meanwhile
         if name not in texts:
             texts[name] = read(name)
         return texts[name]

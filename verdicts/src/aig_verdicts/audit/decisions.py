@@ -1,21 +1,18 @@
-"""What checks mean: the result and the mark of each assertion and cover, the exit status, and the last line. These are
-functions of rows alone. A result that says something of a circuit needs a `Checked`, and only checked.py makes one.
-sentences.py has the words. Who audits a `recheck` reads these three files."""
+"""What checks mean: the result, the doubt, the mark and the exit status of each assertion and cover. These are functions of
+rows alone. A result that says something of a circuit needs a `Checked`, and only checked.py makes one. table.py has what
+all rows mean together, and sentences.py the words. Who audits a `recheck` reads these four files."""
 
 from __future__ import annotations
 
 from dataclasses import dataclass, replace
-from typing import TYPE_CHECKING, Any, Callable, Dict, List, Literal, NamedTuple, Optional, Sequence, Union
+from typing import Callable, Dict, List, Literal, NamedTuple, Optional, Sequence, Union
 
 from . import sentences
 from .checked import CONFIRMED, CONSTRAINTS, UNREACHABLE, Checked, Wrong, expect
 from .cycles import Moment
 from .pieces import Needs
 from .row import LEFT_OUT, UNDECIDED, Row
-from .sentences import DISAGREES, NOT_COMPARED, NOT_SIMULATED, Remark
-
-if TYPE_CHECKING:
-    from .simulated import Simulated
+from .sentences import DISAGREES, Remark
 
 # Exit statuses of a table that is whole.
 GOOD, OPEN, BAD = 0, 4, 5
@@ -43,6 +40,8 @@ MEANINGS = {
     "holds": Meaning(GOOD, "✓", "good", ""),
     "reached": Meaning(GOOD, "✓", "good", ""),
 }
+# Of a property of the input that has no verdict.
+UNREAD = Meaning(OPEN, "–", "warn", "error")
 Found = Literal["fails", "never", "bounded", "holds", "reached"]
 
 
@@ -125,8 +124,8 @@ class Judged:
 
     @property
     def junit(self) -> str:
-        """What a CI server takes the row for: an element of JUnit, or nothing if it passes."""
-        return MEANINGS[self.result].junit
+        """What a CI server takes the row for: an element of JUnit, or nothing if it passes. What is in doubt does not pass."""
+        return MEANINGS[self.result].junit or ("error" if self.denied else "skipped" if self.doubt else "")
 
     @property
     def remarks(self) -> List[Remark]:
@@ -147,13 +146,15 @@ class Judged:
         return replace(self, said=Undecided(DISAGREES), simulated=said)
 
 
+# For so many frames some run has to keep the assumptions, whatever a bundle says that it was asked for.
+LEAST_KEPT = 20
+
+
 class Asked(NamedTuple):
-    """What was asked of a design: runs of so many frames, whether the conditions of assertions are ever true, and how many
-    properties its circuit has, if that is known."""
+    """What was asked of a design: runs of so many frames, and whether the conditions of assertions are ever true."""
 
     frames: int = 0
     conditions: bool = True
-    properties: Optional[int] = None
 
 
 class Judge:
@@ -194,7 +195,7 @@ class Judge:
         kept = self._alive.checked
         if kept is None:
             return sentences.PERHAPS_KEPT
-        is_short = kept.frames < max(self._asked.frames, own.frames if own.by == "bound" else 0)
+        is_short = kept.frames < max(LEAST_KEPT, self._asked.frames, own.frames if own.by == "bound" else 0)
         return sentences.kept_for(kept.frames) if is_short and not kept.is_lasting else ""
 
     def waits_for(self, row: Row) -> List[Row]:
@@ -214,71 +215,12 @@ def _alone(row: Row, own: Checked) -> Found:
     raise Wrong(f"{row.label} has the verdict of another kind of row")
 
 
-def judge(rows: Sequence[Row], moment: Callable[[Row], Optional[Moment]] = lambda _: None,
-          asked: Asked = Asked()) -> List[Judged]:
-    """The table, in the order of the properties, which is that of the sources. `moment` has that of a row's run. All rows of
-    a circuit are judged: without that of the assumptions, or of a condition, a vacuous one would hold."""
-    count = len(rows) - 1 if asked.properties is None else asked.properties
+def judge(rows: Sequence[Row], count: int, asked: Asked = Asked(),
+          moment: Callable[[Row], Optional[Moment]] = lambda _: None) -> List[Judged]:
+    """The rows of a circuit with so many properties, in their order, which is that of the sources. `moment` has that of a
+    row's run. All of them are judged: without that of the assumptions, or of a condition, a vacuous one would hold."""
     expect([row.position for row in rows] == [CONSTRAINTS, *range(count)], "a row is missing where rows are judged")
     judged = Judge(rows, asked)
     table = [judged.of(row) for row in rows if row.kind in ("assert", "cover")]
     table = [replace(it, moment=moment(it.row)) if it.row.by == "run" else it for it in table]
     return sorted(table, key=lambda it: it.row.position)
-
-
-def exit_status(table: Sequence[Judged], count: int) -> int:
-    """0 if all hold and all covers are reached, 5 if one fails or is never reached, else 4: also if the table has not
-    all of so many rows."""
-    missing = [OPEN] * (len(table) != count or count == 0)
-    return max([*missing, *(it.status for it in table)])
-
-
-def summary(table: Sequence[Judged]) -> str:
-    """One sentence."""
-    parts = []
-    for kind, (noun, words) in sentences.COUNTED.items():
-        found = [it.result for it in table if it.row.kind == kind]
-        if found:
-            counts = [f"{found.count(result)} {word}" for result, word in words.items() if result in found]
-            parts.append(f"{sentences.counted(len(found), noun)}: {', '.join(counts)}")
-    return "; ".join(parts)
-
-
-def asked(manifest: Dict[str, Any]) -> int:
-    """How many assertions and covers MANIFEST.json has: each of them has to have its answer."""
-    return sum(row["kind"] in ("assert", "cover") for row in manifest["rows"])
-
-
-def checked(table: Sequence[Judged], count: int) -> str:
-    """How many verdicts `aig` checked, of so many rows: a row without a verdict has nothing to check."""
-    done = sum(it.row.checked is not None for it in table)
-    return "all checked by aig" if done == count > 0 else f"{done} of {count} checked by aig"
-
-
-def compared(has_sources: bool, made: str, said: Simulated) -> str:
-    """What the last line of `recheck` says of the sources, where `made` is what Yosys makes of them, if it was asked."""
-    if not has_sources:
-        return ""
-    yosys = f", and {made}" if made else ""
-    if not said.by:
-        return yosys or f"; {_inside(NOT_COMPARED)}"
-    if said.agrees is False or DISAGREES in (it.word for it in said.rows.values()):
-        return f"{yosys}; ALARM: {said.by} disagrees, so the circuit may not be that of the sources"
-    means = "which is no proof" if said.is_compared else "so nothing is said of the sources"
-    return f"{yosys}; {said.circuit}, {means}"
-
-
-def line_of_recheck(table: Sequence[Judged], count: int, of_sources: str, are_own: bool) -> str:
-    """The last line of `recheck`, for so many rows."""
-    own = "; the sources are your files" if are_own else ""
-    return f"{summary(table)}; {checked(table, count)}{of_sources}{own}"
-
-
-def line_of_run(table: Sequence[Judged], has_sources: bool, said: Simulated) -> str:
-    """The last line of `run`, without the page."""
-    return summary(table) + (f"; {_inside(NOT_SIMULATED)}" if has_sources and said.agrees is None else "")
-
-
-def _inside(sentence: str) -> str:
-    """A sentence that goes on another one."""
-    return sentence[0].lower() + sentence[1:]

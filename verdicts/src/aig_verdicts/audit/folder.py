@@ -10,7 +10,7 @@ import shutil
 import zipfile
 from contextlib import contextmanager, suppress
 from pathlib import Path
-from typing import IO, Any, Dict, Iterable, Iterator, List, Optional
+from typing import IO, Any, Dict, Iterable, Iterator, List, Optional, Sequence, Set
 
 try:
     import fcntl
@@ -18,12 +18,14 @@ except ImportError:  # no Unix
     fcntl = None  # type: ignore[assignment]
 
 from .bundle import LOCK, MOST_BYTES, PLAIN_FILE, Bundle, PlainFolder, Wrong, sum_of
-from .checked import CONSTRAINTS, CUT, NEEDED, Claim
+from .checked import CONSTRAINTS, CUT, NEEDED, Claim, expect
 from .manifest import MANIFEST, as_json
 from .needed import FOLDER as RUNS
 from .row import Row
 
 PAGE, SCRIPT, TIMES = "index.html", "recheck.sh", "times.json"
+# The files that the run was given, by their paths from the folder. It is in no .zip.
+FILES = "files.json"
 # The page of what changed since another version.
 CHANGES = "changes.html"
 # What `recheck.sh` has in place of a circuit that another command writes.
@@ -139,6 +141,10 @@ class Folder:
     def forget_before(self) -> None:
         shutil.rmtree(self.path / BEFORE, ignore_errors=True)
 
+    def note_files(self, files: Sequence[Path]) -> None:
+        """Writes which files these results are of."""
+        write_whole(self.path / FILES, (json.dumps(sorted(_from(self.path, files))) + "\n").encode())
+
     def clean(self) -> None:
         """Removes the files of results that have no row any more."""
         runs = self.path / RUNS
@@ -157,6 +163,31 @@ class Folder:
         write_whole(self.path / SCRIPT, script(rows))
         times = {str(key): round(value, 1) for key, value in sorted(seconds.items())}
         write_whole(self.path / TIMES, (json.dumps(times) + "\n").encode())
+
+
+def folder_of(out: Optional[Path], name: str, files: Sequence[Path]) -> Path:
+    """The folder of a run of these files: the one that it names, or NAME.verdicts. Results of another design of that name stay
+    as they are: without files that were there before, it is another one."""
+    if out is not None:
+        return out
+    path = Path(f"{name}.verdicts")
+    old, new = _files_of(path), _from(path, files)
+    expect(old is None or old <= new or new <= old, f"{path} has the results of other files: name another folder with --out")
+    return path
+
+
+def _from(folder: Path, files: Iterable[Path]) -> Set[str]:
+    """The paths of files from a folder."""
+    return {os.path.relpath(file.resolve(), folder.resolve()) for file in files}
+
+
+def _files_of(path: Path) -> Optional[Set[str]]:
+    """The files that results are of, by their paths from the folder, if it says them."""
+    try:
+        found = json.loads(PlainFolder(path).read(FILES, MOST_BYTES))
+    except (OSError, Wrong, ValueError, RecursionError, MemoryError):
+        return None
+    return set(found) if type(found) is list and all(type(it) is str for it in found) else None
 
 
 _SCRIPT = """\

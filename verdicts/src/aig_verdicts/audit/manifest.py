@@ -10,7 +10,7 @@ from typing import Any, Callable, Dict, List, Optional, Tuple
 from aig.tools import ToolFailed
 
 from ..options import Unusable, look_at_words, values_of
-from . import needed, simulated, timing
+from . import needed, simulated, timing, unread
 from .checked import ALIVE, CIRCUIT, CONSTRAINTS, CUT, WAYS, Claim, Command, Wrong, expect
 from .decisions import Asked, judge
 from .row import KINDS, LEFT_OUT, MOST_FRAMES, ORIGINS, UNDECIDED, Row, name_of
@@ -67,13 +67,13 @@ def format_of(rows: List[Row]) -> str:
 
 def results(rows: List[Row]) -> Dict[int, str]:
     """The words of each assertion and cover, by position."""
-    return {it.row.position: it.words for it in judge(rows)}
+    return {it.row.position: it.words for it in judge(rows, len(rows) - 1)}
 
 
 def asked_of(manifest: Dict[str, Any]) -> Asked:
     """What was asked of the design."""
     has_conditions = manifest["options"].get("conditions") is not False
-    return Asked(int(manifest["bounds"].get("frames", 0)), has_conditions, len(manifest["rows"]) - 1)
+    return Asked(int(manifest["bounds"].get("frames", 0)), has_conditions)
 
 
 def is_of_older_formulas(manifest: Dict[str, Any]) -> bool:
@@ -124,12 +124,14 @@ def parsed(data: bytes) -> Dict[str, Any]:
     expect(type(made) is dict and made.get("format") in FORMATS, f"MANIFEST.json is not of {FORMAT!r}")
     for name in ("timing", "simulated"):  # an older version did not write them
         made.setdefault(name, {})
-    made.setdefault("translated", [])  # where Yosys read the sources themselves
+    for name in ("translated", "unread"):  # where Yosys read the sources themselves, and all of them
+        made.setdefault(name, [])
     expect(set(made) == set(_PARTS), "MANIFEST.json has other parts")
     for name, is_right in _PARTS.items():
         expect(is_right(made[name]), f"{name} of MANIFEST.json")
     expect(bool(made["options"]) == bool(made["sources"]), "options of MANIFEST.json")
     expect(set(made["translated"]) <= set(made["sources"]), "translated of MANIFEST.json")
+    expect({it["file"] for it in made["unread"]} <= {"", *made["sources"]}, "unread of MANIFEST.json")
     _names(made)
     manifest: Dict[str, Any] = made
     return manifest
@@ -192,6 +194,7 @@ _PARTS: Dict[str, Callable[[Any], bool]] = {
     "timing": timing.are_facts,
     "simulated": simulated.are_facts,
     "rows": lambda value: type(value) is list,
+    "unread": unread.are_facts,
 }
 _TYPES = {
     "position": int, "kind": str, "name": str, "file": str, "first": int, "last": int, "of": int, "verdict": str,

@@ -21,7 +21,12 @@ NOT_SIMULATED = "Not compared with a simulator"
 NEVER_ASKED = "its condition is never true: nothing is asserted in any run"
 PERHAPS_ASKED = "whether its condition is ever true is not decided"
 CONDITION_NOT_ASKED = "whether it has a condition that is never true was not asked"
+IN_DOUBT = "in doubt"
 PERHAPS_KEPT = "whether some run keeps the assumptions is not decided"
+# What is said of a property of the input that has no verdict, and why it has none.
+NOT_LOOKED_AT = "not looked at"
+LIVE, JUSTICE = "it asks for liveness", "a justice property asks for liveness"
+ELSEWHERE = "it is in no instance below the top module, or under an `if` or `ifdef` that is constant"
 
 
 class Group(NamedTuple):
@@ -117,8 +122,7 @@ def of_run(row: Row, moment: Optional[Moment]) -> str:
     elif moment.number == seen:
         when = f"{said} at {moment}, whatever the x are."
     else:
-        when = (f"{said} at {moment}, whatever the x are: the clock's edge at its end samples these values, and the "
-                f"property is 1 at frame {seen}.")
+        when = f"{said} at {moment}, whatever the x are: the clock's edge at its end samples these values, and the property is 1 at frame {seen}."
     if row.frames == 1:
         return when
     if "shorter" in row.files:
@@ -224,8 +228,7 @@ def never_kept(frames: int) -> str:
 
 
 def kept_for(frames: int) -> str:
-    """Why a row may be vacuous: the run that keeps the assumptions is shorter than what was searched, and it comes back to
-    no state."""
+    """Why a row may be vacuous: the run that keeps the assumptions is shorter than the search, and comes back to no state."""
     return f"the assumptions are known to be kept for {counted(frames, 'frame')}, which is less than was searched"
 
 
@@ -244,16 +247,14 @@ def of_assumptions(rows: Sequence[Row], comes_back: Callable[[Row], bool]) -> Li
 
 def short_runs(alive: Row) -> str:
     """The same of a run that comes back to no state, on a terminal: rows may be about short runs alone."""
-    return (f"the assumptions are kept for {alive.frames} frames; whether for more is not known, so `holds` may be "
-            "about so many frames alone")
+    return f"the assumptions are kept for {alive.frames} frames; whether for more is not known, so `holds` may be about so many frames alone"
 
 
 # -- what to believe
 
 
 def is_proved(aig: str) -> bool:
-    """Whether the program that checked the verdicts is proved, by what it says of itself. If it says nothing, it is
-    not."""
+    """Whether the program that checked the verdicts is proved, by what it says of itself. If it says nothing, it is not."""
     return " (proved" in aig
 
 

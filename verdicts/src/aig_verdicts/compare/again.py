@@ -4,6 +4,7 @@ again."""
 from __future__ import annotations
 
 import tempfile
+from enum import Enum
 from pathlib import Path
 from typing import Sequence
 
@@ -15,7 +16,8 @@ from aig.tools import Stop, ToolFailed, ask, version
 from ..reading.design import Design
 from .equal import do_the_same
 from ..reading.made import made, reading_of
-from ..reading.sources import Sources, places
+from ..listing import places
+from ..reading.sources import Sources
 from ..reading.versions import yosys_of
 
 # What is compared by name between two circuits, in this order.
@@ -32,8 +34,15 @@ def same_sources(bundle: Bundle, files: Sequence[Path], include: Sequence[Path])
     expect(not other, f"{places(other)}: the bundle has another text than your file")
 
 
-def same_design(bundle: Bundle, stop: Stop = Stop()) -> str:
-    """That Yosys makes the same circuit of the sources again, or one that does the same: what is said of it. Its rows are
+class Remade(Enum):
+    """What Yosys makes of the sources again: only `same_design` says one."""
+
+    SAME = SAME_CIRCUIT
+    EQUAL = EQUAL_CIRCUIT
+
+
+def same_design(bundle: Bundle, stop: Stop = Stop()) -> Remade:
+    """That Yosys makes the same circuit of the sources again, or one that does the same. Its rows are
     at the same places. Another version of Yosys may say that an assertion begins on another line."""
     with stop.at_once():
         again, circuit = _made_again(bundle, stop), bundle.circuit()
@@ -45,6 +54,7 @@ def same_design(bundle: Bundle, stop: Stop = Stop()) -> str:
         raise Wrong(f"Yosys makes another circuit of the sources: {difference}{other}")
     expect(again.name == bundle.manifest["name"],
            f"the top module of the sources is {again.name}, and {bundle.manifest['name']!r} in the bundle")
+    bundle.unread = again.unread  # whatever the sender says of the sources
     translated = {name: bundle.summed(f"translated/{name}") for name in bundle.manifest["translated"]}
     expect(again.translated == translated, "the translation of the assertions is another one")
     places = {it.position: it for it in again.assertions}
@@ -54,7 +64,7 @@ def same_design(bundle: Bundle, stop: Stop = Stop()) -> str:
         expect(is_there and (here.first == row.first or bool(other)),
                f"{row.label} is at another place: {here.file}:{here.first}-{here.last}, and "
                f"{row.file}:{row.first}-{row.last} in the bundle{other}")
-    return SAME_CIRCUIT if is_same else EQUAL_CIRCUIT
+    return Remade.SAME if is_same else Remade.EQUAL
 
 
 def _made_again(bundle: Bundle, stop: Stop) -> Design:

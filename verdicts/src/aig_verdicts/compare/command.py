@@ -7,20 +7,19 @@ import sys
 from pathlib import Path
 from typing import Dict, Optional
 
-from ..audit.audited import audited
+from ..audit.audited import audited, table_of
 from ..audit.bundle import Bundle
 from .difference import Difference, difference
 from .page import DifferencePage
 from ..audit.folder import write_whole
-from ..audit.manifest import as_json, asked_of
+from ..audit.manifest import as_json
 from .matching import Version
 from ..audit.recheck import recheck
-from ..audit.sentences import EQUAL_CIRCUIT
 from .sides import CHECKED, Side, checked_side, side_of
 from ..audit.simulated import Simulated, of_facts
-from ..audit.table import plain, table_of
+from ..audit.table import plain
 from aig.tools import Stop
-from .again import same_design
+from .again import Remade, same_design
 
 
 def compare(words: argparse.Namespace, stop: Stop) -> int:
@@ -40,14 +39,15 @@ def compare(words: argparse.Namespace, stop: Stop) -> int:
     return found.status
 
 
-def against(words: argparse.Namespace, new: Side, of_new: str, stop: Stop) -> Difference:
+def against(words: argparse.Namespace, new: Side, of_new: Optional[Remade], stop: Stop) -> Difference:
     """What changed to a re-checked bundle from an older one, which is checked in the same way. Of neither is anything
     shown but names. `of_new` is what Yosys makes of the newer sources, if it was asked."""
     bundle = checked(words.since, words, stop)
-    of_old = same_design(bundle, stop) if words.yosys else ""
+    of_old = same_design(bundle, stop) if words.yosys else None
     shown = audited(bundle, "", Simulated(), False, words.yosys)
-    old = side_of(Version.of(bundle), table_of(bundle.rows, bundle.circuit(), asked_of(bundle.manifest)), shown.read)
-    return difference(old, new, CHECKED + (f", and {of_old if of_old == of_new else EQUAL_CIRCUIT}, of both" if words.yosys else ""))
+    old = side_of(Version.of(bundle), table_of(bundle, bundle.rows), shown.read)
+    of_both = of_old if of_old is of_new else Remade.EQUAL
+    return difference(old, new, CHECKED + (f", and {of_both.value}, of both" if of_both else ""))
 
 
 def checked(path: Path, words: argparse.Namespace, stop: Stop) -> Bundle:

@@ -8,8 +8,10 @@ from .changes import Beside, Change, Known, changes, status_of, summary
 from ..audit.decisions import BAD, OPEN
 from .matching import pairs_of
 from .sides import Side
+from ..audit.sentences import NOT_LOOKED_AT
 from .surroundings import surroundings
 from ..audit.table import MOST_WIDE, Case, element, plain, suite
+from ..audit.unread import more_than
 
 FORMAT = "aig-verdicts difference 1"
 
@@ -63,7 +65,11 @@ def difference(old: Side, new: Side, basis: str, only: Optional[Collection[int]]
         chosen = {pairs.old.get(position) for position in only}
         before = [it for it in before if it.row.position in chosen]
         after = [it for it in after if it.row.position in only]
-    return Difference(old, new, changes(before, after, pairs), surroundings(old.version, new.version), basis)
+    beside = surroundings(old.version, new.version)
+    more = more_than(old.unread, new.unread) if only is None else []
+    if more:
+        beside.append(Beside(f"{more[0].place} is {NOT_LOOKED_AT}" + f", and {len(more) - 1} more" * (len(more) > 1), OPEN))
+    return Difference(old, new, changes(before, after, pairs), beside, basis)
 
 
 def said(known: Optional[Known]) -> str:

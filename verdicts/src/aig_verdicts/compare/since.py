@@ -11,7 +11,6 @@ from ..audit.bundle import Bundle
 from ..audit.checked import CONSTRAINTS, Claim, Wrong, expect
 from .command import last_line, write
 from ..search.task import Hint
-from ..audit.decisions import Judged
 from .difference import Difference, difference
 from ..audit.folder import CHANGES
 from .matching import Version, pairs_of
@@ -19,6 +18,7 @@ from ..search.renamed import Renamed
 from ..audit.row import Row
 from ..search.session import Session
 from .sides import BASELINE, baseline_of, side_of
+from ..audit.table import Table
 
 
 class Since:
@@ -71,7 +71,7 @@ class Since:
             files[role] = made or b""
         return files
 
-    def difference(self, table: Sequence[Judged], only: Optional[Collection[int]]) -> Difference:
+    def difference(self, table: Table, only: Optional[Collection[int]]) -> Difference:
         """What changed, of these rows of the run."""
         new = side_of(self._new, table, self._session.folder.read)
         found = difference(self._old, new, BASELINE, only)

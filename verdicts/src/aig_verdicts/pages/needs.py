@@ -59,7 +59,7 @@ class Proofs(NamedTuple):
     others: int
 
     @staticmethod
-    def of(table: Sequence[Judged]) -> Proofs:
+    def of(table: Iterable[Judged]) -> Proofs:
         known = [it for it in table if it.needs is not None]
         return Proofs(known, sum(it.result in ("holds", "never", "vacuous", "bounded") for it in table) - len(known))
 

@@ -8,15 +8,16 @@ from typing import Any, Callable, Dict, List, Mapping, Optional, Sequence
 import aig
 
 from aig.program import OftenRead
-from ..audit.decisions import MEANINGS, Judged, summary
+from ..audit.decisions import MEANINGS, UNREAD, Judged
 from .needs import STYLE as NEEDS, Proofs, section
 from ..audit.row import Row
 from aig.waves.concrete import comes_back
 from .sections import Pictures, Sections, Sources, anchor, place, size, verdict
-from ..audit.sentences import GROUPS, NOT_PROVED, NOT_SIMULATED, PROVED, UNPROVED, counted, is_proved, of_assumptions
-from ..audit.sentences import of_needs
+from ..audit.sentences import GROUPS, NOT_LOOKED_AT, NOT_PROVED, NOT_SIMULATED, PROVED, UNPROVED, counted, is_proved
+from ..audit.sentences import of_assumptions, of_needs
 from ..audit.simulated import of_facts
 from .style import STYLE
+from ..audit.table import Table
 from aig.letters import escape, marked
 from aig.waves.svg import MOST_NAME, STYLE as WAVE, shortened
 
@@ -55,12 +56,12 @@ class Page:
     pictures    those of earlier pages of the same circuit, to which this page adds its own
     """
 
-    def __init__(self, results: Results, table: Sequence[Judged], unfinished: bool = False,
+    def __init__(self, results: Results, table: Table, unfinished: bool = False,
                  pictures: Optional[Pictures] = None):
         self.manifest, self.rows, self.read = results.manifest, results.rows, results.read
         self.seconds, self.unfinished, self.pictures = results.seconds, unfinished, pictures
         groups = list(GROUPS)
-        self.summary = summary(table)
+        self.summary, self.unread = table.summary, table.unread
         shown = [it for it in table if it.result in groups]  # the summary alone counts what was left out
         self.proofs = Proofs.of(table)
         self.table = sorted(shown, key=lambda it: (groups.index(it.result), not it.doubt))
@@ -76,7 +77,7 @@ class Page:
                 f"<title>{name}: verdicts</title><style>{STYLE}{WAVE}{NEEDS if self.proofs.known else ''}</style></head><body>"
                  f"<h1>{name}</h1><p class=sub>{escape(self.summary)}.</p>"
                  f"{self._chips()}{self._notes()}{self._design()}{self._simulated()}{self._overview()}"
-                f"{self._groups()}{self._unneeded()}{self._believe()}"
+                f"{self._groups()}{self._unread()}{self._unneeded()}{self._believe()}"
                 f"{self._programs()}</body></html>\n")
 
     # -- the top
@@ -88,7 +89,9 @@ class Page:
         chips = (f'<li class="{MEANINGS[key].look}"><a href="#{key}"><b>{MEANINGS[key].mark} {counts[key]}</b>'
                  f'{group.title.lower()}</a></li>'
                  for key, group in GROUPS.items() if key in counts)
-        return f'<ul class="sum">{"".join(chips)}</ul>'
+        more = (f'<li class="{UNREAD.look}"><a href="#unread"><b>{UNREAD.mark} {len(self.unread)}</b>{NOT_LOOKED_AT}</a></li>'
+                if self.unread else "")
+        return f'<ul class="sum">{"".join(chips)}{more}</ul>'
 
     def _notes(self) -> str:
         notes = [f"<p class=warn><b>Note:</b> {escape(note)}.</p>" for note in self.manifest["notes"]]
@@ -149,6 +152,13 @@ class Page:
 
     def _unneeded(self) -> str:
         return section(self.proofs, self.circuit.file, self.manifest.get("sources", []), self.sources.lines)
+
+    def _unread(self) -> str:
+        """The properties of the input that have no verdict."""
+        if not self.unread:
+            return ""
+        lines = "".join(f"<li>{escape(it.said)}</li>" for it in self.unread)
+        return f"<h2 id=unread>Not looked at</h2><p class=warn>Nothing is known of these properties of the input.</p><ul>{lines}</ul>"
 
     # -- the sections
 

@@ -20,12 +20,14 @@ class Copies(NamedTuple):
     texts   what Yosys reads
     played  what a simulator reads, which gives parameters their values by itself
     top     the top module, if a parameter of it gets a value
+    left    the file and line of each assertion that is left out, as it asks for liveness
     """
 
     texts: Dict[str, bytes]
     played: Dict[str, bytes]
     depend_on_clocks: bool
     top: str = ""
+    left: Sequence[str] = ()
 
 
 def inserted_of(options: Mapping[str, Any]) -> Optional[Inserted]:
@@ -47,7 +49,7 @@ def copies(sources: Mapping[str, bytes], read: Sequence[str], options: Mapping[s
         made = {**played, **with_values({**texts, **played}, read, defines, given)} if given else played
     except (Untranslated, Rejected, Unusable) as error:
         raise ToolFailed(str(error)) from None
-    return Copies(_bytes(made), _bytes(played), found.has_resets, given.module if given else "")
+    return Copies(_bytes(made), _bytes(played), found.has_resets, given.module if given else "", found.left)
 
 
 def _given(texts: Mapping[str, str], read: Sequence[str], options: Mapping[str, Any]) -> Optional[Given]:

@@ -14,18 +14,21 @@ from aig.entries import listed, readable
 
 from . import findings, left_out, names, script, wiring, yosys
 from .text import netlist
-from .assertions import copies
+from .assertions import Copies, copies
 from .labels import AS_BLOCKS
+from .misread.rules import used_modules
 from .text.lax import ranges_of_words
 from aig.waves.ranges import Ranges
 from .registers import registers
 from ..options import look_at_words
-from .sources import Sources, places
+from ..listing import places
+from .sources import Sources
 from .clocks import timing
 from .store import Store, packed, parts_of, unpacked
 from ..audit.properties import modules_and_signals, properties, symbol
 from ..audit.timing import Timing, of_facts
 from aig.tools import Stop, ToolFailed, version
+from ..audit.unread import Unread, Why, of_sources
 from .versions import untried
 
 
@@ -49,8 +52,8 @@ class Assertion:
 
 @dataclass
 class Design:
-    """A circuit and what its properties are. `translated` has the copies of sources that Yosys read in place of them. If
-    the circuit was made before, it is that of an earlier run."""
+    """A circuit and what its properties are. `translated` has the copies of sources that Yosys read in place of them, and
+    `unread` the properties of the sources that have no row. If the circuit was made before, it is that of an earlier run."""
 
     name: str
     circuit: bytes
@@ -62,19 +65,21 @@ class Design:
     options: Dict[str, object] = field(default_factory=dict)
     timing: Optional[Timing] = None
     was_made_before: bool = False
+    unread: List[Unread] = field(default_factory=list)
 
     def kept(self) -> Dict[str, Any]:
         """What Yosys made, to be kept for a later run."""
         return {"name": self.name, "circuit": packed(self.circuit), "assertions": [asdict(it) for it in self.assertions],
                 "notes": self.notes, "translated": {name: packed(text) for name, text in self.translated.items()},
-                "script": self.script, "timing": self.timing.facts() if self.timing else {}}
+                "script": self.script, "timing": self.timing.facts() if self.timing else {},
+                "unread": [it.facts() for it in self.unread]}
 
     @staticmethod
     def of_kept(kept: Dict[str, Any], sources: Dict[str, bytes], options: Dict[str, object]) -> Design:
         """What an earlier run kept, of the same sources and options."""
         translated = {name: unpacked(text) for name, text in kept["translated"].items()}
         return Design(kept["name"], unpacked(kept["circuit"]), [Assertion(**it) for it in kept["assertions"]], kept["notes"],
-                      sources, translated, kept["script"], options, of_facts(kept["timing"]), True)
+                      sources, translated, kept["script"], options, of_facts(kept["timing"]), True, of_sources(kept["unread"]))
 
 
 def read_aiger(path: Path) -> Design:
@@ -144,19 +149,19 @@ def _options(read: Sources, how: Reading) -> Dict[str, object]:
 
 def _design(read: Sources, options: Dict[str, object], how: Reading, stop: Stop) -> Design:
     """What Yosys makes of the sources."""
-    def made_of(translated: Dict[str, bytes]) -> _Made:
+    def made_of(found: Copies) -> _Made:
         with tempfile.TemporaryDirectory(prefix="aig-verdicts-") as name:
             folder = Path(name)
             (folder / "sources").mkdir()
-            read.write(folder / "sources", translated)
-            return _Made(folder, read, how, stop)
+            read.write(folder / "sources", found.texts)
+            return _Made(folder, read, how, stop, found.left)
 
     try:
         found = copies(read.texts, read.read, options)
-        made = made_of(found.texts)
+        made = made_of(found)
         if found.depend_on_clocks and not made.timing.is_cycle:
             found = copies(read.texts, read.read, options, False)
-            made = made_of(found.texts)
+            made = made_of(found)
         if found.top and found.top != made.top:
             raise ToolFailed(f"a parameter of {found.top} gets a value, and the top module is {made.top}: name it with --top")
     except ToolFailed as error:
@@ -165,7 +170,7 @@ def _design(read: Sources, options: Dict[str, object], how: Reading, stop: Stop)
     if count != len(made.assertions):
         raise ToolFailed(f"the circuit has {count} properties, and the design {len(made.assertions)}")
     return Design(made.top, made.circuit, made.assertions, made.notes, read.texts, found.texts, made.script, options,
-                  made.timing)
+                  made.timing, unread=made.unread)
 
 
 _PLACE = re.compile(r"^sources/(.*):(\d+)\.\d+-(\d+)\.\d+$")
@@ -236,7 +241,9 @@ def _unique(labels: Sequence[str]) -> List[str]:
 class _Made:
     """What Yosys makes of the sources in a folder."""
 
-    def __init__(self, folder: Path, read: Sources, how: Reading, stop: Stop):
+    unread: List[Unread]
+
+    def __init__(self, folder: Path, read: Sources, how: Reading, stop: Stop, left: Sequence[str]):
         runs = yosys.Yosys(folder, how.yosys, how.seconds, stop)
         first, has_blocks = runs.read_any([f"sources/{name}" for name in read.read], how.top, how.defines)
         blocks = [AS_BLOCKS] * has_blocks
@@ -269,7 +276,10 @@ class _Made:
         order = runs.cells_in("order")
         self._rows(found, order, netlist.checks(modules, self.top))
         self.notes[:0] = read.left_out()
-        self._without_rows(read, found.values(), findings.live_places(modules))
+        self._without_rows(read, found.values(), [*findings.live_places(modules), *left])
+        if how.top:  # the assertions of modules that are not below it are not asked for
+            used = used_modules(runs.text("read.il"))
+            self.unread = [it for it in self.unread if used & {*(read.modules_at(it.file, it.line) or used)}]
         self.notes += [note for note in [untried(version(how.yosys, stop))] if note]
         module, clocked = flat[self.top], runs.modules("clocked.json")
         ports = list(module["ports"])
@@ -304,13 +314,17 @@ class _Made:
             raise ToolFailed(f"nobody knows what the property {cell} is")
 
     def _without_rows(self, read: Sources, checks: Iterable[_Check], known: Sequence[str]) -> None:
-        """Notes each assertion of the sources that has no row, but for the known ones. A text that has rows is one word."""
+        """Finds each assertion of the sources that has no row; the known ones ask for liveness. A text that has rows is one
+        word."""
         words = Counter(read.checks())
         for last, first, file, _ in sorted({(it.last, it.first, it.file, it.text) for it in checks}):
             at = next(((file, line) for line in range(first, last + 1) if words[file, line] > 0), None)
             if at:
                 words[at] -= 1
-        missing = [f"{file}:{line}" for (file, line), count in words.items() if count > 0 and f"{file}:{line}" not in known]
+        left = [Unread(Why.LIVENESS if f"{file}:{line}" in known else Why.ELSEWHERE, file, line)
+                for (file, line), count in words.items() for _ in range(count)]
+        self.unread = sorted(left, key=lambda it: (it.file, it.line))
+        missing = [it.place for it in self.unread if it.why is Why.ELSEWHERE]
         if missing:
             self.notes.insert(0, f"{places(missing)}: no row, for it is in no instance below {self.top}, or under an `if` or `ifdef` that is constant")
 

@@ -15,7 +15,7 @@ from .text.lax import (
 from .messages import nearest_place
 from .misread.rules import SourceTree, used_modules
 from .text.netlist import cells, inputs_of
-from .sources import places
+from ..listing import places
 from aig.tools import ToolFailed
 from .versions import loses_assignments
 from .warnings import shown

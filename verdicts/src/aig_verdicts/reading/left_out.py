@@ -7,7 +7,7 @@ import re
 from typing import Any, Collection, Dict, Iterator, List, Mapping, Sequence, Set, Tuple
 
 from .text.rtlil import Item, Module, Text, bits, has_mark, signals
-from .sources import places as shown
+from ..listing import places as shown
 from aig.tools import ToolFailed
 
 _NAME = re.compile(r"[\\$][^ ]+")

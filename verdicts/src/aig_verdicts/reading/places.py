@@ -6,7 +6,7 @@ import re
 from typing import Callable, Iterable, Iterator, List, NamedTuple, Sequence
 
 from .misread.rules import first_misread
-from .sources import places
+from ..listing import places
 from .text.tree import Node, nodes
 
 _HAS_PLACE = re.compile(r"\S+:[1-9]\d*: ")

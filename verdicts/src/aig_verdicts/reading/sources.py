@@ -9,6 +9,8 @@ from typing import Dict, Iterator, List, Mapping, Match, Optional, Pattern, Sequ
 
 from aig.tools import ToolFailed
 
+from ..listing import places
+
 # Comments and texts come first, so that nothing inside of them is a directive.
 _PARTS = re.compile(
     r'//[^\n]*|/\*(?:[^*]|\*(?!/))*(?:\*/)?|(?P<before>`include\s*|\$readmem[bh]\s*\(\s*)"(?P<name>[^"\n]+)"|"(?:\\.|[^"\\])*"',
@@ -18,6 +20,7 @@ _QUIET = re.compile(r'//[^\n]*|/\*(?:[^*]|\*(?!/))*(?:\*/)?|"(?:\\.|[^"\\\n])*"'
 _CHECK = re.compile(r"(?<!`)\b(?:assert|cover)\b")
 _MACRO = re.compile(r"`define[ \t]+(\w+)((?:\\\r?\n|[^\n])*)")
 _USE = re.compile(r"`(\w+)")
+_BODY = re.compile(r"\b(?:macro)?module\s+(?:automatic\s+|static\s+)?(\w+|\\\S+)[\s\S]*?\bendmodule\b")
 # A delay comes after these; after a name `#` has parameters.
 _DELAY = re.compile(r"(?:[;=)\]:]|\b(?:begin|end|else|always|initial|assign|wire|and|or|not|buf|nand|nor|xor|xnor)\b)\s*#(?!\s*\(\s*parameter\b)\s*[\w`(.]")
 _LIST = re.compile(r"\balways\s*@\s*(?:\((?![^;]*?\b(?:posedge|negedge)\b)\s*[^*\s][^;]*?\)|\w)")
@@ -28,12 +31,6 @@ NEWLINE = "\n"
 def plain_name(name: str) -> str:
     """A file name that is one word of Yosys' language, and neither hidden nor an option."""
     return re.sub(r"[^A-Za-z0-9._-]|^[.-]", "_", name) or "_"
-
-
-def places(found: Sequence[str]) -> str:
-    """The places, the first ones of many."""
-    each = sorted(set(found), key=lambda place: re.sub(r"\d+$", lambda it: it[0].zfill(9), place))
-    return ", ".join(each[:5]) + (f" and {len(each) - 5} more" if len(each) > 5 else "")
 
 
 def _plain(text: bytes) -> str:
@@ -134,6 +131,15 @@ class Sources:
             for number, line in enumerate(_MACRO.sub(lambda it: "\n" * it[0].count("\n"), text).split("\n"), 1):
                 for _ in range(_checks_in(line, macros)):
                     yield name, number
+
+    def modules_at(self, file: str, line: int) -> Set[str]:
+        """The names of the modules that have words on a line."""
+        text, found = _plain(self.texts[file]), set()
+        for it in _BODY.finditer(text):
+            first = text.count(NEWLINE, 0, it.start()) + 1
+            if first <= line <= first + it[0].count(NEWLINE):
+                found.add(it[1].lstrip(chr(92)))
+        return found
 
     def places(self, pattern: Pattern[str]) -> List[str]:
         """Where a pattern is in the sources, but for comments and texts."""

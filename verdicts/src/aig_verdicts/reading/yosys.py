@@ -17,7 +17,7 @@ from .misread.rules import own_warnings
 from .places import with_place
 from .registers import with_even_lines
 from .script import DIRECTED, FREED, reading
-from .sources import places
+from ..listing import places
 from aig.tools import Limits, Stop, ToolFailed, run, version
 from .warnings import differing
 from .wiring import driven_inouts, free_z, has_loop, has_z, loops

@@ -8,6 +8,7 @@ from __future__ import annotations
 import re
 from typing import List, NamedTuple, Optional, Tuple
 
+from .structs import Structs
 from .words import MUTE, NotReplayed, Words
 
 CHECKS = ("assert", "assume", "cover", "restrict")
@@ -20,6 +21,8 @@ _KIND = r"\b(?:input|output|inout|reg|wire|logic|integer)\b"
 _DECLARED = (r"\b(input|output|inout|reg|wire|logic|integer)\b(?:\s+(?:reg|wire|logic)\b)?\s*(signed\b)?\s*"
              rf"((?:\[[^\]]*\])*)\s*(?:(?:(?!{_KIND})[^;()])*?,\s*)?")
 _OF_ONE_BIT = re.compile(r"&&|\|\||[=!]==?|[<>]=?(?![<>])|^\s*!")
+# A signal, or a part of a struct.
+_OF_TYPE = re.compile(r"[A-Za-z_]\w*(?:\.[A-Za-z_]\w*)*")
 _PROCEDURES = ("always", "always_ff", "always_comb", "always_latch", "initial", "final")
 
 
@@ -57,6 +60,7 @@ class Adapted(Words):
         self._head = 0  # where the procedure begins
         self._block_kind = "module"
         self._pasts = self.steps = 0
+        self._structs = Structs(source)
         self.checks: List[Check] = []
         self._walk()
         self.text = self._edited()
@@ -244,6 +248,9 @@ class Adapted(Words):
         if match and match[3]:
             return f"[({match[3]})-({match[4]}):0]"
         begin = max(self._source.rfind("module ", 0, self._head), 0)
+        of_type = self._structs.width(text, begin, self._head) if _OF_TYPE.fullmatch(text) else None
+        if of_type is not None:
+            return of_type.declared
         declared = match and re.search(rf"{_DECLARED}\b{match[1]}\b\s*(\[)?", self._source[begin:])
         if not match or not declared:
             raise self._not_replayed(i, f"the width of `{text}`")

@@ -29,12 +29,15 @@ def replay(words: argparse.Namespace, stop: Stop) -> int:
     if not bundle.manifest["sources"]:
         raise ToolFailed("the bundle has no sources")
     rows = _chosen(bundle.rows, words.only)
-    simulator, name = Simulator(words.simulator, stop), Path(words.simulator).name
+    simulator = Simulator(words.simulator, stop)
     try:
         playing = Replay(bundle, simulator, stop, words.hold)
     except NotReplayed as error:
         print(plain(f"not replayed: {error}"))
         return Word.NOT_REPLAYED.status
+    name = Path(words.simulator).name if playing.name == simulator.name else playing.name
+    if playing.limits:
+        print(plain(playing.limits), file=sys.stderr)
     if playing.translated:
         print(plain(f"concurrent assertions are played as they were translated: {', '.join(playing.translated)}"))
     if words.to:
@@ -52,7 +55,7 @@ def replay(words: argparse.Namespace, stop: Stop) -> int:
         for signal in playing.left_out:
             print(plain(f"not compared: {signal}"))
     left = f"; {len(playing.left_out)} signals were not compared" if playing.left_out else ""
-    print(f"{len(outcomes)} runs in {simulator.name}{left}", file=sys.stderr)
+    print(f"{len(outcomes)} runs in {playing.name}{left}", file=sys.stderr)
     return max((it.word.status for it in outcomes), default=OPEN)
 
 

@@ -29,6 +29,11 @@ class Word(Enum):
     def rank(self) -> int:
         return list(Word).index(self)
 
+    @property
+    def weight(self) -> int:
+        """How much it counts among several runs: a run that disagrees counts most."""
+        return self.rank if self is not Word.DISAGREES else len(Word)
+
 
 class Outcome(NamedTuple):
     """What became of a run, how much was compared, and how many values were x in the simulation.
@@ -52,11 +57,25 @@ class Outcome(NamedTuple):
         begin: str = self.word.value
         return begin.format(simulator) + "; ".join(part for part in (self.why, named(self.differences)) if part)
 
+    @property
+    def is_against(self) -> bool:
+        """Whether the simulation has other values than the circuit, whatever becomes of the row itself."""
+        return self.word in (Word.BY_OTHER_VALUES, Word.DISAGREES) and bool(self.differences)
+
     def said_of_random(self, simulator: str) -> str:
         if self.word is not Word.AGREES:
             return self.said(simulator)
         return (f"as in {simulator}: {self.signals} signals, {self.asserted} assertions, {self.values} values"
                 f"{unknown_there(self.unknown)}")
+
+
+def worst(outcomes: Sequence[Outcome]) -> Outcome:
+    """The outcome of several runs that all show the same row: the worst one, with what differs in any of them."""
+    found = max(outcomes, key=lambda it: it.word.weight)
+    against = [it for it in outcomes if it.is_against]
+    if against and not found.is_against:
+        return next(iter(against))
+    return found
 
 
 def unknown_there(count: int) -> str:

@@ -3,16 +3,18 @@ that way."""
 
 from __future__ import annotations
 
+import random
 import re
 import shlex
 from dataclasses import replace
 from itertools import product
 from pathlib import Path
-from typing import Dict, Iterator, List, Optional, Sequence, Set
+from typing import Callable, Dict, Iterator, List, Optional, Sequence, Set
 
 from aig.circuit import Circuit
 from ..reading.assertions import copies, given_values
 from ..audit.bundle import Bundle
+from aig.waves.concrete import has_free
 from ..audit.folder import write_whole
 from ..audit.properties import modules_and_signals
 from ..audit.manifest import SCRIPT_OF_YOSYS
@@ -27,14 +29,15 @@ from .boxes import below, without_bodies
 from .compared import ALWAYS, Comparison, Difference, Property, assumptions, properties
 from .log import Log
 from .older import timing_of_older
-from .outcome import Outcome, Word
+from .outcome import Outcome, Word, worst
 from .places import Places
 from .sides import Sides, Source
-from .signals import COLUMNS, Frame, named
+from .signals import COLUMNS, Frame, is_x, named
 from .simulator import Rejected, Simulator
 from .stimulus import Dice, Hold, of_witness, with_other_start
 from .testbench import Player, Playing, given_in
-from .words import NotReplayed
+from .verilator import beside
+from .words import NotReplayed, Unreadable
 
 # What `$past` is before the first frame of a witness: x, then other values, as any is right.
 PASTS = ("'bx", "0", "-1")
@@ -79,8 +82,42 @@ class Replay:
         self._properties = properties(bundle.rows, self._checks)
         constraints = [it.name for it in self._circuit.entries if it.letter == "c"]
         self._assumptions = assumptions(constraints, self._checks) if all(constraints) else []
-        self._sides = Sides(self._circuit, self._source, self._timing, simulator)
         self._steps = adapted.steps
+        self._sides = self._sides_of(simulator)
+
+    def _sides_of(self, simulator: Simulator) -> Sides:
+        """Both sides in this simulator, or in Verilator where this one cannot read the sources."""
+        try:
+            return Sides(self._circuit, self._source, self._timing, simulator)
+        except Unreadable as error:
+            other = beside(simulator, error)
+            if other is None:
+                raise
+            first = error
+        self._source = replace(self._source, has_older_words=False)
+        try:
+            other.look_at(self._source.text, self._has_x)
+            sides = Sides(self._circuit, self._source, self._timing, other)
+        except NotReplayed as error:
+            raise NotReplayed(f"{first}; {other.name} cannot play it either: {error}") from None
+        self._simulator = other
+        return sides
+
+    @property
+    def _has_x(self) -> bool:
+        """Whether some x of the sources is a free input of the circuit."""
+        own = {*self._source.inputs, *self._source.both}
+        return any(it.letter == "i" and is_x(it.name) and it.name not in own for it in self._circuit.entries)
+
+    @property
+    def name(self) -> str:
+        """The simulator that plays."""
+        return self._simulator.name
+
+    @property
+    def limits(self) -> str:
+        """What it does not tell of the design."""
+        return self._simulator.limits
 
     def _translated(self, sources: Dict[str, str], names: Sequence[str]) -> Dict[str, str]:
         """The copies of sources with concurrent assertions, which the simulator does not read. Those in the bundle could be
@@ -121,7 +158,7 @@ class Replay:
         player = self._sides.player
         freed = {at for it in player.free if it.path in self._freed for at in it.columns}
         asked = [*(it for it in player.free if not freed & set(it.columns)), *player.constants]
-        if not asked:
+        if not asked or not self._simulator.has_x:
             return
         alone = replace(player, free=[], constants=[], shown=asked)
         try:
@@ -135,13 +172,21 @@ class Replay:
                 yield Difference(ALWAYS, signal.path, "has a value in the sources", "is free")
 
     def row(self, row: Row, to: Optional[Path] = None) -> Outcome:
-        """Plays the run of a row that fails or is reached, and writes its testbench."""
-        try:
-            run = of_witness(self._circuit, self._bundle.summed(row.files["witness"]), self._stop)
-        except NotReplayed as error:
-            return Outcome(Word.NOT_REPLAYED, str(error))
+        """Plays the run of a row that fails or is reached, and writes its testbench. What the run leaves open may have any
+        value, so it is played with several: 0, 1 and random ones. The worst outcome counts."""
+        witness = self._bundle.summed(row.files["witness"])
         known = next(it for it in self._properties if row.position in [other.position for other in it.rows])
-        return self._best(run, [*PASTS, *self._pasts_of(run[0])], known, to and to / f"{row.position}.tb.v")
+        dice = random.Random(f"{self._seed} {row.position}")
+        values: Sequence[Callable[[], str]] = (lambda: "0", lambda: "1", lambda: dice.choice("01"))
+        outcomes: List[Outcome] = []
+        for value in values if has_free(witness) else values[:1]:
+            try:
+                run = of_witness(self._circuit, witness, self._stop, value)
+            except NotReplayed as error:
+                return Outcome(Word.NOT_REPLAYED, str(error))
+            bench = to and to / f"{row.position}.tb.v" if not outcomes else None
+            outcomes.append(self._best(run, [*PASTS, *self._pasts_of(run[0])], known, bench))
+        return worst(outcomes)
 
     def _pasts_of(self, frame: Frame) -> List[str]:
         """The values that registers of `$past` have where a run begins."""
@@ -208,7 +253,7 @@ class Replay:
         macros = " ".join(shlex.quote(f"-D{it}") for it in defines)
         numbers = ", ".join(f"`aig value {it} {known.wrong} ..`" for it in sorted(known.numbers))
         return [f"The run of {plain(row.name)} ({row.file}:{row.last}). Play it with",
-                f"  iverilog -g2012 {macros} -s aig_tb -o aig.vvp {to.name} && vvp -n aig.vvp",
+                f"  {self._simulator.command(macros, to.name)}",
                 f"It {'happens' if row.kind == 'cover' else 'fails'} in frame {frames - 1}: {numbers} before "
                 f"`aig frame {frames - 1}`. The design follows the testbench.", ""]
 

@@ -4,16 +4,15 @@ from __future__ import annotations
 
 import os
 from concurrent.futures import ThreadPoolExecutor
-from typing import List, NamedTuple, Optional, Sequence
+from typing import Dict, List, NamedTuple, Sequence, Union
 
 from ..audit.bundle import Bundle
 from ..audit.row import Row
-from ..audit.sentences import DISAGREES, counted, happens
-from ..audit.simulated import AGREES, AS_IN, Said, Simulated
-from ..reading.sources import places
+from ..audit.sentences import DISAGREES, happens
+from ..audit.simulated import AGREES, AsIn, Said, Simulated
 from aig.tools import Clock, Stop
 from .words import NotReplayed
-from .outcome import Outcome, Word, named, unknown_there
+from .outcome import Outcome, Word, named
 from .replay import Replay
 from .simulator import Simulator
 
@@ -36,24 +35,36 @@ def simulated(bundle: Bundle, rows: Sequence[Row], program: str, bounds: Bounds,
     try:
         replay = Replay(bundle, simulator, stop, seed=bounds.seed)
     except NotReplayed as error:
-        return Simulated(simulator.name, f"{simulator.name} cannot play the design: {error}")
-    outcomes = _random(replay, max(LEAST_SECONDS, PART * bounds.search_seconds))
-    against = next((it for it in outcomes if it.word is Word.DISAGREES), None)
+        return _silent(simulator.name, f"{simulator.name} cannot play the design: {error}")
+    name, outcomes = replay.name, _random(replay, max(LEAST_SECONDS, PART * bounds.search_seconds))
     played = [row for row in rows if row.by == "run" and row.kind in ("assert", "cover")]
     with ThreadPoolExecutor(bounds.jobs or os.cpu_count() or 1) as pool:
-        outcomes_of_rows = list(zip(played, pool.map(replay.row, played)))
-        if against is None:
-            against = next((told for _, told in outcomes_of_rows if told.word is Word.BY_OTHER_VALUES and told.differences), None)
-        said = {row.position: _said(told, row, simulator.name) for row, told in outcomes_of_rows}
+        of_rows = list(zip(played, pool.map(replay.row, played)))
+    said = {row.position: _said(told, row, name) for row, told in of_rows}
+    against = next((it for it in [*outcomes, *(told for _, told in of_rows)] if it.is_against), None)
     if against is not None:
         for row in rows:
             differences = [it for it in against.differences if it.name == row.name and it.file == row.file]
-            if differences and row.position not in said:
-                said[row.position] = Said(DISAGREES, f"{simulator.name}: {named(differences)}")
-    circuit = _of_circuit(outcomes, against, simulator.name, replay)
-    seed = f" (seed {bounds.seed})" if bounds.seed else ""
-    made = Simulated(simulator.name, f"{circuit}{seed}", None, said)
-    return made._replace(agrees=False if against is not None else made.is_compared or None)
+            if differences and (row.position not in said or said[row.position].word != DISAGREES):
+                said[row.position] = Said(DISAGREES, f"{name}: {named(differences)}")
+        return Simulated(name, f"{name} disagrees with the circuit: {named(against.differences)}{_seed(bounds)}", False, said)
+    denied = next(((row, told) for row, told in of_rows if told.word is Word.DISAGREES), None)
+    if denied is not None:
+        return Simulated(name, f"{name} disagrees with the circuit: {denied[0].name}: {denied[1].why}{_seed(bounds)}", False, said)
+    unplayed = sum(told.word is Word.NOT_REPLAYED for _, told in of_rows)
+    as_in = _as_in(outcomes, replay, bounds.seed, unplayed)
+    if isinstance(as_in, str):
+        return _silent(name, as_in, said)
+    return Simulated(name, as_in.said, True, said, as_in)
+
+
+def _silent(name: str, why: str, said: Dict[int, Said] = {}) -> Simulated:
+    """A simulator that says nothing of the circuit."""
+    return Simulated(name, why, None, said, why=why)
+
+
+def _seed(bounds: Bounds) -> str:
+    return f" (seed {bounds.seed})" if bounds.seed else ""
 
 
 def _random(replay: Replay, seconds: float) -> List[Outcome]:
@@ -66,29 +77,19 @@ def _random(replay: Replay, seconds: float) -> List[Outcome]:
     return outcomes
 
 
-def _of_circuit(outcomes: Sequence[Outcome], against: Optional[Outcome], name: str, replay: Replay) -> str:
-    if against is not None:
-        return f"{name} disagrees with the circuit: {named(against.differences)}"
-    played = [it for it in outcomes if it.word is Word.AGREES]
-    played = played[:LEAST_RUNS]  # how many more there are depends on the time
-    if not played:
-        return f"{name} did not play a random run: {outcomes[-1].why}"
+def _as_in(outcomes: Sequence[Outcome], replay: Replay, seed: int, unplayed: int) -> Union[AsIn, str]:
+    """What was compared in random runs, or why nothing was. How many more runs there are depends on the time."""
+    played = outcomes[:LEAST_RUNS]
+    silent = next((it for it in played if it.word is not Word.AGREES), None)
+    if silent is not None:
+        return f"{replay.name} did not play a random run: {silent.why}"
     values = sum(it.values for it in played)
     if not values:
-        return f"Nothing of the circuit could be compared in {name}"
-    unknown = unknown_there(sum(it.unknown for it in played))
-    translated = "; concurrent assertions as they were translated" if replay.translated else ""
-    return (f"{max(it.signals for it in played):,} signals, {values:,} values{AS_IN}{name}{unknown}"
-            f"{_left(played, replay)}{translated}")
-
-
-def _left(played: Sequence[Outcome], replay: Replay) -> str:
-    """What is not compared, and assertions of the sources that the circuit perhaps does not have."""
-    unseen = replay.asserted - {name for it in played for name in it.seen}
-    counts = {"signal": len(replay.left_out), "assertion": len(unseen)}
-    left = ", ".join(counted(f"{count:,}" if count > 1 else count, name) for name, count in counts.items() if count)
+        return f"Nothing of the circuit could be compared in {replay.name}"
+    unasked = replay.asserted - {name for it in played for name in it.seen}
     rowless = sorted({place for it in played for place in it.without_row})
-    return (f"; not compared: {left}" if left else "") + (f"; no row is about {places(rowless)}" if rowless else "")
+    return AsIn(replay.name, max(it.signals for it in played), values, sum(it.unknown for it in played), len(replay.left_out),
+                len(unasked), tuple(rowless), unplayed, bool(replay.translated), seed, replay.limits)
 
 
 def _said(told: Outcome, row: Row, name: str) -> Said:

@@ -13,7 +13,7 @@ from .signals import Named, Shape, Signal, is_given, named
 from .simulator import Rejected, Simulator
 from .stimulus import Latches, latches_of
 from .testbench import TIMESCALE_OF_DESIGN, Player, asking, has_line_of, shapes
-from .words import NotReplayed
+from .words import NotReplayed, Unreadable
 
 # How often signals that the simulator does not know are left out.
 MOST_PROBES = 60
@@ -143,6 +143,8 @@ class Sides:
     def _start(self, at: int) -> str:
         if at < 0:
             return "?"
+        if self.latches.is_open(at) and not self.simulator.has_x:
+            return "?"
         return "x" if self.latches.is_open(at) else self.latches.resets[at]
 
     def _is_constant(self, it: Signal) -> bool:
@@ -176,11 +178,11 @@ class Sides:
                 unknown = [it for it in names if any(has_line_of(it, line) for line in wrong)]
                 lost = {it.path for it in ports} & set(error.no_ports)
                 if not unknown and not lost:
-                    raise NotReplayed(f"{self.simulator.program}: {error}") from None
+                    raise Unreadable(f"{self.simulator.program}: {error}") from None
                 ports = [it for it in ports if it.path not in lost]
                 names = [it for it in names if it not in unknown]
                 names += [bit for it in unknown for bit in it.bits() if not it.text.endswith("]")]
-        raise NotReplayed(f"{self.simulator.program} does not know the signals of the circuit")
+        raise Unreadable(f"{self.simulator.program} does not know the signals of the circuit")
 
 
 def _before(path: str) -> List[str]:

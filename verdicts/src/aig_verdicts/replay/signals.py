@@ -15,6 +15,7 @@ ALONE = 1 << 40
 # Names that aig-verdicts gives to what has none in the sources. A source may have such a name, too.
 _GIVEN = re.compile(r"(?:.*\.)?(?:past|(?:value|when)(?:_assumed)?|x)(?:_\d+)+(?:_next)?|.*_(?:before|kept)(?:_\d+)?|x(?:_next)?")
 _WORD = re.compile(r".*\[-?\d+\]")
+_X = re.compile(r"(?:.*\.)?x(?:_\d+)*(?:_next)?(?:\[\d+\])?")
 # The columns of a line of `aig check --trace --properties`.
 COLUMNS = "lionbc"
 
@@ -125,6 +126,11 @@ class Named(NamedTuple):
 
 def is_given(path: str) -> bool:
     return _GIVEN.fullmatch(path) is not None
+
+
+def is_x(name: str) -> bool:
+    """Whether an input of a circuit is perhaps an x of the sources."""
+    return _X.fullmatch(name) is not None
 
 
 def named(entries: Iterable[Entry], escaped: AbstractSet[str] = frozenset()) -> List[Named]:

@@ -8,15 +8,18 @@ import tempfile
 from dataclasses import dataclass, field
 from functools import cached_property
 from pathlib import Path
-from typing import Dict, Sequence
+from typing import ClassVar, Dict, Sequence
 
 from aig.tools import Limits, Ran, Stop, found, run
-from .words import NotReplayed
+from .words import BENCH as BENCH_MODULE
+from .words import NotReplayed, Unreadable
 from .lines import numbered
 
 # How long a simulator may take, by the processor and by the clock, and how much it may write.
 SECONDS, MOST_SECONDS, MEGABYTES = 60, 1200.0, 256
 ENDLESS = f"a simulation takes over {SECONDS} s of processor time, or writes over {MEGABYTES} MB"
+# How long sources may be once their macros are there.
+MOST_TEXT = 1 << 24
 BENCH, BEGIN = "aig_tb.v", "aig.begin.v"
 # Icarus Verilog reads the same text as others: it does not have a macro that says which program reads it.
 _AS_OTHERS = "`undef __ICARUS__\n"
@@ -61,6 +64,7 @@ class Simulator:
     stop: Stop
     data: Dict[str, bytes] = field(default_factory=dict)
     is_endless: bool = False
+    has_x: ClassVar[bool] = True
 
     def __post_init__(self) -> None:
         beside = Path(found(self.program)).with_name("vvp")
@@ -73,6 +77,15 @@ class Simulator:
             ran = run([self.program, "-V"], Path(name), Limits(MOST_SECONDS, processor_seconds=SECONDS), self.stop)
         words = re.match(r"Icarus Verilog version ([\w.]+)", ran.out.decode("utf-8", "replace"))
         return f"Icarus Verilog {words[1]}" if words else Path(self.program).name
+
+    @property
+    def limits(self) -> str:
+        """What it does not tell of a design, in words."""
+        return ""
+
+    def command(self, macros: str, name: str) -> str:
+        """What plays a testbench that is in a file."""
+        return f"iverilog -g2012 {macros} -s {BENCH_MODULE} -o aig.vvp {name} && vvp -n aig.vvp"
 
     def preprocessed(self, sources: Dict[str, str], names: Sequence[str], defines: Sequence[str]) -> str:
         """The sources of these names, one after the other, after the simulator's own preprocessor."""
@@ -89,6 +102,8 @@ class Simulator:
             made = folder / "aig.pre.v"
             if not made.exists():
                 raise NotReplayed(f"{self.program} writes nothing")
+            if made.stat().st_size > MOST_TEXT:
+                raise NotReplayed(f"its sources have over {MOST_TEXT >> 20} MB after the preprocessor")
             return made.read_text(encoding="latin-1")
 
     def _ran(self, words: Sequence[str], folder: Path) -> Ran:
@@ -114,7 +129,7 @@ class Simulator:
                 raise Rejected((made.err + made.out).decode("utf-8", "replace"))
             ran = self._ran([self._vvp, "-n", "aig.vvp"], folder)
         if ran.status != 0:
-            raise NotReplayed(f"vvp: {ran.said[-200:]}")
+            raise (Unreadable if (ran.status or 0) < 0 else NotReplayed)(f"vvp: {ran.said[-200:]}")
         return ran.out.decode("latin-1")
 
 

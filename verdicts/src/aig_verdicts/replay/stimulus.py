@@ -3,8 +3,9 @@
 from __future__ import annotations
 
 import random
+import re
 from dataclasses import dataclass
-from typing import Collection, Dict, List, NamedTuple, Sequence, Tuple
+from typing import Callable, Collection, Dict, List, NamedTuple, Sequence, Tuple
 
 from aig.circuit import Circuit
 from ..audit.checked import CONFIRMED
@@ -52,13 +53,13 @@ def latches_of(circuit: Circuit) -> Latches:
     return Latches([it[0] for it in words], [it[1] for it in words], [it[2] for it in words])
 
 
-def of_witness(circuit: Circuit, witness: bytes, stop: Stop) -> List[Frame]:
-    """The run of a witness. What it leaves open is 0."""
+def of_witness(circuit: Circuit, witness: bytes, stop: Stop, value: Callable[[], str] = lambda: "0") -> List[Frame]:
+    """The run of a witness. What it leaves open has these values."""
     first, second, *rest = witness.split(b"\n")
-    text = b"\n".join([first, second, *(line.replace(b"x", b"0") for line in rest)])
+    text = b"\n".join([first, second, *(re.sub(b"x", lambda _: value().encode(), line) for line in rest)])
     frames, verdict = _played(circuit, text, stop)
     if verdict != CONFIRMED:
-        raise NotReplayed("the witness is none once its open values are 0")
+        raise NotReplayed("the witness is none once its open values are given")
     return frames
 
 

@@ -30,6 +30,15 @@ class NotReplayed(Exception):
     """Why a simulator cannot play a run."""
 
 
+class Unreadable(NotReplayed):
+    """That a simulator cannot read the sources: another one perhaps can."""
+
+
+def without_comments(text: str) -> str:
+    """A source with spaces in place of its comments, which some simulators take orders from. No line moves."""
+    return _TOKEN.sub(lambda it: re.sub(r"[^\n]", " ", it[0]) if it[0].startswith(("//", "/*")) else it[0], text)
+
+
 class _Token(NamedTuple):
     text: str
     start: int
@@ -85,6 +94,8 @@ class Words:
         is_call = text.startswith("$") and not _KNOWN.fullmatch(text) and not MUTE.fullmatch(text)
         if is_directive or is_call or text.lstrip("\\") == BENCH:
             raise self._not_replayed(i, f"`{text}`" if text[0] != "`" else text)
+        if text in ("import", "export") and self._text(i + 1).startswith('"'):
+            raise self._not_replayed(i, f"`{text}` of a function of another language")
         if text.startswith("$readmem") and not _is_data(self._text(i + 2)):
             raise self._not_replayed(i, f"`{text}` of a file that is not in the bundle")
 

@@ -40,7 +40,7 @@ def design_of(bundle: Bundle) -> Design:
     script = bundle.summed(SCRIPT_OF_YOSYS).decode("utf-8", "replace") if sources else ""
     timing = timing_of(manifest["timing"]) if manifest["timing"] else None
     return Design(manifest["name"], bundle.circuit(), [_assertion(row) for row in bundle.rows[1:]], manifest["notes"],
-                  sources, translated, script, manifest["options"], timing)
+                  sources, translated, script, manifest["options"], timing, unread=bundle.unread)
 
 
 def _assertion(row: Row) -> Assertion:

@@ -19,7 +19,7 @@ from ..audit.bundle import MOST_BYTES, Bundle
 from ..audit.checked import ALIVE, CIRCUIT, CONSTRAINTS, WAYS, Checked, Claim, Rejected, Wrong, sum_of
 from .task import ENGINES, Bounds, Found, Hint, Narrow, Programs, Task
 from ..reading.design import Design
-from ..audit.decisions import Asked
+from ..audit.decisions import LEAST_KEPT, Asked
 from ..audit.folder import TIMES, Folder
 from ..audit.hints import by_name
 from ..audit import needed
@@ -30,7 +30,9 @@ from ..audit.recheck import check_claim, meant
 from ..audit.simulated import Simulated
 from ..audit.row import ENDINGS, Row
 from .search import LAST_SECONDS, NUMBER
+from ..audit.table import Table
 from aig.tools import GRACE, Clock, Stop, Stopped, soon, version
+from ..audit.unread import of_circuit
 from .workers import NO_WORKER, Work, Workers, check_all, result_of, taken
 
 # The manifest is written while rows come in, as long as that takes less than this part of the time.
@@ -82,12 +84,6 @@ class Session:
         self._was_stopped = False  # some search
         self._written = Clock()
         self._cost = 0.0
-
-    @property
-    def asked(self) -> int:
-        """How many assertions and covers the run was asked for."""
-        chosen = [it for it in self.design.assertions if self.only is None or it.position in self.only]
-        return sum(it.kind in ("assert", "cover") for it in chosen)
 
     def close(self) -> None:
         self.folder.close()
@@ -146,8 +142,8 @@ class Session:
             return {key: value for key, value in versions.items() if key != "drat2lrat"}
 
         try:
-            same_programs = searching(manifest["versions"]) == searching(self.versions)
-            return same_programs and self.bounds.within(Bounds(**manifest["bounds"]))
+            is_same = searching(manifest["versions"]) == searching(self.versions)
+            return is_same and self.bounds.within(Bounds(**manifest["bounds"]))
         except TypeError:  # other bounds
             return False
 
@@ -182,9 +178,8 @@ class Session:
         self.stop.look()
 
     def _again(self, earlier: Tuple[Row, Claim, List[str]]) -> Union[Checked, str]:
-        """The check of what an earlier run claims, or what is wrong with it: an empty text, if a proof is about a
-        formula of an older `aig`. The files of a claim that is right get their sums, and its proofs get hints where
-        they are asked for."""
+        """The check of what an earlier run claims, or what is wrong with it: an empty text, if a proof is about a formula of
+        an older `aig`. The files of a right claim get their sums, and its proofs get hints where these are asked for."""
         _, claim, notes = earlier
         try:
             files = {role: self.folder.read(claim.files[role]) for role in ENDINGS if role in claim.files}
@@ -214,12 +209,13 @@ class Session:
         return hinted.checked
 
     def manifest(self) -> Dict[str, Any]:
-        translated = {"translated": list(self.design.translated)} if self.design.translated else {}
+        unread = [it.facts() for it in [*of_circuit(self.design.circuit), *self.design.unread]]
+        parts = {"translated": list(self.design.translated), "unread": unread}
         return {
-            **translated,
+            **{name: value for name, value in parts.items() if value},
             "format": format_of(self.rows), "name": self.design.name, "notes": self.design.notes,
-            "bounds": asdict(self.bounds),
-            "options": self.design.options, "sources": list(self.design.sources), "rows": rows_as_json(self.rows),
+            "bounds": asdict(self.bounds), "options": self.design.options,
+            "sources": list(self.design.sources), "rows": rows_as_json(self.rows),
             "versions": self.versions, "sums": self.folder.sums,
             "timing": self.design.timing.facts() if self.design.timing else {}, "simulated": self.simulated.facts(),
         }
@@ -310,15 +306,15 @@ class Session:
         return self._work([(row, self._task(row)) for row in self.waiting()], self.take, work)
 
     @property
-    def asked_of(self) -> Asked:
-        """What was asked of the design."""
-        has_conditions = self.design.options.get("conditions") is not False
-        return Asked(self.bounds.frames, has_conditions, len(self.design.assertions))
+    def table(self) -> Table:
+        """What all rows mean."""
+        asked = Asked(self.bounds.frames, self.design.options.get("conditions") is not False)
+        return Table.of(self.rows, self.design.circuit, asked, self.design.unread, self.simulated)
 
     def _frames(self, row: Row) -> int:
         """How far the search for a row goes. Assumptions have to be kept as long as the longest search goes."""
         if row.position == CONSTRAINTS:
-            return max([self.bounds.frames, *self.depths.values()])
+            return max([LEAST_KEPT, self.bounds.frames, *self.depths.values()])
         return self.depths.get(row.position, self.bounds.frames)
 
     def _task(self, row: Row) -> Task:

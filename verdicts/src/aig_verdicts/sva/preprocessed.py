@@ -16,6 +16,9 @@ _IGNORED = {
 }
 _DEPTH_OF_FILES, _DEPTH_OF_MACROS = 20, 30
 _MOST_WORDS = 2_000_000
+# How many words one use of a macro may mean, and how much work all uses may be: words and letters of texts that are read. Macros
+# that use each other twice would double both with each line.
+_MOST_OF_A_USE, _MOST_WORK = 20_000, 5_000_000
 
 
 @dataclass
@@ -44,7 +47,7 @@ class Preprocessed:
         self.words: List[Word] = []
         self._texts = texts
         self._macros: Dict[str, Macro] = {name: Macro(None, "1") for name in _ALWAYS}
-        self._uses = 0
+        self._uses = self._work = 0
         for it in defines:
             name, _, value = it.partition("=")
             self._macros[name] = Macro(None, value)
@@ -143,6 +146,7 @@ class Preprocessed:
             at, given = _arguments(words, at, first)
             end = words[at - 1].end
             body = _with_arguments(macro, given, first)
+        self._works(first, len(body))
         inner, found, k = words_of(body.replace('`"', '"'), first.file), [], 0
         while k < len(inner):
             if inner[k].kind is Kind.DIRECTIVE and inner[k].text[1:] in self._macros:
@@ -151,10 +155,19 @@ class Preprocessed:
             else:
                 found.append(inner[k])
                 k += 1
-            if len(found) > _MOST_WORDS:
-                raise Rejected(first, f"a macro of more than {_MOST_WORDS:,} words")
+            if len(found) > _MOST_OF_A_USE:
+                raise Rejected(first, f"a macro of more than {_MOST_OF_A_USE:,} words")
+        self._works(first, len(found))
+        if depth:  # the outer use gives all words its place
+            return at, found
         place = {"line": first.line, "start": first.start, "end": end, "use": self._uses}
         return at, [replace(it, file=first.file, **place) for it in found]
+
+    def _works(self, first: Word, count: int) -> None:
+        """Counts the work of macros."""
+        self._work += count
+        if self._work > _MOST_WORK:
+            raise Rejected(first, "macros that mean too much text in all")
 
 
 def _arguments(words: List[Word], at: int, first: Word) -> Tuple[int, List[List[Word]]]:

@@ -8,7 +8,7 @@ from typing import List, Optional
 from .edits import Edit
 from .expressions import HISTORY
 from .model import KINDS, Module
-from .words import INFIX, PREFIX, Rejected, Word, closing, has_any, text_of
+from .words import EVENTUALLY, INFIX, PREFIX, Rejected, Word, closing, has_any, text_of
 
 _LOOPS = frozenset({"for", "while", "repeat", "foreach", "forever", "do", "fork"})
 _CLOCKED = ("always", "always_ff")
@@ -21,7 +21,8 @@ def procedural(words: List[Word], begin: int, end: int, module: Optional[Module]
         if words[k].text not in KINDS or words[k + 1].text not in ("property", "sequence"):
             continue
         inner = words[k + 3:closing(words, k + 2)]
-        if not inner or inner[0].text not in ("@", "disable") and not _is_temporal(inner, module):
+        rest = inner[1:] if inner and inner[0].text in EVENTUALLY else inner
+        if not rest or inner[0].text not in ("@", "disable") and not _is_temporal(rest, module):
             continue  # Yosys reads it
         edits += _own_clock(words, begin, end, k, module)
     return edits

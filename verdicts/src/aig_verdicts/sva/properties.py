@@ -13,7 +13,7 @@ from .known import Known, Value
 from .model import Clock, Module, Named, clock_of
 from .sequences import MOST_DEPTH, SequenceReader
 from .terms import Term
-from .words import LIVE, OTHER, Rejected, Word, closing, has_any, stripped
+from .words import LIVE, OTHER, Live, Rejected, Word, closing, has_any, stripped
 
 _LIVENESS = "asks for liveness"
 _ARROWS = ("|->", "|=>", "#-#", "#=#")
@@ -54,7 +54,7 @@ class PropertyReader(SequenceReader):
 
     def _look(self) -> None:
         if self.text() in LIVE:
-            raise Rejected(self.here(), _LIVENESS)
+            raise Live(self.here(), _LIVENESS)
         if self.text() in OTHER:
             raise Rejected(self.here(), "is not translated")
 
@@ -185,7 +185,7 @@ class PropertyReader(SequenceReader):
     def _bounded(self, term: Term, here: Word) -> Term:
         """A property that is decided within a bound."""
         if not self.terms.is_bounded(term):
-            raise Rejected(here, f"of a property without a bound {_LIVENESS}")
+            raise Live(here, f"of a property without a bound {_LIVENESS}")
         return term
 
     def property_of(self, value: Value) -> Term:

@@ -20,7 +20,7 @@ from .preprocessed import Preprocessed
 from .properties import spec_of
 from .scan import Scanned
 from .terms import TooMany
-from .words import INFIX, PREFIX, Rejected, Word, has_any
+from .words import EVENTUALLY, INFIX, PREFIX, Live, Rejected, Word, has_any
 
 _QUIET = re.compile(r'//[^\n]*|/\*(?:[^*]|\*(?!/))*(?:\*/)?|"(?:\\.|[^"\\\n])*"', re.DOTALL)
 # What Yosys does not read by itself.
@@ -39,11 +39,12 @@ class Untranslated(Exception):
 
 @dataclass
 class Translation:
-    """The copies of the files that differ, and whether some `disable iff` drops attempts, which with several clocks
-    has to be seen between edges."""
+    """The copies of the files that differ, whether some `disable iff` drops attempts, which with several clocks has to be
+    seen between edges, and the file and line of each assertion that is left out, as it asks for liveness."""
 
     texts: Dict[str, str] = field(default_factory=dict)
     has_resets: bool = False
+    left: List[str] = field(default_factory=list)
 
 
 def has_concurrent(texts: Mapping[str, str]) -> bool:
@@ -85,6 +86,7 @@ class _Work:
         self._instantiated: Set[str] = {it.text for before, it in zip(words, words[1:]) if before.text not in (
             "module", "macromodule", "automatic", "static", "bind", ":")}
         self._has_resets = False
+        self._left: List[str] = []
         for module in self._scanned.modules.values():
             self._module(module)
         for target, instance, word in self._scanned.binds:
@@ -95,7 +97,7 @@ class _Work:
             order = {id(it): k for k, it in enumerate(self._words)}
             self._rejected.sort(key=lambda it: order.get(id(it.word), -1))
             raise Untranslated(self._rejected)
-        return Translation(Edited(texts, self._words, self._edits).texts, self._has_resets)
+        return Translation(Edited(texts, self._words, self._edits).texts, self._has_resets, self._left)
 
     def _bind(self, target: str, instance: str, word: Word) -> None:
         module = self._scanned.modules.get(target)
@@ -113,17 +115,31 @@ class _Work:
             try:
                 if not _is_plain(module, item):
                     self._item(module, item, defaults)
+            except Live as error:
+                self._leave_out(item, error)
             except Rejected as error:
                 self._rejected.append(error if error.word else Rejected(item.body[0], error.why))
             except (TooMany, RecursionError):
                 self._rejected.append(said_too_many(item))
 
+    def _leave_out(self, item: Item, error: Live) -> None:
+        """Leaves out an assertion or a cover that asks for liveness: the others go on. An assumption is not dropped."""
+        if item.kind not in ("assert", "cover"):
+            self._rejected.append(error)
+            return
+        self._edits.append(Edit(item.first, item.last, "begin end" if self._is_statement(item) else ""))
+        word = next(it for it in self._words[item.first:] if it.text == item.kind)
+        self._left.append(f"{word.file}:{word.line}")
+
+    def _is_statement(self, item: Item) -> bool:
+        """Whether an assertion is all of a branch of a `generate`."""
+        return self._words[item.first - 1].text in (")", "else", ":")
+
     def _item(self, module: Module, item: Item, defaults: Defaults) -> None:
         known = Known(module)
         spec = spec_of(known, item.body, item.body[0])
         made = Immediate(item, spec, known, defaults, self._names)
-        before = self._words[item.first - 1].text
-        place = Place(self._lines(item), before in (")", "else", ":"))
+        place = Place(self._lines(item), self._is_statement(item))
         self._edits.append(Edit(item.first, item.last, made.text(place, self._is_one_clock)))
         self._has_resets |= made.is_reset
 
@@ -139,5 +155,6 @@ def _is_plain(module: Module, item: Item) -> bool:
     words = item.body
     if is_clocked or not words or words[0].text in ("@", "disable"):
         return False
-    is_temporal = has_any(words, INFIX | PREFIX | HISTORY)
+    rest = words[1:] if words[0].text in EVENTUALLY else words
+    is_temporal = has_any(rest, INFIX | PREFIX | HISTORY)
     return not is_temporal and not any(it.text in module.named for it in words)

@@ -59,6 +59,10 @@ class Rejected(Exception):
         super().__init__((f"{word.file}:{word.line}: `{word.text}`: " if word else "") + why)
 
 
+class Live(Rejected):
+    """An assertion that asks for liveness: nothing is wrong with it, and nobody here decides it."""
+
+
 OPEN = frozenset({"(", "[", "{", "[*", "[=", "[->"})
 CLOSE = frozenset({")", "]", "}"})
 # Words between parts of sequences and properties.
@@ -66,8 +70,10 @@ INFIX = frozenset({
     "##", "|->", "|=>", "#-#", "#=#", "throughout", "within", "intersect", "and", "or", "iff", "implies", "until",
     "until_with", "s_until", "s_until_with", "[*", "[=", "[->", "[+]",
 })
+# Those that Yosys reads by itself, before an expression.
+EVENTUALLY = frozenset({"s_eventually", "eventually"})
 # Words that ask for liveness.
-LIVE = frozenset({"s_always", "s_until", "s_until_with", "s_nexttime", "s_eventually", "eventually"})
+LIVE = frozenset({"s_always", "s_until", "s_until_with", "s_nexttime"}) | EVENTUALLY
 # Words of properties that have no translation.
 OTHER = frozenset({"case", "accept_on", "reject_on", "sync_accept_on", "sync_reject_on"})
 # Words that begin a sequence or a property.
