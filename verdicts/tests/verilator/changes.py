@@ -5,14 +5,14 @@ from __future__ import annotations
 import random
 from unittest import mock
 
-from aig_verdicts.verilator import (choices, design, expressions, first_values, instances, operators, parts, probe, processes,
-                                    reader, registers, routines, sampled, statements, writes)
+from aig_verdicts.verilator import design, first_values, instances, probe, reader, registers
+from aig_verdicts.verilator.meaning import choices, expressions, operators, parts, processes, routines, sampled, statements, writes
 from aig_verdicts.verilator.command import deep
-from aig_verdicts.verilator.dump import dumped, preprocessed, tree_of, version_of
-from aig_verdicts.verilator.meaning import Meaning
-from aig_verdicts.verilator.source import Source
-from aig_verdicts.verilator.tree import Shape, Tree
-from aig_verdicts.verilator.words import Words
+from aig_verdicts.verilator.dumps.dump import dumped, preprocessed, tree_of, version_of
+from aig_verdicts.verilator.meaning.values import Meaning
+from aig_verdicts.verilator.dumps.source import Source
+from aig_verdicts.verilator.dumps.tree import Shape, Tree
+from aig_verdicts.verilator.meaning.words import Words
 
 from .shared import need
 

@@ -7,7 +7,7 @@ import re
 import subprocess
 from pathlib import Path
 
-from aig_verdicts.verilator.tree import NotRead
+from aig_verdicts.verilator.dumps.tree import NotRead
 
 from .shared import HERE, aiger_of, need, outputs_of
 

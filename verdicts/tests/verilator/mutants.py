@@ -8,7 +8,7 @@ import random
 import re
 
 from aig_verdicts.verilator import btor2
-from aig_verdicts.verilator.tree import NotRead
+from aig_verdicts.verilator.dumps.tree import NotRead
 
 from .changes import Probed
 from .shared import need

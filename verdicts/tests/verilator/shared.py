@@ -8,7 +8,7 @@ from pathlib import Path
 
 from aig_verdicts.verilator import blast, btor2, reader
 from aig_verdicts.verilator.command import deep
-from aig_verdicts.verilator.tree import NotRead
+from aig_verdicts.verilator.dumps.tree import NotRead
 from library.runs import LeftOut
 
 HERE = Path(__file__).resolve().parent

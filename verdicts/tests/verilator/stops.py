@@ -5,8 +5,9 @@ from __future__ import annotations
 import re
 from pathlib import Path
 
-from aig_verdicts.verilator import blast, labels, schema
-from aig_verdicts.verilator.tree import NotRead
+from aig_verdicts.verilator import blast, labels
+from aig_verdicts.verilator.dumps import schema
+from aig_verdicts.verilator.dumps.tree import NotRead
 
 from .shared import aiger_of, names_of, need, said_of
 

@@ -6,7 +6,7 @@ from __future__ import annotations
 import tempfile
 from pathlib import Path
 
-from aig_verdicts.verilator.tree import NotRead
+from aig_verdicts.verilator.dumps.tree import NotRead
 from random_programs.judge import FILE, Outcome, said_by_icarus, with_assertions
 from random_programs.program import TOP, program as random_program
 

@@ -6,7 +6,7 @@ from typing import Callable, Dict, List, NoReturn, Tuple
 
 from .gates import Bits, Gates
 from .labels import bits_of
-from .tree import NotRead
+from .dumps.tree import NotRead
 
 _COMPARISONS = ("eq", "ult", "slt")
 # How many operands an operator has, apart from those of two.

@@ -6,12 +6,12 @@ from __future__ import annotations
 from typing import Dict, List, NamedTuple, Optional, Set, Tuple
 
 from .design import Design
-from .drivers import old_bits
+from .meaning.drivers import old_bits
 from .labels import bits_of
-from .names import Signal
-from .processes import Property
+from .meaning.names import Signal
+from .meaning.processes import Property
 from .registers import Register, registers, split
-from .tree import NotRead
+from .dumps.tree import NotRead
 
 _WHOLE = ("const", "input", "state")
 

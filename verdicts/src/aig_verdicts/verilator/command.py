@@ -12,8 +12,8 @@ from typing import Callable, List, Optional, TypeVar
 from .blast import blasted
 from .btor2 import written
 from .reader import circuit
-from .source import without_pieces
-from .tree import NotRead
+from .dumps.source import without_pieces
+from .dumps.tree import NotRead
 
 _DESCRIPTION = """\
 Make a circuit of Verilog or SystemVerilog, in AIGER, on standard output. Verilator reads the sources; Yosys is not needed.
@@ -43,7 +43,7 @@ def deep(call: Callable[[], T]) -> T:
     before, deepest = threading.stack_size(_STACK), sys.getrecursionlimit()
     sys.setrecursionlimit(_DEEPEST)
     try:
-        thread = threading.Thread(target=run)
+        thread = threading.Thread(target=run, daemon=True)
         thread.start()
         thread.join()
     finally:

@@ -5,19 +5,19 @@ from __future__ import annotations
 from typing import Dict, List, NamedTuple, Tuple
 
 from . import first_values, instances
-from .drivers import driven
-from .expressions import TABLE as EXPRESSIONS
+from .meaning.drivers import driven
+from .meaning.expressions import TABLE as EXPRESSIONS
 from .labels import Labels
-from .meaning import Meaning
-from .names import Run, Scope, Signal, Value, plain
-from .parts import ARRAYS
-from .processes import ASSERTIONS, Processes, Property
-from .routines import call
-from .source import Source
-from .statements import TABLE as STATEMENTS
-from .tree import Node, Tree
-from .words import Words
-from .writes import size, target
+from .meaning.values import Meaning
+from .meaning.names import Run, Scope, Signal, Value, plain
+from .meaning.parts import ARRAYS
+from .meaning.processes import ASSERTIONS, Processes, Property
+from .meaning.routines import call
+from .dumps.source import Source
+from .meaning.statements import TABLE as STATEMENTS
+from .dumps.tree import Node, Tree
+from .meaning.words import Words
+from .meaning.writes import size, target
 
 # What is no part of a circuit, or is read at another place.
 _NOTHING = ("var", "func", "task", "typedef", "range", "text", "comment", "modport", "pragma", "genvar", "timeunit",

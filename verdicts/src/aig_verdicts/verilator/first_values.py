@@ -6,10 +6,10 @@ import os
 import re
 from typing import TYPE_CHECKING, Dict, List
 
-from .meaning import Meaning
-from .names import Run, Signal, Value
-from .source import Source
-from .tree import Node
+from .meaning.values import Meaning
+from .meaning.names import Run, Signal, Value
+from .dumps.source import Source
+from .dumps.tree import Node
 
 if TYPE_CHECKING:
     from .design import Design

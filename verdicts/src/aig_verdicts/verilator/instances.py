@@ -5,10 +5,10 @@ from __future__ import annotations
 
 from typing import TYPE_CHECKING, List, NamedTuple
 
-from .names import Run, Scope, Signal, Value, plain
-from .parts import made_by_verilator
-from .tree import Node, number
-from .writes import size
+from .meaning.names import Run, Scope, Signal, Value, plain
+from .meaning.parts import made_by_verilator
+from .dumps.tree import Node, number
+from .meaning.writes import size
 
 if TYPE_CHECKING:
     from .design import Design

@@ -8,8 +8,8 @@ from __future__ import annotations
 import re
 from typing import Dict, List, NamedTuple, Optional, Sequence, Tuple
 
-from .names import Signal
-from .tree import Node, Tree
+from .meaning.names import Signal
+from .dumps.tree import Node, Tree
 
 _RANGE = re.compile(r"(.*)\[(-?\d+):(-?\d+)\]")
 # Words that are no signals of the source: values that nothing gives, what a latch holds, what a register has while

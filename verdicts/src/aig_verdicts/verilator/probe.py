@@ -13,7 +13,7 @@ from typing import Callable, Dict, List, NamedTuple, Optional
 
 from .circuit import Circuit
 from .labels import bits_of
-from .tree import NotRead
+from .dumps.tree import NotRead
 
 HERE = Path(__file__).resolve().parent
 FILE, TOP = HERE / "probe.sv", "probe"
@@ -95,7 +95,7 @@ def _fingerprint(verilator: str) -> str:
     """Of Verilator's program and of the reader: their files, with sizes and times."""
     found = Path(shutil.which(verilator) or verilator).resolve()
     binary = found.parent / "verilator_bin"
-    files = [found, *([binary] if binary.exists() else []), *sorted(HERE.glob("*.py")), FILE]
+    files = [found, *([binary] if binary.exists() else []), *sorted(HERE.rglob("*.py")), FILE]
     made = hashlib.sha256()
     for it in files:
         about = it.stat()

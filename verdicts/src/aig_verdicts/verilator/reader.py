@@ -8,10 +8,10 @@ from typing import List, NamedTuple, Optional, Sequence
 from . import probe
 from .circuit import Circuit
 from .design import Design
-from .dump import dumped, preprocessed, program, tree_of, version_of
-from .schema import TRIED
-from .source import Source, real
-from .tree import NotRead, Tree
+from .dumps.dump import dumped, preprocessed, program, tree_of, version_of
+from .dumps.schema import TRIED
+from .dumps.source import Source, real
+from .dumps.tree import NotRead, Tree
 
 _UNEXPECTED = re.compile(r"%Error: (\S+?):(\d+):(\d+): (?:syntax error, unexpected|Unexpected) (\S+)")
 # Words of SystemVerilog that Verilog has as names. Where one is a syntax error in a file of Verilog, it is escaped.

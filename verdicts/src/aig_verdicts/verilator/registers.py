@@ -9,9 +9,9 @@ from dataclasses import dataclass
 from typing import Dict, List, NamedTuple, Optional, Tuple
 
 from .design import Clocked, Design
-from .drivers import driven
-from .names import Signal
-from .tree import NotRead
+from .meaning.drivers import driven
+from .meaning.names import Signal
+from .dumps.tree import NotRead
 
 
 class Forced(NamedTuple):

@@ -6,7 +6,7 @@ from __future__ import annotations
 from typing import Callable, Dict, List, Mapping, Optional, Set, Tuple
 
 from .names import Named, Run, Signal, Value
-from .tree import Node, Place, Shape, Tree
+from ..dumps.tree import Node, Place, Shape, Tree
 from .words import Words
 
 Expression = Callable[["Meaning", Node, Run], int]

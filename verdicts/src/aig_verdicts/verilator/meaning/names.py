@@ -5,7 +5,7 @@ from __future__ import annotations
 import re
 from typing import Callable, Dict, List, Optional, Tuple, Union
 
-from .tree import Node, NotRead, Shape
+from ..dumps.tree import Node, NotRead, Shape
 from .words import Words
 
 Value = Tuple[int, ...]  # the words of the elements of a signal

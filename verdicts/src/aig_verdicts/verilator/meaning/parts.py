@@ -4,10 +4,10 @@ from __future__ import annotations
 
 from typing import List, Optional
 
-from .meaning import Meaning
+from .values import Meaning
 from .names import Run, Signal, Value
 from .operators import BINARY
-from .tree import Node, number
+from ..dumps.tree import Node, number
 
 # Verilator gives these a signed type where they are an index.
 _NO_SIGN = ("sel", "concat", "replicate", "extend", "eq", "neq", "lt", "gt", "lte", "gte", "redor", "redand", "redxor")

@@ -5,11 +5,11 @@ from __future__ import annotations
 
 from typing import List, NamedTuple, Optional
 
-from .meaning import Meaning
+from .values import Meaning
 from .names import Run, Signal, Value
 from .operators import BINARY
 from .parts import index, signed_value
-from .tree import Node, number
+from ..dumps.tree import Node, number
 
 
 class Target(NamedTuple):

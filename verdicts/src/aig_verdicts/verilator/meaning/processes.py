@@ -7,10 +7,10 @@ from __future__ import annotations
 
 from typing import Callable, Dict, List, Mapping, NamedTuple, Optional, Tuple
 
-from .meaning import Meaning
+from .values import Meaning
 from .names import Run, Scope, plain
-from .source import Source
-from .tree import Node
+from ..dumps.source import Source
+from ..dumps.tree import Node
 
 Statement = Callable[["Processes", Node, Run], None]
 ASSERTIONS = ("assert", "cover", "assume", "restrict")

@@ -7,7 +7,7 @@ from __future__ import annotations
 
 from typing import Callable, Dict, Hashable, List, Optional, Set, Tuple
 
-from .tree import NotRead
+from ..dumps.tree import NotRead
 
 _COMPUTED: Dict[str, Callable[[int, int, int], int]] = {
     "and": lambda a, b, w: a & b, "or": lambda a, b, w: a | b, "xor": lambda a, b, w: a ^ b,

@@ -7,7 +7,7 @@ from typing import Dict, List, NamedTuple, Set
 from .expressions import matches
 from .names import Run
 from .processes import Processes, Statement
-from .tree import Node, number
+from ..dumps.tree import Node, number
 
 _WILD = {"case": "", "casez": "z", "casex": "xz"}
 # Up to this width, a `case` is looked at for whether it has each value.

@@ -7,7 +7,7 @@ from typing import Dict, List
 
 from .names import Run
 from .processes import Processes, Statement
-from .tree import Node, NotRead
+from ..dumps.tree import Node, NotRead
 
 MOST_TURNS = 1 << 14
 

@@ -8,7 +8,7 @@ from typing import Dict, List
 from .names import Run, Scope, Signal, Value, plain
 from .parts import made_by_verilator
 from .processes import Processes, Statement
-from .tree import Node
+from ..dumps.tree import Node
 from .writes import size, write
 
 _MOST_CALLS = 60

@@ -5,10 +5,10 @@ from __future__ import annotations
 
 from typing import Dict
 
-from .meaning import Expression, Meaning
+from .values import Expression, Meaning
 from .names import Run, Signal
 from .operators import BINARY
-from .tree import Node, Shape
+from ..dumps.tree import Node, Shape
 
 _NOW, _NEXT = "|->", "|=>"
 

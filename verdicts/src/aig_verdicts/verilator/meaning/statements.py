@@ -8,7 +8,7 @@ from typing import Dict
 from . import choices, loops, routines
 from .names import Run
 from .processes import ASSERTIONS, Processes, Property, Statement, nothing, table_of
-from .tree import Node
+from ..dumps.tree import Node
 from .writes import write
 
 # Statements that are no part of a circuit. Declarations are read before the statements run.

@@ -6,11 +6,11 @@ from __future__ import annotations
 from typing import Dict
 
 from . import sampled
-from .meaning import Expression, Meaning
+from .values import Expression, Meaning
 from .names import Run
 from .operators import BINARY, DIVISIONS, EQUALS, UNARY
 from .parts import part
-from .tree import Node, number
+from ..dumps.tree import Node, number
 
 # The largest constant exponent.
 _LARGEST_POWER = 1 << 8
