@@ -1,6 +1,6 @@
 #!/usr/bin/env python3
-"""Tests of the second reader of Verilog, aig_verdicts.verilator. The parts that need Verilator or Icarus Verilog are left out
-where they are missing. --all, --count, --mutants and --seed try more than the gate does."""
+"""Tests of the reader of Verilog without Yosys, aig_verdicts.verilator. Parts that need Verilator or Icarus Verilog are left
+out where they are missing. --all, --count, --mutants and --seed try more than the gate does."""
 
 import os
 import re
@@ -31,14 +31,14 @@ def command(program, tally, _):
     """The command line: its help, a circuit with words, and a source that is not read."""
     def ran(*words):
         settings = {**os.environ, "PYTHONPATH": PYTHONPATH}
-        return subprocess.run([sys.executable, "-m", "aig_verdicts.verilator", *words], capture_output=True, text=True, check=False,
-                              env=settings, timeout=600)
+        return subprocess.run([sys.executable, "-m", "aig_verdicts.verilator", *words], capture_output=True, text=True,
+                              check=False, env=settings, timeout=600)
 
     tally.check("help", "run` does not ask it yet" in ran("--help").stdout)
     need("verilator")
     with open("t.sv", "w", encoding="utf-8") as file:
-        file.write("module s(input clk, d, output reg q);\nalways @(posedge clk) q <= d ^ `V;\nalways @* a: assert (q);\nendmodule\n"
-                   "module t(input clk);\nendmodule\n")
+        file.write("module s(input clk, d, output reg q);\nalways @(posedge clk) q <= d ^ `V;\nalways @* a: assert (q);\n"
+                   "endmodule\nmodule t(input clk);\nendmodule\n")
     made = ran("--top", "s", "-D", "V=1'b1", "--outputs", "--btor2", "t.btor", "t.sv")
     tally.compare("its end", (made.returncode, made.stderr), (0, ""))
     tally.check("a circuit", re.match(r"aag \d+ \d+ 1 1 \d+ 1 0\n", made.stdout), made.stdout[:99])
@@ -53,11 +53,12 @@ def options(parser):
     parser.add_argument("--all", action="store_true", help="all changes of meaning")
     parser.add_argument("--count", type=int, default=truth.COUNT, metavar="N", help="so many random programs")
     parser.add_argument("--mutants", type=int, default=mutants.COUNT, metavar="N", help="so many changed dumps")
-    parser.add_argument("--seed", type=int, default=truth.FIRST, metavar="N", help="the first random program, and which changes")
+    parser.add_argument("--seed", type=int, default=truth.FIRST, metavar="N",
+                        help="the first random program, and which changes")
 
 
-PARTS = {"probe": probed, "command": command, "gates": stops.gates, "stops": stops.stops, "names": stops.named, "truth": truth.designs,
-         "everyday": constructs.everyday, "random": truth.randoms, "meaning": changes.meaning, "dumps": mutants.dumps,
+PARTS = {"probe": probed, "command": command, "gates": stops.gates, "stops": stops.stops, "names": stops.named,
+         "truth": truth.designs, "everyday": constructs.everyday, "random": truth.randoms, "meaning": changes.meaning, "dumps": mutants.dumps,
          "recorded": constructs.recorded}
 
 if __name__ == "__main__":

@@ -6,19 +6,20 @@ import random
 from unittest import mock
 
 from aig_verdicts.verilator import design, first_values, instances, probe, reader, registers
-from aig_verdicts.verilator.meaning import choices, expressions, operators, parts, processes, routines, sampled, statements, writes
 from aig_verdicts.verilator.command import deep
 from aig_verdicts.verilator.dumps.dump import dumped, preprocessed, tree_of, version_of
-from aig_verdicts.verilator.meaning.values import Meaning
 from aig_verdicts.verilator.dumps.source import Source
 from aig_verdicts.verilator.dumps.tree import Shape, Tree
+from aig_verdicts.verilator.meaning import choices, expressions, operators, parts, processes, routines, sampled
+from aig_verdicts.verilator.meaning import statements, writes
+from aig_verdicts.verilator.meaning.values import Meaning
 from aig_verdicts.verilator.meaning.words import Words
 
 from .shared import need
 
 # An operator that is read as another one.
-OTHERS = """add:sub sub:add mul:add muls:mul and:or or:and xor:or eq:neq neq:eq lt:lte gt:gte gte:gt lte:lt lts:lt gts:gt gtes:gte
-    ltes:lte shiftl:shiftr shiftr:shiftrs shiftrs:shiftr logand:logor logor:logand logif:logand logeq:logand not:signed
+OTHERS = """add:sub sub:add mul:add muls:mul and:or or:and xor:or eq:neq neq:eq lt:lte gt:gte gte:gt lte:lt lts:lt 
+    gts:gt gtes:gte ltes:lte shiftl:shiftr shiftr:shiftrs shiftrs:shiftr logand:logor logor:logand logif:logand logeq:logand not:signed
     negate:signed lognot:redor redand:redor redor:redand redxor:redor onehot:onehot0 onehot0:onehot countones:clog2
     extend:extends extends:extend eqcase:neqcase neqcase:eqcase eqwild:neqwild neqwild:eqwild streaml:signed""".split()
 STRICT = {"lts": "ltes", "gts": "gtes", "gtes": "gts", "ltes": "lts"}
@@ -127,4 +128,7 @@ def _is_noticed(probed):
 
 def _outputs():
     whole = routines.give_back
-    return mock.patch.object(routines, "give_back", lambda p, actual, value, signed, run: whole(p, actual, value, not signed, run))
+
+    def other(p, actual, value, signed, run):
+        whole(p, actual, value, not signed, run)
+    return mock.patch.object(routines, "give_back", other)

@@ -52,8 +52,10 @@ class Mutants:
         """A node at another operand."""
         at = self._one()
         digit = self._random.randint(1, 3)
-        return self._lines[at], self._with(at, re.sub(r"^(    [\d:]*?)(\d)(:? [A-Z])",
-                                                      lambda it: f"{it[1]}{(int(it[2]) + digit - 1) % 4 + 1}{it[3]}", self._lines[at]))
+
+        def moved(it):
+            return f"{it[1]}{(int(it[2]) + digit - 1) % 4 + 1}{it[3]}"
+        return self._lines[at], self._with(at, re.sub(r"^(    [\d:]*?)(\d)(:? [A-Z])", moved, self._lines[at]))
 
     def no_range(self):
         """A type without its range."""

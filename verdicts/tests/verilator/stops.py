@@ -47,12 +47,12 @@ module t(input clk, input [7:4] d);
   always @(posedge clk) begin held: assert (cfg.tag != 3); assert (m[1] != w); cover (m[2] == 3 && k); end
 endmodule
 """
-LATCHES = {"cfg.ok", "cfg.tag[0]", "cfg.tag[1]", "m[1][0]", "m[1][1]", "m[2][0]", "m[2][1]", "m[2][2]", "m[2][3]", "r", "kept:k",
-           "u0.q[4]", "u0.q[5]", "u0.q[6]", "u0.q[7]"}
+LATCHES = {"cfg.ok", "cfg.tag[0]", "cfg.tag[1]", *(f"m[{j}][{k}]" for j in (1, 2) for k in range(4)), "r",
+           "kept:k", "u0.q[4]", "u0.q[5]", "u0.q[6]", "u0.q[7]"}
 # Lines of BTOR2 that are not read.
-LINES = ("1 sort array 2 3", "9 nand 1 2 2", "9 add 1 2 3", "9 init 1 2 5", "9 init 1 6 2", "9 init 4 6 8", "9 fair 2", "9 bad 3", "9 and 1 2",
-         "9 slice 1 3 3 0", "9 sort", "9 constd 1 1", "9 justice 1 2")
-READ = "1 sort bitvec 1\n2 input 1 a\n4 sort bitvec 2\n3 input 4 b\n5 one 1\n6 state 1 s\n8 const 4 11\n7 next 1 6 2\n".replace("5 one 1\n", "")
+LINES = ("1 sort array 2 3", "9 nand 1 2 2", "9 add 1 2 3", "9 init 1 2 5", "9 init 1 6 2", "9 init 4 6 8", "9 fair 2",
+         "9 bad 3", "9 and 1 2", "9 slice 1 3 3 0", "9 sort", "9 constd 1 1", "9 justice 1 2")
+READ = "1 sort bitvec 1\n2 input 1 a\n4 sort bitvec 2\n3 input 4 b\n6 state 1 s\n8 const 4 11\n7 next 1 6 2\n"
 
 
 def stops(_, tally, __):
@@ -90,8 +90,10 @@ def gates(_, tally, __):
         except NotRead as why:
             tally.check(f"{line}: rejected", str(why).startswith("BTOR2: "), why)
     tally.check("a state without a next value", _is_refused("1 sort bitvec 1\n2 state 1 s\n"))
-    tally.check("no node without operands is known by default", schema.fault("NEW", {}, True) and schema.fault("ADD", {"lhsp": 1}, True)
-                and schema.fault("ADD", {"lhsp": 1, "rhsp": 1}, False) and not schema.fault("ADD", {"lhsp": 1, "rhsp": 1}, True))
+    both = {"lhsp": 1, "rhsp": 1}
+    for kind, counts, typed, is_right in (("ADD", both, True, True), ("NEW", {}, True, False), ("ADD", {"lhsp": 1}, True, False),
+                                          ("ADD", both, False, False), ("ADD", {**both, "more": 1}, True, False)):
+        tally.compare(f"{kind} of {counts}, {typed}", not schema.fault(kind, counts, typed), is_right)
 
 
 def _is_refused(text):
