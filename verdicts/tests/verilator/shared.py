@@ -4,6 +4,7 @@ from __future__ import annotations
 
 import os
 import shutil
+import tempfile
 from pathlib import Path
 
 from aig_verdicts.verilator import blast, btor2, reader
@@ -12,6 +13,8 @@ from aig_verdicts.verilator.dumps.tree import NotRead
 from library.runs import LeftOut
 
 HERE = Path(__file__).resolve().parent
+# Which Verilators passed the probe: all parts of a run share it.
+CACHE = tempfile.TemporaryDirectory()
 
 
 def need(*names):
@@ -19,7 +22,7 @@ def need(*names):
     missing = [it for it in names if not shutil.which(it)]
     if missing:
         raise LeftOut(f"there is no {', '.join(missing)}")
-    os.environ.setdefault("XDG_CACHE_HOME", os.path.abspath("cache"))
+    os.environ["XDG_CACHE_HOME"] = CACHE.name
 
 
 def words_of(file, top="", outputs=False):
