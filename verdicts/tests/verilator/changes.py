@@ -21,7 +21,7 @@ from .shared import need
 OTHERS = """add:sub sub:add mul:add muls:mul and:or or:and xor:or eq:neq neq:eq lt:lte gt:gte gte:gt lte:lt lts:lt 
     gts:gt gtes:gte ltes:lte shiftl:shiftr shiftr:shiftrs shiftrs:shiftr logand:logor logor:logand logif:logand logeq:logand not:signed
     negate:signed lognot:redor redand:redor redor:redand redxor:redor onehot:onehot0 onehot0:onehot countones:clog2
-    extend:extends extends:extend eqcase:neqcase neqcase:eqcase eqwild:neqwild neqwild:eqwild streaml:signed""".split()
+    extend:extends extends:extend streaml:signed""".split()
 STRICT = {"lts": "ltes", "gts": "gtes", "gtes": "gts", "ltes": "lts"}
 DIVISIONS = {"div": "sdiv", "divs": "udiv", "moddiv": "srem", "moddivs": "urem"}
 # Changes that are none: Verilator 5.006 writes no such node, or two names are one operator.
@@ -59,6 +59,7 @@ def changes():
     table, statement = expressions.TABLE, statements.TABLE
     made = {it: mock.patch.dict(table, {it.split(":")[0]: table[it.split(":")[1]]}) for it in OTHERS}
     made.update({f"{k}:strict": mock.patch.dict(table, {k: table[it]}) for k, it in STRICT.items() if k != "lts"})
+    made.update({f"{k}:inverted": mock.patch.dict(operators.EQUALS, {k: not it}) for k, it in operators.EQUALS.items()})
     made.update({f"{k}:sign": mock.patch.dict(operators.DIVISIONS, {k: it}) for k, it in DIVISIONS.items()})
     made.update({
         "concat:turned": mock.patch.dict(table, {"concat": _turned}),
