@@ -18,10 +18,10 @@ from aig_verdicts.verilator.meaning.words import Words
 from .shared import need
 
 # An operator that is read as another one.
-OTHERS = """add:sub sub:add mul:add muls:mul and:or or:and xor:or eq:neq neq:eq lt:lte gt:gte gte:gt lte:lt lts:lt 
-    gts:gt gtes:gte ltes:lte shiftl:shiftr shiftr:shiftrs shiftrs:shiftr logand:logor logor:logand logif:logand logeq:logand not:signed
-    negate:signed lognot:redor redand:redor redor:redand redxor:redor onehot:onehot0 onehot0:onehot countones:clog2
-    extend:extends extends:extend streaml:signed""".split()
+OTHERS = """add:sub sub:add mul:add muls:mul and:or or:and xor:or eq:neq neq:eq lt:lte gt:gte gte:gt lte:lt lts:lt
+    gts:gt gtes:gte ltes:lte shiftl:shiftr shiftr:shiftrs shiftrs:shiftr logand:logor logor:logand logif:logand
+    logeq:logand not:signed negate:signed lognot:redor redand:redor redor:redand redxor:redor onehot:onehot0
+    onehot0:onehot countones:clog2 extend:extends extends:extend streaml:signed""".split()
 STRICT = {"lts": "ltes", "gts": "gtes", "gtes": "gts", "ltes": "lts"}
 DIVISIONS = {"div": "sdiv", "divs": "udiv", "moddiv": "srem", "moddivs": "urem"}
 # Changes that are none: Verilator 5.006 writes no such node, or two names are one operator.

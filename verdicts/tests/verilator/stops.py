@@ -73,6 +73,9 @@ def named(_, tally, __):
     made = aiger_of("t.sv", "t")
     tally.compare("inputs", {it for it in names_of(made, "i") if it[:5] != "open:"}, {"clk", "d[4]", "d[5]", "d[6]", "d[7]"})
     tally.compare("registers", set(names_of(made, "l")), LATCHES)
+    for name, indices in (("u0.q", (7, 6, 5, 4)), ("d", (4, 5, 6, 7))):  # the least significant one first
+        found = [it for it in names_of(made, "l") + names_of(made, "i") if it.startswith(name + "[")]
+        tally.compare(f"the order of {name}", found, [f"{name}[{k}]" for k in indices])
     tally.compare("properties", names_of(made, "b"), ["held", "t.sv:9", "t.sv:9"])
     for label, width, wanted in (("q", 1, ["q"]), ("q", 2, ["q[0]", "q[1]"]), ("up[0:2]", 3, ["up[2]", "up[1]", "up[0]"]),
                                  ("c.a[3:2],c.b", 3, ["c.b", "c.a[2]", "c.a[3]"]), ("kept:v[5:4]", 2, ["kept:v[4]", "kept:v[5]"]),
