@@ -1,5 +1,5 @@
-"""A circuit as BTOR2: words without arrays (Niemetz, Preiner, Wolf and Biere, CAV 2018). Names are at the ends of lines, in
-the form of labels.py; comments have the kinds and places of properties."""
+"""A circuit as BTOR2: words without arrays. Names are at the ends of lines, in the form of labels.py; comments have the
+kinds and places of properties."""
 
 from __future__ import annotations
 
