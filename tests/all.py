@@ -32,8 +32,8 @@ SCRIPTS = ("verdicts/tests/run_bundles.py", "verdicts/tests/run_options.py", "te
            "python/tests/run_package.py", "verdicts/tests/run_cores.py", "verdicts/tests/run_pages.py",
            "tests/run_bounds.py", "tests/run_hints.py", "verdicts/tests/random_verilog.py", "tests/run_library.py",
            "verdicts/tests/run_circuit.py", "tests/run_gate.py", "verdicts/tests/run_sva.py", "tests/tour.py",
-           "verdicts/tests/run_netlists.py", "verdicts/tests/run_reading.py", "verdicts/tests/run_proving.py",
-           "verdicts/tests/run_forger.py")
+           "verdicts/tests/run_verilator.py", "verdicts/tests/run_netlists.py", "verdicts/tests/run_reading.py",
+           "verdicts/tests/run_proving.py", "verdicts/tests/run_forger.py")
 # designs with known truth, which take longest
 DESIGNS = "verdicts/tests/run_designs.py"
 # this tries some of the planted bugs of the package

@@ -38,7 +38,7 @@ FACTS = f"aig_verdicts-{VERSION}.dist-info"
 def files_of():
     """The files of the wheel, but for its list of files: their bytes by name."""
     source = HERE / "src"
-    paths = sorted(it for it in source.rglob("*") if it.suffix in (".py", ".v") or it.name == "py.typed")
+    paths = sorted(it for it in source.rglob("*") if it.suffix in (".py", ".v", ".sv") or it.name == "py.typed")
     files = {path.relative_to(source).as_posix(): path.read_bytes() for path in paths}
     readme = (HERE / "README.md").read_text(encoding="utf-8")
     files[f"{FACTS}/entry_points.txt"] = ENTRY_POINTS.encode()
