@@ -50,7 +50,7 @@ build/lib/libaig.a: $(SOURCES) $(LIBRARY_SOURCES)
 	@tools/unproved_library.py build/lib
 
 test: build/aig build/aig_tests build/lib/libaig.a
-	@echo "Running all tests on build/aig: about a quarter of an hour on two processors."
+	@echo "Running all tests on build/aig: about half an hour on two processors."
 	@tests/all.py build/aig
 
 prove:
